@@ -1,0 +1,124 @@
+-- Laws of allperm.
+--
+--   allperm-decides    ==  the test decides it
+--   allperm-directed   ==  it survives when row 0 falls and the other rows rise
+--   allperm-one-row    ==  a grid of one row has it
+--   Sorts n g i q      ==  the permutation q sorts row i by rank
+--   allperm-sorted     ==  a grid has it exactly if row 0 is at most every other row sorted
+--   allperm-next       ==  the same, one row more
+--   least-allperm      ==  the least grid of a class has it
+use mathlib.Core.Path.{_≡_, refl, _∙_}
+use mathlib.Core.List.{List, List·Memᴰ}
+use mathlib.Core.Bool.{true}
+use mathlib.Core.Logic.{_↔_}
+use Prim.Native.Nat.{ℕ, suc, _+_, _-_, _*_, _≤_, _<_}
+use native.Mathlib.Nat.{zero-mul}
+use native.Mathlib.Decide.{ℕ-discrete}
+use native.Mathlib.Omega.{arith}
+use lib.ListN.{length, getD}
+use lib.Arith.{digits-lt}
+use lib.Dec.{ltb}
+use borrow.Author.Tests.{lt-ltb, le-ltb}
+use Rattle.permutations.specs.Lists.{tabulate}
+use Rattle.permutations.specs.Permutations.{IsPermutation, permutations}
+use Rattle.permutations.proofs.ListLaws.{in-tabulate, of-tabulate, tabulate-ext, tabulate-getD, every-at, at-every}
+use Rattle.permutations.proofs.PermutationTest.{permutation-listed, listed-permutation}
+use Rattle.permutations.proofs.Transpositions.{exchange-first, transposition, transposition-permutation, at-transposition}
+use Rattle.grids.specs.Order.{rank, _≼_}
+use Rattle.grids.specs.Grids.{cell, row, permutedRow, arrangement, OneClass}
+use Rattle.grids.specs.Least.{IsLeast}
+use Rattle.grids.proofs.OrderLaws.{leq-yes, ≼-leq, ≼-trans, ≼-pointwise, ≼-prefix}
+use Rattle.grids.proofs.GridLaws.{row-zero, rows-size, beneath, length-arrangement, cell-arrangement, class-trans, class-length}
+use Rattle.grids.proofs.SortedColumns.{sorted-suffices}
+use Rattle.bounds.specs.Allperm.{Allperm, allperm}
+use Rattle.bounds.proofs.Extremal.{Directed}
+
+pub allperm-decides : (m n : ℕ) (g : List ℕ) → (allperm m n g ≡ true) ↔ Allperm m n g
+unfolding allperm Allperm
+allperm-decides m n g = (to, back)
+  where
+    others : List ℕ
+    others = tabulate 1 (m - 1) (λ i. i)
+
+    to : allperm m n g ≡ true → Allperm m n g
+    to e i i0 im q o =
+        let p : 1 + (i - 1) ≡ i = omega arith in
+        let k : List·Memᴰ i others = rw p at (in-tabulate 1 (m - 1) (λ i. i) (i - 1) (omega arith)) in
+        leq-yes (row n g 0) (permutedRow n g i q) (every-at _ (permutations n) (every-at _ others e i k) q (permutation-listed n q o))
+
+    back : Allperm m n g → allperm m n g ≡ true
+    back h =
+        at-every _ others λ i k. at-every _ (permutations n) λ q l.
+        let r = of-tabulate 1 (m - 1) (λ i. i) i k in
+        ≼-leq (row n g 0) (permutedRow n g i q) (h i (omega (arith, r .2)) (omega (arith, r .1, r .2)) q (listed-permutation n q l))
+
+pub allperm-directed : (m n : ℕ) → Directed (λ k. ltb k n) (m * n) (Allperm m n)
+unfolding Allperm row permutedRow
+allperm-directed m n g e lg le t h i i0 im q o =
+    ≼-trans (row n e 0) (row n g 0) (permutedRow n e i q) (≼-pointwise n _ _ λ j b. first (0 * n + j) (omega (arith, zero-mul n)))
+    (≼-trans (row n g 0) (permutedRow n g i q) (permutedRow n e i q) (h i i0 im q o)
+    (≼-pointwise n _ _ λ j b. other (i * n + getD q j 0) (beneath n i (getD q j 0) i0) (digits-lt im (o .within j b))))
+  where
+    first : (k : ℕ) → k < n → rank (getD e k 0) ≤ rank (getD g k 0)
+    first k b = rw (lt-ltb k n b) at (t k (omega (arith, rows-size m n (omega arith))))
+
+    other : (k : ℕ) → n ≤ k → k < m * n → rank (getD g k 0) ≤ rank (getD e k 0)
+    other k b c = rw (le-ltb k n b) at (t k c)
+
+pub allperm-one-row : (n : ℕ) (g : List ℕ) → Allperm 1 n g
+unfolding Allperm
+allperm-one-row n g i i0 i1 q o = absurd (omega arith)
+
+-- ---- by sorted rows
+
+pub record Sorts (n : ℕ) (g : List ℕ) (i : ℕ) (q : List ℕ) : Type 0 where
+  pub permutation : IsPermutation n q
+  pub ascend : (a b : ℕ) → a ≤ b → b < n → rank (cell n g i (getD q a 0)) ≤ rank (cell n g i (getD q b 0))
+
+pub allperm-sorted : (m n : ℕ) (g : List ℕ) (q : ℕ → List ℕ) → ((i : ℕ) → 0 < i → i < m → Sorts n g i (q i)) →
+    Allperm m n g ↔ ((i : ℕ) → 0 < i → i < m → row n g 0 ≼ permutedRow n g i (q i))
+unfolding Allperm
+allperm-sorted m n g q sorts = (
+  λ h i i0 im. h i i0 im (q i) (sorts i i0 im .permutation),
+  λ h i i0 im. let s = sorts i i0 im in sorted-suffices n g (row n g 0) i (q i) (s .permutation) (s .ascend) .0 (h i i0 im),
+)
+
+pub allperm-next : (m n : ℕ) (g q : List ℕ) → 0 < m → Sorts n g m q → Allperm (suc m) n g ↔ (Allperm m n g × (row n g 0 ≼ permutedRow n g m q))
+unfolding Allperm
+allperm-next m n g q m0 s = (λ h. (λ i i0 im. h i i0 (omega arith), h m m0 (omega arith) q (s .permutation)), back)
+  where
+    back : Allperm m n g × (row n g 0 ≼ permutedRow n g m q) → Allperm (suc m) n g
+    back h i i0 im = go (ℕ-discrete i m)
+      where
+        go : Dec (i ≡ m) → (q : List ℕ) → IsPermutation n q → row n g 0 ≼ permutedRow n g i q
+        go (yes e) = rw e (sorted-suffices n g (row n g 0) m q (s .permutation) (s .ascend) .0 (h .1))
+        go (no ne) = h .0 i i0 (omega arith)
+
+-- ---- least grids
+
+first-row-≼ : (m n : ℕ) (a b : List ℕ) → 0 < m → length a ≡ m * n → length b ≡ m * n → a ≼ b → row n a 0 ≼ row n b 0
+first-row-≼ m n a b m0 la lb h =
+    rw (row-zero n a, row-zero n b)
+    (≼-prefix (m * n) n (λ k. getD a k 0) (λ k. getD b k 0) (rows-size m n m0) (rw (tabulate-getD 0 a (m * n) la, tabulate-getD 0 b (m * n) lb) h))
+
+-- rows 0 and i exchanged, the columns in the order q
+exchanged-row : (m n : ℕ) (r : List ℕ) (i : ℕ) (q : List ℕ) → i < m → row n (arrangement m n (transposition m 0 i) q r) 0 ≡ permutedRow n r i q
+unfolding row permutedRow
+exchanged-row m n r i q im =
+    tabulate-ext 0 n _ _ λ j b.
+    cell-arrangement m n (transposition m 0 i) q r 0 j (omega arith) b ∙ rw (at-transposition m 0 i 0 (omega arith), exchange-first 0 i)
+
+pub least-allperm : (m n : ℕ) (g r : List ℕ) → IsLeast m n g r → Allperm m n r
+unfolding Allperm
+least-allperm m n g r l i i0 im q o =
+    let p = transposition m 0 i in
+    let a = arrangement m n p q r in
+    let c : OneClass m n r a = record {
+      rows = p;
+      columns = q;
+      row-permutation = transposition-permutation m 0 i (omega arith) im;
+      column-permutation = o;
+      gives = refl;
+    } in
+    rw (← (exchanged-row m n r i q im))
+    (first-row-≼ m n r a (omega arith) (class-length m n g r (l .arranged)) (length-arrangement m n p q r) (l .no-later a (class-trans m n g r a (l .arranged) c)))

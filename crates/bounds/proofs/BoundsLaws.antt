@@ -1,0 +1,154 @@
+-- Laws of bounds.
+--
+--   Fits top a b v              ==  v is 0 to top and, by rank, within a to b
+--   ranks-within                ==  the test of ranking within a to b
+--   between-at                  ==  `between` lists the values that fit, and nothing else
+--   cells-fit, fit-cells        ==  a grid lies in the bounds exactly if it has their size and each cell fits
+--   within-listed               ==  `gridsWithin` lists the grids that lie in the bounds, and nothing else
+--   some-within                 ==  some listed grid passes a test exactly if some grid in the bounds does
+--   inBounds-decides            ==  the test of lying in the bounds decides it
+--   BoundsOk size top low high  ==  size lows and size highs, each 0 to top, no low above its high
+--   bounds-ok                   ==  where questions 6, 7 and 8 get a yes, the bounds are such
+use mathlib.Core.Path.{_≡_, refl, ap}
+use mathlib.Core.List.{List, [], _∷_, map, List·Memᴰ, List·Memᴰ·head, List·Memᴰ·tail, List·Memᴰ·eq-of-singleton, Memᴰ·map, Memᴰ·of-map}
+use mathlib.Core.Bool.{Bool, true}
+use mathlib.Core.Logic.{_↔_}
+use Prim.Native.Nat.{ℕ, zero, suc, _+_, _≤_, _<_}
+use native.Mathlib.Nat.{add-zero, zero-add, not-suc-le-zero}
+use native.Mathlib.Omega.{arith}
+use lib.ListN.{length, getD}
+use lib.Dec.{leb, eqb}
+use borrow.Author.Tests.{leb-true, le-leb, eqb-true, eq-eqb}
+use Rattle.permutations.specs.Lists.{numbers, some}
+use Rattle.permutations.proofs.BoolLaws.{and-yes, yes-and}
+use Rattle.permutations.proofs.ListLaws.{in-select, of-select, in-flatMap, of-flatMap, in-numbers, of-numbers, every-at, every-number, number-every, some-at, at-some}
+use Rattle.grids.specs.Order.{rank}
+use Rattle.grids.specs.Questions.{firstNo, question6, question7, capped}
+use Rattle.grids.proofs.QuestionLaws.{firstNo-yes, capped-at}
+use Rattle.bounds.specs.Bounds.{InBounds, ranksWithin, between, inBounds, fillings, gridsWithin}
+use Rattle.bounds.specs.Prune.{question8, boundsQuestions}
+
+abbrev pub Fits : ℕ → ℕ → ℕ → ℕ → Type 0
+Fits top a b v = (v ≤ top) × (rank a ≤ rank v) × (rank v ≤ rank b)
+
+-- ---- values
+
+pub ranks-within : (a b v : ℕ) → (ranksWithin a b v ≡ true) ↔ ((rank a ≤ rank v) × (rank v ≤ rank b))
+unfolding ranksWithin
+ranks-within a b v = (
+  λ e. let p = and-yes (leb (rank a) (rank v)) _ e in (leb-true (rank a) (rank v) (p .0), leb-true (rank v) (rank b) (p .1)),
+  λ h. yes-and _ _ (le-leb (rank a) (rank v) (h .0)) (le-leb (rank v) (rank b) (h .1)),
+)
+
+pub between-at : (top a b v : ℕ) → List·Memᴰ v (between top a b) ↔ Fits top a b v
+unfolding between
+between-at top a b v = (
+  λ m.
+      let s = of-select (ranksWithin a b) v (numbers (suc top)) m in
+      let w = ranks-within a b v .0 (s .1) in
+      (omega (arith, of-numbers (suc top) v (s .0)), w .0, w .1),
+  λ h. in-select (ranksWithin a b) v (numbers (suc top)) (in-numbers (suc top) v (omega arith)) (ranks-within a b v .1 (h .1, h .2)),
+)
+
+-- ---- grids
+
+pub cells-fit : {size top : ℕ} {low high g : List ℕ} → InBounds size top low high g → (k : ℕ) → k < size → Fits top (getD low k 0) (getD high k 0) (getD g k 0)
+cells-fit i k b = (i .capped k b, i .above k b, i .below k b)
+
+pub fit-cells : {size top : ℕ} {low high g : List ℕ} → length g ≡ size → ((k : ℕ) → k < size → Fits top (getD low k 0) (getD high k 0) (getD g k 0)) → InBounds size top low high g
+fit-cells e f = record { cells = e; capped = λ k b. f k b .0; above = λ k b. f k b .1; below = λ k b. f k b .2 }
+
+module _ (top : ℕ) (low high : List ℕ) where
+  -- the n cells of g fit the bounds from cell s on
+  abbrev Fill : ℕ → ℕ → List ℕ → Type 0
+  Fill s n g = (length g ≡ n) × ((k : ℕ) → k < n → Fits top (getD low (s + k) 0) (getD high (s + k) 0) (getD g k 0))
+
+  fill-cons : (s n x : ℕ) (g : List ℕ) → Fits top (getD low s 0) (getD high s 0) x → Fill (suc s) n g → Fill s (suc n) (x ∷ g)
+  fill-cons s n x g h f = (ap suc (f .0), cells)
+    where
+      cells : (k : ℕ) → k < suc n → Fits top (getD low (s + k) 0) (getD high (s + k) 0) (getD (x ∷ g) k 0)
+      cells zero b = rw (add-zero s) h
+      cells (suc k) b = let e : s + suc k ≡ suc s + k = omega arith in rw e (f .1 k (omega arith))
+
+  fill-uncons : (s n x : ℕ) (g : List ℕ) → Fill s (suc n) (x ∷ g) → Fits top (getD low s 0) (getD high s 0) x × Fill (suc s) n g
+  fill-uncons s n x g f = (
+    rw (add-zero s) at (f .1 0 (omega arith)),
+    (omega (arith, f .0), λ k b. let e : s + suc k ≡ suc s + k = omega arith in rw e at (f .1 (suc k) (omega arith))),
+  )
+
+  of-fillings : (s n : ℕ) (g : List ℕ) → List·Memᴰ g (fillings top low high s n) → Fill s n g
+  unfolding fillings
+  of-fillings s zero g m = rw (List·Memᴰ·eq-of-singleton m) (refl, λ k b. absurd (not-suc-le-zero b))
+  of-fillings s (suc n) g m =
+      let r = of-flatMap (λ v. map (λ g. v ∷ g) (fillings top low high (suc s) n)) g _ m in
+      let t = Memᴰ·of-map (λ (g : List ℕ). r .0 ∷ g) (fillings top low high (suc s) n) (r .2) in
+      rw (← (t .2)) (fill-cons s n (r .0) (t .0) (between-at top _ _ (r .0) .0 (r .1)) (of-fillings (suc s) n (t .0) (t .1)))
+
+  in-fillings : (s n : ℕ) (g : List ℕ) → Fill s n g → List·Memᴰ g (fillings top low high s n)
+  unfolding fillings
+  in-fillings s zero [] f = List·Memᴰ·head refl
+  in-fillings s zero (x ∷ g) f = absurd (omega (arith, f .0))
+  in-fillings s (suc n) [] f = absurd (omega (arith, f .0))
+  in-fillings s (suc n) (x ∷ g) f =
+      let u = fill-uncons s n x g f in
+      in-flatMap (λ v. map (λ g. v ∷ g) (fillings top low high (suc s) n)) x (x ∷ g) _ (between-at top _ _ x .1 (u .0))
+      (Memᴰ·map (λ (g : List ℕ). x ∷ g) (in-fillings (suc s) n g (u .1)))
+
+module _ (size top : ℕ) (low high g : List ℕ) where
+  pub within-listed : List·Memᴰ g (gridsWithin size top low high) ↔ InBounds size top low high g
+  unfolding gridsWithin
+  within-listed = (
+    λ m. let f = of-fillings top low high 0 size g m in fit-cells (f .0) (λ k b. rw (zero-add k) at (f .1 k b)),
+    λ i. in-fillings top low high 0 size g (i .cells, λ k b. rw (zero-add k) (cells-fit i k b)),
+  )
+
+  pub inBounds-decides : (inBounds size top low high g ≡ true) ↔ InBounds size top low high g
+  unfolding inBounds
+  inBounds-decides = (to, back)
+    where
+      to : inBounds size top low high g ≡ true → InBounds size top low high g
+      to e =
+          let p = and-yes (eqb (length g) size) _ e in
+          fit-cells (eqb-true (length g) size (p .0)) λ k b.
+          let c = and-yes (leb (getD g k 0) top) _ (every-number _ size (p .1) k b) in
+          let w = ranks-within (getD low k 0) (getD high k 0) (getD g k 0) .0 (c .1) in
+          (leb-true (getD g k 0) top (c .0), w .0, w .1)
+
+      back : InBounds size top low high g → inBounds size top low high g ≡ true
+      back i =
+          yes-and _ _ (eq-eqb (length g) size (i .cells))
+          (number-every _ size λ k b. yes-and _ _ (le-leb (getD g k 0) top (i .capped k b)) (ranks-within _ _ (getD g k 0) .1 (i .above k b, i .below k b)))
+
+pub some-within : (size top : ℕ) (low high : List ℕ) (t : List ℕ → Bool) →
+    (some t (gridsWithin size top low high) ≡ true) ↔ ((g : List ℕ) × InBounds size top low high g × (t g ≡ true))
+some-within size top low high t = (
+  λ e. let r = some-at t (gridsWithin size top low high) e in (r .0, within-listed size top low high (r .0) .0 (r .1), r .2),
+  λ r. at-some t (gridsWithin size top low high) (r .0) (within-listed size top low high (r .0) .1 (r .1)) (r .2),
+)
+
+-- ---- bounds that questions 6, 7 and 8 let through
+
+pub record BoundsOk (size top : ℕ) (low high : List ℕ) : Type 0 where
+  pub low-size : length low ≡ size
+  pub high-size : length high ≡ size
+  pub low-cap : (k : ℕ) → k < size → getD low k 0 ≤ top
+  pub high-cap : (k : ℕ) → k < size → getD high k 0 ≤ top
+  pub in-order : (k : ℕ) → k < size → rank (getD low k 0) ≤ rank (getD high k 0)
+
+pub bounds-ok : (size top : ℕ) (low high : List ℕ) → firstNo (boundsQuestions size top low high) ≡ 0 → BoundsOk size top low high
+unfolding boundsQuestions question6 question7 question8
+bounds-ok size top low high e =
+    let q6 = firstNo-yes 5 _ _ e in
+    let q7 = firstNo-yes 6 _ _ (q6 .1) in
+    let slice : (l : List ℕ) → List·Memᴰ l (low ∷ high ∷ []) → (length l ≡ size) × ((k : ℕ) → k < size → getD l k 0 ≤ top) = λ l m.
+    let s = eqb-true (length l) size (every-at (λ s. eqb (length s) size) _ (q6 .0) l m) in
+    (s, λ k b. capped-at top l (every-at (capped top) _ (q7 .0) l m) k (omega arith)) in
+    let l = slice low (List·Memᴰ·head refl) in
+    let h = slice high (List·Memᴰ·tail (List·Memᴰ·head refl)) in
+    record {
+      low-size = l .0;
+      high-size = h .0;
+      low-cap = l .1;
+      high-cap = h .1;
+      in-order = λ k b. leb-true (rank (getD low k 0)) (rank (getD high k 0)) (every-number _ size (firstNo-yes 7 _ [] (q7 .1) .0) k b);
+    }

@@ -1,0 +1,32 @@
+-- Demand 2's sentence on prune: if some grid within the bounds has allperm, a value is pruned exactly when no such grid has it;
+-- if none does, prune answers 102.
+--
+--   Exact m n top low high r  ==  what the outcome r says of the bounds, where every question gets a yes
+--   PruneExact                ==  the statement, on all arguments
+use mathlib.Core.Path.{_≡_}
+use mathlib.Core.List.{List}
+use mathlib.Core.Logic.{_↔_}
+use Prim.Native.Nat.{ℕ, _*_, _≤_, _<_}
+use lib.ListN.{getD, length}
+use Rattle.grids.specs.Order.{rank}
+use Rattle.grids.specs.Questions.{firstNo}
+use Rattle.bounds.specs.Kept.{Obeyed, Kept, removed}
+use Rattle.bounds.specs.Allperm.{Allperm, allperm}
+use Rattle.bounds.specs.Prune.{pruneQuestions, Pruned, pruned}
+
+pub record Exact (m n top : ℕ) (low high : List ℕ) (r : Pruned) : Type 0 where
+  -- some grid has allperm: the number is 0, and a value lies in the new bounds of a cell exactly if some such grid has it there
+  pub answers : Obeyed (Allperm m n) (m * n) top low high → r .number ≡ 0
+  pub sizes : (length (r .low) ≡ m * n) × (length (r .high) ≡ m * n)
+  pub exact : Obeyed (Allperm m n) (m * n) top low high → (k v : ℕ) → k < m * n → v ≤ top →
+      Kept (Allperm m n) (m * n) top low high k v ↔ ((rank (getD (r .low) k 0) ≤ rank v) × (rank v ≤ rank (getD (r .high) k 0)))
+  -- the new bounds are such values themselves, and the count is that of the values removed
+  pub ends : Obeyed (Allperm m n) (m * n) top low high → (k : ℕ) → k < m * n →
+      Kept (Allperm m n) (m * n) top low high k (getD (r .low) k 0) × Kept (Allperm m n) (m * n) top low high k (getD (r .high) k 0)
+  pub counts : Obeyed (Allperm m n) (m * n) top low high → r .count ≡ removed (allperm m n) (m * n) top low high
+  -- none has it: 102, count 0, and the bounds as sent
+  pub none : (Obeyed (Allperm m n) (m * n) top low high → ⊥) → (r .number ≡ 102) × (r .count ≡ 0) × (r .low ≡ low) × (r .high ≡ high)
+
+unfoldable pub PruneExact : Type 0
+PruneExact = (m n top : ℕ) (low high : List ℕ) → firstNo (pruneQuestions m n top low high) ≡ 0 →
+    Exact m n top low high (pruned m n top low high)

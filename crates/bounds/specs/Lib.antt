@@ -1,0 +1,5 @@
+pub mod Bounds
+pub mod Kept
+pub mod Allperm
+pub mod Prune
+pub mod Demand2

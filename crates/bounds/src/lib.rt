@@ -1,0 +1,1 @@
+// Bounds on the cells of a grid.

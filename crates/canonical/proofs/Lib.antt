@@ -1,0 +1,2 @@
+pub mod SearchSteps
+pub mod CallLaws

@@ -1,0 +1,4 @@
+pub mod Represent
+pub mod Same
+pub mod Demand2
+pub mod Search

@@ -1,0 +1,5 @@
+pub mod OrderLaws
+pub mod GridLaws
+pub mod LeastLaws
+pub mod SortedColumns
+pub mod QuestionLaws

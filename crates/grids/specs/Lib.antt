@@ -1,0 +1,5 @@
+pub mod Order
+pub mod Grids
+pub mod Sorted
+pub mod Least
+pub mod Questions

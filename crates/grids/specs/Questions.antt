@@ -1,0 +1,46 @@
+-- The questions that a call asks of its arguments before anything else, with document 01's numbers.
+--
+--   Question            ==  its number, and whether it gets a yes
+--   firstNo l           ==  the number of the first question of l that gets a no; 0 if each gets a yes
+--   inRange a b x       ==  x is a to b
+--   question1 m         ==  are the rows 1 to 8?
+--   question2 n         ==  are the columns 1 to 16?
+--   question3 top       ==  is top 0 to 15?
+--   question6 size l    ==  has every slice of l its exact length?
+--   question7 top l     ==  is every cell or bound of the slices of l at most top?
+--   capped top g        ==  every cell of g is at most top
+use mathlib.Core.List.{List, [], _∷_}
+use mathlib.Core.Bool.{Bool, true, false, _&&_}
+use Prim.Native.Nat.{ℕ}
+use lib.ListN.{length}
+use lib.Dec.{leb, eqb}
+use Rattle.permutations.specs.Lists.{every}
+
+pub record Question : Type 0 where
+  pub number : ℕ
+  pub answer : Bool
+
+unfoldable pub firstNo : List Question → ℕ
+firstNo [] = 0
+firstNo (q ∷ l) = elim (q .answer) [ true ↦ firstNo l | false ↦ q .number ]
+
+unfoldable pub inRange : ℕ → ℕ → ℕ → Bool
+inRange a b x = leb a x && leb x b
+
+unfoldable pub capped : ℕ → List ℕ → Bool
+capped top g = every (λ x. leb x top) g
+
+unfoldable pub question1 : ℕ → Question
+question1 m = record { number = 1; answer = inRange 1 8 m }
+
+unfoldable pub question2 : ℕ → Question
+question2 n = record { number = 2; answer = inRange 1 16 n }
+
+unfoldable pub question3 : ℕ → Question
+question3 top = record { number = 3; answer = inRange 0 15 top }
+
+unfoldable pub question6 : ℕ → List (List ℕ) → Question
+question6 size l = record { number = 6; answer = every (λ s. eqb (length s) size) l }
+
+unfoldable pub question7 : ℕ → List (List ℕ) → Question
+question7 top l = record { number = 7; answer = every (capped top) l }

@@ -1,0 +1,26 @@
+-- `inverse` meets its contract: the first 8 of the inverse's numbers.
+use mathlib.Core.Path.{_∙_}
+use native.Mathlib.Omega.{arith}
+use borrow.Author.Needs.{needs}
+use Rattle.permutations.proofs.PaddedLaws.{inverse-of}
+use Rattle.permutations.proofs.rows.RowPermutation.inverse.Statement.{statement}
+use Rattle.permutations.proofs.rows.RowPermutation.inverse.Tie as tie
+
+numbers-requires : tie.Need-numbers-requires
+numbers-requires c κs = search needs
+
+inversion-requires : tie.Need-inversion-requires
+inversion-requires c κs = search needs
+
+from-numbers-requires : tie.Need-from-numbers-requires
+from-numbers-requires c κs = search needs
+
+returns : tie.Need-returns
+returns c =
+    record {
+      numbers = c .from-numbers .ensures .numbers ∙ inverse-of 8 _ _ _ _ (c .before .before .numbers .ensures) (c .before .inversion .ensures (omega arith));
+      size = c .from-numbers .ensures .size;
+    }
+
+pub inverse-spec : {M : Type 1} → statement M
+inverse-spec = tie.close (tie.spec numbers-requires inversion-requires from-numbers-requires returns)

@@ -1,0 +1,19 @@
+-- Column permutations as lists of numbers.
+--
+--   columnNumbers p       ==  the numbers in p's 16 positions
+--   ListsColumns l n p    ==  p is the permutation of size n with the numbers l in its positions
+use mathlib.Core.Path.{_≡_}
+use mathlib.Core.List.{List, map}
+use Prim.Native.Nat.{ℕ}
+use Rattle.permutations.specs.declared.columns.ColumnNumber.{ColumnNumber}
+use Rattle.permutations.specs.declared.columns.ColumnPermutation.{ColumnPermutation}
+
+abbrev pub columnNumber : ColumnNumber → ℕ
+columnNumber c = c .0
+
+unfoldable pub columnNumbers : ColumnPermutation → List ℕ
+columnNumbers p = map columnNumber (p .at)
+
+pub record ListsColumns (l : List ℕ) (n : ℕ) (p : ColumnPermutation) : Type 0 where
+  pub numbers : columnNumbers p ≡ l
+  pub size : p .size ≡ n

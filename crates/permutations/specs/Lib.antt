@@ -1,0 +1,5 @@
+pub mod Lists
+pub mod Permutations
+pub mod Padded
+pub mod Rows
+pub mod Columns

@@ -1,0 +1,19 @@
+-- Row permutations as lists of numbers.
+--
+--   rowNumbers p       ==  the numbers in p's 8 positions
+--   ListsRows l n p    ==  p is the permutation of size n with the numbers l in its positions
+use mathlib.Core.Path.{_≡_}
+use mathlib.Core.List.{List, map}
+use Prim.Native.Nat.{ℕ}
+use Rattle.permutations.specs.declared.rows.RowNumber.{RowNumber}
+use Rattle.permutations.specs.declared.rows.RowPermutation.{RowPermutation}
+
+abbrev pub rowNumber : RowNumber → ℕ
+rowNumber r = r .0
+
+unfoldable pub rowNumbers : RowPermutation → List ℕ
+rowNumbers p = map rowNumber (p .at)
+
+pub record ListsRows (l : List ℕ) (n : ℕ) (p : RowPermutation) : Type 0 where
+  pub numbers : rowNumbers p ≡ l
+  pub size : p .size ≡ n

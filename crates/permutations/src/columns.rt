@@ -1,0 +1,148 @@
+// Column numbers, and permutations of columns.
+use crate::numbers;
+ghost use mathlib.Core.Path.{_≡_};
+ghost use lib.ListN.{getD, set, take};
+ghost use Rattle.permutations.specs.Permutations.{identity};
+ghost use Rattle.permutations.specs.Padded.{isSound, composedPadded, inversePadded};
+ghost use Rattle.permutations.specs.Columns.{columnNumbers, ListsColumns};
+
+pub struct ColumnNumber(pub u8);
+
+// A permutation of `size` columns: the first `size` positions list column numbers, the others hold their own.
+pub struct ColumnPermutation {
+    pub at: [ColumnNumber; 16],
+    pub size: usize,
+}
+
+impl ColumnPermutation {
+    // How many positions there are.
+    pub const WIDTH: usize = 16;
+
+    // The permutation that moves nothing.
+    pub fn identity(size: usize) -> ColumnPermutation
+        ensures { λ r. ⌜ ListsColumns (identity 16) size r ⌝ }
+    {
+        let at = [
+            ColumnNumber(0),
+            ColumnNumber(1),
+            ColumnNumber(2),
+            ColumnNumber(3),
+            ColumnNumber(4),
+            ColumnNumber(5),
+            ColumnNumber(6),
+            ColumnNumber(7),
+            ColumnNumber(8),
+            ColumnNumber(9),
+            ColumnNumber(10),
+            ColumnNumber(11),
+            ColumnNumber(12),
+            ColumnNumber(13),
+            ColumnNumber(14),
+            ColumnNumber(15),
+        ];
+        ColumnPermutation { at, size }
+    }
+
+    // The column at a position; column 0 past the end.
+    pub fn column(self, i: usize) -> ColumnNumber
+        ensures { λ r. ⌜ r .0 ≡ getD (columnNumbers self) i 0 ⌝ }
+    {
+        let at = self.at;
+        if i < ColumnPermutation::WIDTH {
+            at[i]
+        } else {
+            ColumnNumber(0)
+        }
+    }
+
+    // The permutation with another column at a position; unchanged past the end.
+    pub fn with(self, i: usize, column: ColumnNumber) -> ColumnPermutation
+        ensures { λ r. ⌜ ListsColumns (set (columnNumbers self) i (column .0)) (self .size) r ⌝ }
+    {
+        let mut out = self;
+        if i < ColumnPermutation::WIDTH {
+            out.at[i] = column;
+        }
+        out
+    }
+
+    // Whether the size is 1 to 16 and the first `size` positions list each column number below it once.
+    pub fn is_permutation(self) -> bool
+        ensures { λ r. ⌜ r ≡ isSound 16 (self .size) (columnNumbers self) ⌝ }
+    {
+        numbers::lists_each_once(self.numbers(), ColumnPermutation::WIDTH, self.size)
+    }
+
+    // This permutation followed by another: sends i to self(other(i)).
+    pub fn composed(self, other: ColumnPermutation) -> ColumnPermutation
+        ensures { λ r. ⌜ ListsColumns (composedPadded 16 (self .size) (columnNumbers self) (other .size) (columnNumbers other)) (self .size) r ⌝ }
+    {
+        let p = numbers::composition(
+            ColumnPermutation::WIDTH,
+            self.numbers(),
+            self.size,
+            other.numbers(),
+            other.size,
+        );
+        ColumnPermutation::from_numbers(p, self.size)
+    }
+
+    // The permutation that, composed with this one on either side, moves nothing.
+    pub fn inverse(self) -> ColumnPermutation
+        ensures { λ r. ⌜ ListsColumns (inversePadded 16 (self .size) (columnNumbers self)) (self .size) r ⌝ }
+    {
+        let p = self.numbers();
+        let q = numbers::inversion(ColumnPermutation::WIDTH, p, self.size);
+        ColumnPermutation::from_numbers(q, self.size)
+    }
+
+    // The numbers in the positions.
+    fn numbers(self) -> [u8; 16]
+        ensures { λ r. ⌜ take 16 r ≡ columnNumbers self ⌝ }
+    {
+        let at = self.at;
+        [
+            at[0].0,
+            at[1].0,
+            at[2].0,
+            at[3].0,
+            at[4].0,
+            at[5].0,
+            at[6].0,
+            at[7].0,
+            at[8].0,
+            at[9].0,
+            at[10].0,
+            at[11].0,
+            at[12].0,
+            at[13].0,
+            at[14].0,
+            at[15].0,
+        ]
+    }
+
+    // The column permutation of the 16 numbers.
+    fn from_numbers(p: [u8; 16], size: usize) -> ColumnPermutation
+        ensures { λ r. ⌜ ListsColumns (take 16 p) size r ⌝ }
+    {
+        let at = [
+            ColumnNumber(p[0]),
+            ColumnNumber(p[1]),
+            ColumnNumber(p[2]),
+            ColumnNumber(p[3]),
+            ColumnNumber(p[4]),
+            ColumnNumber(p[5]),
+            ColumnNumber(p[6]),
+            ColumnNumber(p[7]),
+            ColumnNumber(p[8]),
+            ColumnNumber(p[9]),
+            ColumnNumber(p[10]),
+            ColumnNumber(p[11]),
+            ColumnNumber(p[12]),
+            ColumnNumber(p[13]),
+            ColumnNumber(p[14]),
+            ColumnNumber(p[15]),
+        ];
+        ColumnPermutation { at, size }
+    }
+}

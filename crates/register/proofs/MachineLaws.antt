@@ -1,0 +1,268 @@
+-- The plain machine: what its set keeps, its bytes, and each call on its bytes.
+--
+--   Good s l        ==  what holds of a set reached by calls: limits, no class twice, at most capacity classes, each by its least grid
+--   empty-good, step-good, afterwards-good  ==  it holds at first and after each call
+--   reads, laid     ==  the machine's bytes read back, and question 5 gets a yes
+--   call-same       ==  each call on the machine's bytes answers and leaves what the machine does
+--   run-same, left-shown  ==  the same of whole lists
+--   step-not-5, never-five  ==  no call answers 5
+use mathlib.Core.Path.{_≡_, refl, sym, ap, _∙_}
+use mathlib.Core.List.{List, [], _∷_, List·Memᴰ, List·Memᴰ·cases-cons}
+use mathlib.Core.Bool.{Bool, true, false, true≢false, not}
+use mathlib.Core.Logic.{_⊎_, inl, inr}
+use Prim.Native.Nat.{ℕ, zero, suc, _≤_, _<_}
+use native.Mathlib.Omega.{arith}
+use lib.ListN.{length}
+use lib.Dec.{ltb, eqb}
+use borrow.Author.Tests.{eqb-true, ltb-true}
+use Rattle.permutations.specs.Lists.{select, every}
+use Rattle.permutations.proofs.BoolLaws.{and-yes}
+use Rattle.permutations.proofs.ListLaws.{of-select, select-ext, length-select}
+use Rattle.grids.specs.Order.{less, equal}
+use Rattle.grids.specs.Grids.{IsGrid}
+use Rattle.grids.specs.Least.{IsLeast}
+use Rattle.grids.specs.Questions.{Question, firstNo, capped, question6, question7}
+use Rattle.grids.proofs.LeastLaws.{least-is, least-grid, least-least}
+use Rattle.grids.proofs.QuestionLaws.{firstNo-yes, firstNo-pass, capped-at}
+use Rattle.bounds.specs.Bounds.{inBounds}
+use Rattle.bounds.specs.Kept.{Obeyed, obeyed, keptLow, keptHigh}
+use Rattle.bounds.specs.Allperm.{Allperm, allperm}
+use Rattle.bounds.specs.Prune.{boundsQuestions, prunedYes}
+use Rattle.bounds.proofs.KeptLaws.{obeyed-decides}
+use Rattle.bounds.proofs.AllpermLaws.{allperm-decides}
+use Rattle.bounds.proofs.PruneLaws.{prunedYes-some, prunedYes-none, least-same-bounds}
+use Rattle.register.specs.Layout.{Shape, Register, cells, layout, decode, InLimits, IsRegister, laidOut}
+use Rattle.register.specs.Calls.{Outcome, answered, question5, question9, question10, gridQuestions, leastIn, holds, placeIn, without, enterInto, strikeFrom, enterQuestions, strikeQuestions, fitQuestions, enterRegister, strikeRegister, fitPruned, fitRegister, entered, struck, fitted}
+use Rattle.register.specs.Machine.{Call, enter, strike, fit, sorted, shown, Step, stepUnless, enterClass, strikeClass, fitClasses, step, outcome, afterwards}
+use Rattle.register.specs.Demand3.{Once}
+use Rattle.register.proofs.LayoutLaws.{decode-layout}
+use Rattle.register.proofs.RegisterLaws.{register-printable, question5-layouts}
+use Rattle.register.proofs.SortedLaws.{Grids, in-holds, of-sorted, sorted-asc, length-sorted, count-sorted, holds-sorted, select-once, sorted-select}
+
+-- ---- what holds of a set reached by calls
+
+pub record Good (s : Shape) (l : Grids) : Type 0 where
+  pub limits : InLimits s
+  pub once : Once l
+  pub fits : length l ≤ s .capacity
+  pub grids : (r : List ℕ) → List·Memᴰ r l → IsGrid (s .rows) (s .columns) (s .top) r
+  pub leasts : (r : List ℕ) → List·Memᴰ r l → leastIn s r ≡ r
+
+unfoldable pub registerOf : Shape → Grids → Register
+registerOf s l = record { shape = s; entries = sorted l }
+
+module _ (s : Shape) (l : Grids) (g : Good s l) where
+  pub good-register : IsRegister (registerOf s l)
+  unfolding registerOf
+  good-register = record {
+    limits = g .limits;
+    count-fits = omega (arith, length-sorted l, g .fits);
+    entry-grids = λ x m. g .grids x (of-sorted l x m);
+    entries-ascend = sorted-asc l (g .once);
+  }
+
+  pub reads : decode (shown s l) ≡ registerOf s l
+  unfolding shown registerOf
+  reads = decode-layout (registerOf s l) (register-printable (registerOf s l) good-register)
+
+  pub laid : laidOut (shown s l) ≡ true
+  unfolding shown registerOf
+  laid = question5-layouts (shown s l) .1 (registerOf s l, good-register, refl)
+
+-- ---- a grid that passes questions 6 and 7
+
+pub grid-ok : (s : Shape) (g : List ℕ) → firstNo (gridQuestions s g) ≡ 0 → IsGrid (s .rows) (s .columns) (s .top) g
+unfolding gridQuestions question6 question7 every
+grid-ok s g e =
+    let a = firstNo-yes 5 _ _ e in
+    let b = firstNo-yes 6 _ _ (a .1) in
+    let z : length g ≡ cells s = eqb-true (length g) (cells s) (and-yes (eqb (length g) (cells s)) true (a .0) .0) in
+    record { cells = z; capped = λ k h. capped-at (s .top) g (and-yes (capped (s .top) g) true (b .0) .0) k (omega arith) }
+
+-- the two questions of a grid and one more
+one-more : (p q t : Bool) (k : ℕ) →
+    firstNo (record { number = 6; answer = p } ∷ record { number = 7; answer = q } ∷ record { number = suc k; answer = t } ∷ [])
+    ≡ (elim (firstNo (record { number = 6; answer = p } ∷ record { number = 7; answer = q } ∷ [])) as (λ x. ℕ) [ zero ↦ elim t [ true ↦ 0 | false ↦ suc k ] | suc j ↦ suc j ])
+unfolding firstNo
+one-more true true true k = refl
+one-more true true false k = refl
+one-more true false t k = refl
+one-more false q t k = refl
+
+-- ---- one call on the machine's bytes
+
+-- an outcome by its parts
+made : (k : ℕ) {p q : ℕ} {a b : List ℕ} → p ≡ q → a ≡ b → _≡_ {A = Outcome} (record { number = k; place = p; bytes = a }) (record { number = k; place = q; bytes = b })
+made k e f = λ i. record { number = k; place = e i; bytes = f i }
+
+-- the first no, and what is answered then, on bytes and by the machine
+refused-or : (k : ℕ) (o : Outcome) (s : Shape) (l : Grids) (u : Step) → (k ≡ 0 → o ≡ outcome s u) → answered k (shown s l) o ≡ outcome s (stepUnless k l u)
+unfolding answered stepUnless outcome
+refused-or zero o s l u h = h refl
+refused-or (suc k) o s l u h = refl
+
+-- the first no of a grid's questions and of one more, and what is answered then
+after-questions : (k j : ℕ) (t : Bool) (o : Outcome) (s : Shape) (l : Grids) (u : Step) → answered (elim t as (λ x. ℕ) [ true ↦ 0 | false ↦ suc j ]) (shown s l) o ≡ outcome s u →
+    answered (elim k as (λ x. ℕ) [ zero ↦ elim t [ true ↦ 0 | false ↦ suc j ] | suc i ↦ suc i ]) (shown s l) o ≡ outcome s (stepUnless k l u)
+unfolding answered stepUnless outcome
+after-questions zero j t o s l u h = h
+after-questions (suc k) j t o s l u h = refl
+
+module _ (s : Shape) (l : Grids) (g : Good s l) where
+  place-same : (r : List ℕ) → placeIn (sorted l) r ≡ placeIn l r
+  unfolding placeIn
+  place-same r = ap suc (count-sorted (λ x. less x r) l (g .once))
+
+  question5-passes : (qs : List Question) → firstNo (question5 (shown s l) ∷ qs) ≡ firstNo qs
+  unfolding question5
+  question5-passes qs = firstNo-pass (question5 (shown s l)) qs (laid s l g)
+
+  enter-class : (r : List ℕ) →
+      answered (elim (question9 (registerOf s l) r .answer) as (λ x. ℕ) [ true ↦ 0 | false ↦ 9 ]) (shown s l) (enterInto (shown s l) (registerOf s l) r) ≡ outcome s (enterClass s l r)
+  unfolding question9 registerOf answered enterInto enterClass outcome shown sorted
+  enter-class r = go (holds r l) refl (ltb (length l) (s .capacity)) refl
+    where
+      go : (h : Bool) → holds r l ≡ h → (f : Bool) → ltb (length l) (s .capacity) ≡ f →
+          answered (elim (question9 (registerOf s l) r .answer) as (λ x. ℕ) [ true ↦ 0 | false ↦ 9 ]) (shown s l) (enterInto (shown s l) (registerOf s l) r) ≡ outcome s (enterClass s l r)
+      go true h f e = rw (holds-sorted r l, h, enterInto, enterClass) (made 101 (place-same r) refl)
+      go false h true e = rw (holds-sorted r l, h, length-sorted l, e, enterInto, enterClass) (made 0 (place-same r) refl)
+      go false h false e = rw (holds-sorted r l, h, length-sorted l, e, enterInto, enterClass) refl
+
+  strike-class : (r : List ℕ) →
+      answered (elim (question10 (registerOf s l) r .answer) as (λ x. ℕ) [ true ↦ 0 | false ↦ 10 ]) (shown s l) (strikeFrom (registerOf s l) r) ≡ outcome s (strikeClass l r)
+  unfolding question10 registerOf answered strikeFrom strikeClass outcome shown without
+  strike-class r = go (holds r l) refl
+    where
+      go : (h : Bool) → holds r l ≡ h →
+          answered (elim (question10 (registerOf s l) r .answer) as (λ x. ℕ) [ true ↦ 0 | false ↦ 10 ]) (shown s l) (strikeFrom (registerOf s l) r) ≡ outcome s (strikeClass l r)
+      go true h = rw (holds-sorted r l, h, strikeClass) (made 0 (place-same r) (ap (λ (x : Grids). layout (record { shape = s; entries = x })) (sorted-select (λ x. not (equal r x)) l (g .once))))
+      go false h = rw (holds-sorted r l, h, strikeClass) refl
+
+  enter-register : (a r : List ℕ) → enterRegister (shown s l) (registerOf s l) a r ≡ outcome s (stepUnless (firstNo (gridQuestions s a)) l (enterClass s l r))
+  unfolding enterRegister enterQuestions gridQuestions question6 question7 question9 registerOf
+  enter-register a r =
+      ap (λ (k : ℕ). answered k (shown s l) (enterInto (shown s l) (registerOf s l) r)) (question5-passes _ ∙ one-more _ _ (question9 (registerOf s l) r .answer) 8)
+      ∙ after-questions (firstNo (gridQuestions s a)) 8 (question9 (registerOf s l) r .answer) _ s l (enterClass s l r) (enter-class r)
+
+  strike-register : (a r : List ℕ) → strikeRegister (shown s l) (registerOf s l) a r ≡ outcome s (stepUnless (firstNo (gridQuestions s a)) l (strikeClass l r))
+  unfolding strikeRegister strikeQuestions gridQuestions question6 question7 question10 registerOf
+  strike-register a r =
+      ap (λ (k : ℕ). answered k (shown s l) (strikeFrom (registerOf s l) r)) (question5-passes _ ∙ one-more _ _ (question10 (registerOf s l) r .answer) 9)
+      ∙ after-questions (firstNo (gridQuestions s a)) 9 (question10 (registerOf s l) r .answer) _ s l (strikeClass l r) (strike-class r)
+
+  pub enter-same : (a : List ℕ) → entered (shown s l) a ≡ outcome s (stepUnless (firstNo (gridQuestions s a)) l (enterClass s l (leastIn s a)))
+  unfolding entered registerOf
+  enter-same a =
+      ap (λ (x : Register). enterRegister (shown s l) x a (leastIn (x .shape) a)) (reads s l g)
+      ∙ enter-register a (leastIn s a)
+
+  pub strike-same : (a : List ℕ) → struck (shown s l) a ≡ outcome s (stepUnless (firstNo (gridQuestions s a)) l (strikeClass l (leastIn s a)))
+  unfolding struck registerOf
+  strike-same a =
+      ap (λ (x : Register). strikeRegister (shown s l) x a (leastIn (x .shape) a)) (reads s l g)
+      ∙ strike-register a (leastIn s a)
+
+  -- the least grids of the set have allperm, so the pruned bounds hold those that the bounds as sent hold
+  pub self-least : (r : List ℕ) → List·Memᴰ r l → IsLeast (s .rows) (s .columns) r r
+  self-least r m = rw (g .leasts r m) at (least-is (s .rows) (s .columns) r (g .grids r m .cells))
+
+  fit-classes : (low high : List ℕ) → fitPruned (shown s l) (registerOf s l) (prunedYes (s .rows) (s .columns) (s .top) low high) ≡ outcome s (fitClasses s l low high)
+  unfolding fitPruned fitClasses outcome registerOf
+  fit-classes low high = go (obeyed rule (cells s) (s .top) low high) refl
+    where
+      rule : List ℕ → Bool
+      rule = allperm (s .rows) (s .columns)
+
+      some : obeyed rule (cells s) (s .top) low high ≡ true → Obeyed (Allperm (s .rows) (s .columns)) (cells s) (s .top) low high
+      some e = obeyed-decides (Allperm (s .rows) (s .columns)) rule (allperm-decides (s .rows) (s .columns)) (cells s) (s .top) low high .0 e
+
+      inside : obeyed rule (cells s) (s .top) low high ≡ true →
+          length (select (inBounds (cells s) (s .top) (keptLow rule (cells s) (s .top) low high) (keptHigh rule (cells s) (s .top) low high)) (sorted l)) ≡ length (select (inBounds (cells s) (s .top) low high) l)
+      inside e =
+          count-sorted _ l (g .once) ∙ ap length (select-ext _ _ l (λ r m. least-same-bounds (s .rows) (s .columns) (s .top) low high (some e) r r (self-least r m)))
+
+      go : (t : Bool) → obeyed rule (cells s) (s .top) low high ≡ t →
+          fitPruned (shown s l) (registerOf s l) (prunedYes (s .rows) (s .columns) (s .top) low high) ≡ outcome s (fitClasses s l low high)
+      go true e = ap (fitPruned (shown s l) (registerOf s l)) (prunedYes-some (s .rows) (s .columns) (s .top) low high e) ∙ rw (e, fitClasses) (made 0 (inside e) refl)
+      go false e = ap (fitPruned (shown s l) (registerOf s l)) (prunedYes-none (s .rows) (s .columns) (s .top) low high e) ∙ rw (e, fitClasses) refl
+
+  pub fit-same : (low high : List ℕ) → fitted (shown s l) low high ≡ outcome s (stepUnless (firstNo (boundsQuestions (cells s) (s .top) low high)) l (fitClasses s l low high))
+  unfolding fitted fitRegister fitQuestions registerOf
+  fit-same low high =
+      ap (λ (x : Register). fitRegister (shown s l) x low high) (reads s l g)
+      ∙ ap (λ (k : ℕ). answered k (shown s l) (fitPruned (shown s l) (registerOf s l) (prunedYes (s .rows) (s .columns) (s .top) low high))) (question5-passes _)
+      ∙ refused-or (firstNo (boundsQuestions (cells s) (s .top) low high)) _ s l (fitClasses s l low high) (λ z. fit-classes low high)
+
+-- ---- a good set stays good
+
+pub fit-keeps : (s : Shape) (l : Grids) (low high : List ℕ) → fitClasses s l low high .next ≡ l
+unfolding fitClasses
+fit-keeps s l low high = go (obeyed (allperm (s .rows) (s .columns)) (cells s) (s .top) low high) refl
+  where
+    go : (t : Bool) → obeyed (allperm (s .rows) (s .columns)) (cells s) (s .top) low high ≡ t → fitClasses s l low high .next ≡ l
+    go true e = rw (e, fitClasses)
+    go false e = rw (e, fitClasses)
+
+module _ (s : Shape) (l : Grids) (g : Good s l) where
+  added : (r : List ℕ) → (List·Memᴰ r l → ⊥) → length l < s .capacity → IsGrid (s .rows) (s .columns) (s .top) r → leastIn s r ≡ r → Good s (r ∷ l)
+  added r new room i e = record {
+    limits = g .limits;
+    once = (new, g .once);
+    fits = room;
+    grids = λ x m. pick (IsGrid (s .rows) (s .columns) (s .top)) i (g .grids) x (List·Memᴰ·cases-cons m);
+    leasts = λ x m. pick (λ y. leastIn s y ≡ y) e (g .leasts) x (List·Memᴰ·cases-cons m);
+  }
+    where
+      pick : (P : List ℕ → Type 0) → P r → ((y : List ℕ) → List·Memᴰ y l → P y) → (y : List ℕ) → (y ≡ r) ⊎ List·Memᴰ y l → P y
+      pick P p f y (inl d) = rw d p
+      pick P p f y (inr m) = f y m
+
+  reduced : (t : List ℕ → Bool) → Good s (select t l)
+  reduced t = record {
+    limits = g .limits;
+    once = select-once t l (g .once);
+    fits = omega (arith, length-select t l, g .fits);
+    grids = λ x m. g .grids x (of-select t x l m .0);
+    leasts = λ x m. g .leasts x (of-select t x l m .0);
+  }
+
+  enter-good : (a : List ℕ) → firstNo (gridQuestions s a) ≡ 0 → Good s (enterClass s l (leastIn s a) .next)
+  unfolding enterClass
+  enter-good a e = go (holds r l) refl (ltb (length l) (s .capacity)) refl
+    where
+      r : List ℕ
+      r = leastIn s a
+
+      i : IsGrid (s .rows) (s .columns) (s .top) a
+      i = grid-ok s a e
+
+      go : (h : Bool) → holds r l ≡ h → (f : Bool) → ltb (length l) (s .capacity) ≡ f → Good s (enterClass s l r .next)
+      go true h f d = rw (h, enterClass) g
+      go false h true d =
+          rw (h, d, enterClass)
+          (added r (λ m. true≢false (sym (in-holds r l m) ∙ h)) (ltb-true (length l) (s .capacity) d) (least-grid (s .rows) (s .columns) (s .top) a i) (least-least (s .rows) (s .columns) a (i .cells)))
+      go false h false d = rw (h, d, enterClass) g
+
+  strike-good : (r : List ℕ) → Good s (strikeClass l r .next)
+  unfolding strikeClass without
+  strike-good r = go (holds r l) refl
+    where
+      go : (h : Bool) → holds r l ≡ h → Good s (strikeClass l r .next)
+      go true h = rw (h, strikeClass) (reduced (λ x. not (equal r x)))
+      go false h = rw (h, strikeClass) g
+
+  unless-good : (k : ℕ) (t : Step) → (k ≡ 0 → Good s (t .next)) → Good s (stepUnless k l t .next)
+  unfolding stepUnless
+  unless-good zero t h = h refl
+  unless-good (suc k) t h = g
+
+  pub step-good : (c : Call) → Good s (step s l c .next)
+  unfolding step
+  step-good (enter a) = unless-good (firstNo (gridQuestions s a)) _ (enter-good a)
+  step-good (strike a) = unless-good (firstNo (gridQuestions s a)) _ (λ e. strike-good (leastIn s a))
+  step-good (fit low high) = unless-good (firstNo (boundsQuestions (cells s) (s .top) low high)) _ (λ e. rw (fit-keeps s l low high) g)
+
+pub afterwards-good : (s : Shape) (calls : List Call) (l : Grids) → Good s l → Good s (afterwards s l calls)
+unfolding afterwards
+afterwards-good s [] l g = g
+afterwards-good s (c ∷ calls) l g = afterwards-good s calls (step s l c .next) (step-good s l g c)

@@ -1,0 +1,88 @@
+-- Demand 3: one statement over whole lists of enter, strike and fit calls after an open, refused ones included.
+--
+--   called b c           ==  one call on the register's bytes
+--   run b calls          ==  the outcomes of the calls, each on the bytes that the one before left
+--   left b calls         ==  the bytes that the calls leave
+--   accepted k           ==  the number k is no refusal
+--   liveAfter m n a was calls os  ==  whether the class of a is live after the calls with the outcomes os, where `was` says whether it was before
+--   live s b calls a     ==  the same from an open that left the bytes b: the last accepted enter or strike of the class is an enter
+--   Once l               ==  no grid stands twice in l
+--   ListsLive m n live l ==  l lists the least grid of each live class once
+--   AfterOpen s b calls  ==  what holds after the open left b and the calls were made
+--   Demand3              ==  the demand
+use mathlib.Core.Path.{_≡_}
+use mathlib.Core.List.{List, [], _∷_, List·Memᴰ}
+use mathlib.Core.Bool.{Bool, true, false, not, _&&_, _||_}
+use mathlib.Core.Logic.{_↔_}
+use Prim.Native.Nat.{ℕ, _*_}
+use lib.ListN.{length}
+use lib.Dec.{eqb}
+use Rattle.permutations.specs.Lists.{select, every}
+use Rattle.grids.specs.Grids.{oneClass}
+use Rattle.grids.specs.Least.{least}
+use Rattle.bounds.specs.Bounds.{inBounds}
+use Rattle.register.specs.Layout.{Shape, cells, count}
+use Rattle.register.specs.Calls.{Outcome, opened, entered, struck, fitted}
+use Rattle.register.specs.Machine.{Call, enter, strike, fit, shown, outcomes}
+
+unfoldable pub called : List ℕ → Call → Outcome
+called b (enter g) = entered b g
+called b (strike g) = struck b g
+called b (fit low high) = fitted b low high
+
+unfoldable pub run : List ℕ → List Call → List Outcome
+run b [] = []
+run b (c ∷ calls) = called b c ∷ run (called b c .bytes) calls
+
+unfoldable pub left : List ℕ → List Call → List ℕ
+left b [] = b
+left b (c ∷ calls) = left (called b c .bytes) calls
+
+unfoldable pub accepted : ℕ → Bool
+accepted k = eqb k 0 || (eqb k 101 || eqb k 102)
+
+-- whether the class of a is live after one call with the number k
+unfoldable pub liveNext : ℕ → ℕ → List ℕ → Bool → Call → ℕ → Bool
+liveNext m n a was (enter g) k = elim (accepted k && oneClass m n g a) [ true ↦ true | false ↦ was ]
+liveNext m n a was (strike g) k = elim (accepted k && oneClass m n g a) [ true ↦ false | false ↦ was ]
+liveNext m n a was (fit low high) k = was
+
+unfoldable pub liveAfter : ℕ → ℕ → List ℕ → Bool → List Call → List Outcome → Bool
+liveAfter m n a was [] os = was
+liveAfter m n a was (c ∷ calls) [] = was
+liveAfter m n a was (c ∷ calls) (o ∷ os) = liveAfter m n a (liveNext m n a was c (o .number)) calls os
+
+unfoldable pub live : Shape → List ℕ → List Call → List ℕ → Bool
+live s b calls a = liveAfter (s .rows) (s .columns) a false calls (run b calls)
+
+abbrev pub Once : List (List ℕ) → Type 0
+Once [] = Unit {0}
+Once (x ∷ l) = (List·Memᴰ x l → ⊥) × Once l
+
+pub record ListsLive (m n : ℕ) (live : List ℕ → Bool) (l : List (List ℕ)) : Type 0 where
+  pub exact : (a : List ℕ) → length a ≡ m * n → (live a ≡ true) ↔ List·Memᴰ (least m n a) l
+  pub leasts : (r : List ℕ) → List·Memᴰ r l → (length r ≡ m * n) × (least m n r ≡ r)
+  pub once : Once l
+
+pub record AfterOpen (s : Shape) (b : List ℕ) (calls : List Call) : Type 0 where
+  -- after the open the bytes are the machine's
+  pub starts : b ≡ shown s []
+  -- every call answers the machine's number and place or count, and leaves the machine's bytes
+  pub answers : run b calls ≡ outcomes s [] calls
+  -- question 5 never gets a no
+  pub laid : every (λ o. not (eqb (o .number) 5)) (run b calls) ≡ true
+  -- the live classes, by their least grids
+  pub classes : List (List ℕ)
+  pub lists : ListsLive (s .rows) (s .columns) (live s b calls) classes
+  -- the count is the number of live classes
+  pub counts : count (left b calls) ≡ length classes
+  -- a fit counts the live classes whose least grid lies in the bounds as sent
+  pub fits : (low high : List ℕ) → accepted (fitted (left b calls) low high .number) ≡ true →
+      fitted (left b calls) low high .place ≡ length (select (inBounds (cells s) (s .top) low high) classes)
+  -- two lists leave equal bytes exactly when the same classes are live
+  pub bytes-live : (slice′ : List ℕ) → opened s slice′ .number ≡ 0 → (calls′ : List Call) →
+      (left b calls ≡ left (opened s slice′ .bytes) calls′)
+      ↔ ((a : List ℕ) → length a ≡ cells s → live s b calls a ≡ live s (opened s slice′ .bytes) calls′ a)
+
+unfoldable pub Demand3 : Type 0
+Demand3 = (s : Shape) (slice : List ℕ) → opened s slice .number ≡ 0 → (calls : List Call) → AfterOpen s (opened s slice .bytes) calls

@@ -1,0 +1,5 @@
+pub mod Decimal
+pub mod Layout
+pub mod Calls
+pub mod Machine
+pub mod Demand3

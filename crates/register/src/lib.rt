@@ -1,0 +1,1 @@
+// The register: a sorted book of classes, kept in plain bytes.

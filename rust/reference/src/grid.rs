@@ -1,0 +1,177 @@
+//! Grids, their arrangements and their classes; the calls represent and same.
+//!
+//! A grid of m rows and n columns is a slice of m * n cells, row after row.
+
+use crate::permutation::{ColumnPermutation, RowPermutation};
+use crate::questions::{self, Asked};
+use std::cmp::Ordering;
+
+pub use crate::permutation::{identity, is_permutation, permutations, Permutation};
+
+/// What represent and same return: the number, the row permutation P and the column
+/// permutation Q, document 01's orders. Positions past m or n hold their own number.
+#[derive(Clone, Copy, Debug, PartialEq, Eq)]
+pub struct Orders {
+    pub number: u32,
+    pub rows: [u8; 8],
+    pub columns: [u8; 16],
+}
+
+impl Orders {
+    /// This number with identities, document 01's starting orders.
+    pub fn starting(number: u32) -> Orders {
+        Orders {
+            number,
+            rows: RowPermutation::identity(8).at,
+            columns: ColumnPermutation::identity(16).at,
+        }
+    }
+}
+
+/// The rank by which every two cell values are compared: values go by their number, 0 the lowest.
+pub fn rank(value: u8) -> u8 {
+    value
+}
+
+/// The comparison of two cell values.
+pub fn compare_cells(a: u8, b: u8) -> Ordering {
+    rank(a).cmp(&rank(b))
+}
+
+/// The comparison of two grids of one shape, or of two rows: the first unequal cell decides.
+pub fn compare(a: &[u8], b: &[u8]) -> Ordering {
+    for (&x, &y) in a.iter().zip(b) {
+        if x != y {
+            return compare_cells(x, y);
+        }
+    }
+    Ordering::Equal
+}
+
+/// The comparison of columns `a` and `b`: their top cells, and if equal the rows beneath.
+pub fn compare_columns(m: usize, n: usize, grid: &[u8], a: usize, b: usize) -> Ordering {
+    for i in 0..m {
+        let (x, y) = (grid[i * n + a], grid[i * n + b]);
+        if x != y {
+            return compare_cells(x, y);
+        }
+    }
+    Ordering::Equal
+}
+
+/// The arrangement of the grid by P and Q: its cell in row i, column j is A(P(i), Q(j)).
+pub fn arrangement(m: usize, n: usize, rows: &[u8], columns: &[u8], grid: &[u8]) -> Vec<u8> {
+    let mut result = Vec::new();
+    for i in 0..m {
+        for j in 0..n {
+            result.push(grid[usize::from(rows[i]) * n + usize::from(columns[j])]);
+        }
+    }
+    result
+}
+
+/// The column permutation that sorts the columns of the grid with its rows permuted.
+pub fn sorting_columns(m: usize, n: usize, rows: &[u8], grid: &[u8]) -> Vec<u8> {
+    let arranged = arrangement(m, n, rows, &identity(n), grid);
+    let mut columns = identity(n);
+    columns.sort_by(|&a, &b| compare_columns(m, n, &arranged, a.into(), b.into()));
+    columns
+}
+
+/// A canonical form, document 01's representative, with permutations that produce it.
+#[derive(Clone, Debug, PartialEq, Eq)]
+pub struct Canonical {
+    pub grid: Vec<u8>,
+    pub rows: Vec<u8>,
+    pub columns: Vec<u8>,
+}
+
+/// The canonical form: for every row permutation the arrangement with its columns sorted,
+/// and the least of these.
+pub fn canonical(m: usize, n: usize, grid: &[u8]) -> Canonical {
+    permutations(m)
+        .into_iter()
+        .map(|rows| with_sorted_columns(m, n, rows, grid))
+        .min_by(|a, b| compare(&a.grid, &b.grid))
+        .expect("there is a row permutation")
+}
+
+fn with_sorted_columns(m: usize, n: usize, rows: Vec<u8>, grid: &[u8]) -> Canonical {
+    let columns = sorting_columns(m, n, &rows, grid);
+    Canonical {
+        grid: arrangement(m, n, &rows, &columns, grid),
+        rows,
+        columns,
+    }
+}
+
+/// The canonical form alone: the least grid of the grid's class.
+pub fn least(m: usize, n: usize, grid: &[u8]) -> Vec<u8> {
+    canonical(m, n, grid).grid
+}
+
+/// The least of the arrangements by every pair of permutations, for small shapes.
+pub fn least_brute(m: usize, n: usize, grid: &[u8]) -> Vec<u8> {
+    arrangements(m, n, grid)
+        .into_iter()
+        .min_by(|a, b| compare(a, b))
+        .expect("there is a pair of permutations")
+}
+
+/// The grid's class: its arrangements by every pair of permutations, for small shapes.
+pub fn arrangements(m: usize, n: usize, grid: &[u8]) -> Vec<Vec<u8>> {
+    let mut result = Vec::new();
+    for rows in permutations(m) {
+        for columns in permutations(n) {
+            result.push(arrangement(m, n, &rows, &columns, grid));
+        }
+    }
+    result
+}
+
+/// Represent: writes the representative to `out` and returns P and Q that produce it.
+pub fn represent(m: u64, n: u64, top: u64, grid: &[u8], out: &mut [u8]) -> Orders {
+    if let Err(number) = grid_questions(m, n, top, &[grid], &[grid, out]) {
+        return Orders::starting(number);
+    }
+    let canonical = canonical(m as usize, n as usize, grid);
+    out.copy_from_slice(&canonical.grid);
+    Orders {
+        number: 0,
+        rows: RowPermutation::listed(&canonical.rows).at,
+        columns: ColumnPermutation::listed(&canonical.columns).at,
+    }
+}
+
+/// Same: P and Q by which `b` is the arrangement of `a`, or 103 where their classes are two.
+/// P is a's row permutation followed by the inverse of b's; so for Q.
+pub fn same(m: u64, n: u64, top: u64, a: &[u8], b: &[u8]) -> Orders {
+    if let Err(number) = grid_questions(m, n, top, &[a, b], &[a, b]) {
+        return Orders::starting(number);
+    }
+    let of_a = canonical(m as usize, n as usize, a);
+    let of_b = canonical(m as usize, n as usize, b);
+    if of_a.grid != of_b.grid {
+        return Orders::starting(103);
+    }
+    let rows_of_b = RowPermutation::listed(&of_b.rows);
+    let columns_of_b = ColumnPermutation::listed(&of_b.columns);
+    Orders {
+        number: 0,
+        rows: RowPermutation::listed(&of_a.rows)
+            .composed(rows_of_b.inverse())
+            .at,
+        columns: ColumnPermutation::listed(&of_a.columns)
+            .composed(columns_of_b.inverse())
+            .at,
+    }
+}
+
+/// Represent and same pass 1, 2, 3, 6, 7.
+fn grid_questions(m: u64, n: u64, top: u64, grids: &[&[u8]], slices: &[&[u8]]) -> Asked {
+    questions::rows(m)?;
+    questions::columns(n)?;
+    questions::top(top)?;
+    questions::lengths(slices, m * n)?;
+    questions::cells(grids, top)
+}

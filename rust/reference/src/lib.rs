@@ -1,0 +1,27 @@
+//! A plain reference implementation of document 01, the plan register.
+//!
+//! Nothing here is clever: every row permutation is listed, the columns are
+//! sorted, the least arrangement is taken; bounds are pruned by listing every
+//! grid in them; the machine is a set of least grids.
+//!
+//! | module        | part of document 01                                    |
+//! |---------------|--------------------------------------------------------|
+//! | `permutation` | orders: the starting one, following, reverse           |
+//! | `grid`        | grids, arrangements, classes; represent, same          |
+//! | `bounds`      | forms and allperm; prune                               |
+//! | `layout`      | the register's bytes                                   |
+//! | `questions`   | the questions, one function each                       |
+//! | `register`    | open, enter, strike, fit                               |
+//! | `machine`     | the plain machine of demand 3                          |
+//! | `planbook`    | the program, input bytes to output bytes               |
+//! | `random`      | a small generator for tests                            |
+
+pub mod bounds;
+pub mod grid;
+pub mod layout;
+pub mod machine;
+pub mod permutation;
+pub mod planbook;
+pub mod questions;
+pub mod random;
+pub mod register;

@@ -1,0 +1,120 @@
+//! The program `planbook`, input bytes to output bytes.
+
+use crate::layout::{number, read_number, read_numbers, register_length};
+use crate::questions;
+use crate::register::{enter, fit, open, strike, Answer};
+
+/// The most bytes of the input, and the most bytes of a register.
+pub const LIMIT: u64 = 65_536;
+
+/// A command line: 1 enter, 2 strike, 3 fit.
+enum Command {
+    Enter(Vec<u8>),
+    Strike(Vec<u8>),
+    Fit(Vec<u8>, Vec<u8>),
+}
+
+/// The register as line 1 opens it, and its number of cells.
+struct Opened {
+    register: Vec<u8>,
+    cells: usize,
+}
+
+/// Everything that `planbook` prints for the input.
+pub fn transcript(input: &[u8]) -> Vec<u8> {
+    let lines: Vec<&[u8]> = input.split_inclusive(|&byte| byte == b'\n').collect();
+    match opened(input, &lines) {
+        Err(number) => printed(0, number, 0),
+        Ok(opened) => run(opened, &lines[1..]),
+    }
+}
+
+/// Checks: 11, 12, then 1 to 4, 13. `Err` is the number that ends the run.
+fn opened(input: &[u8], lines: &[&[u8]]) -> Result<Opened, u32> {
+    if input.len() as u64 > LIMIT {
+        return Err(11);
+    }
+    let line_1 = lines.first().ok_or(12u32)?;
+    let [m, n, top, capacity] = read_line_1(line_1).ok_or(12u32)?;
+    questions::rows(m)?;
+    questions::columns(n)?;
+    questions::top(top)?;
+    questions::capacity(capacity)?;
+    let length = register_length(m, n, capacity);
+    if length > LIMIT {
+        return Err(13);
+    }
+    // Open answers 0, as its questions were asked above.
+    let mut register = vec![0; length as usize];
+    open(m, n, top, capacity, &mut register);
+    let cells = (m * n) as usize;
+    Ok(Opened { register, cells })
+}
+
+/// A printed line for each command line, and then the register.
+fn run(opened: Opened, lines: &[&[u8]]) -> Vec<u8> {
+    let Opened {
+        mut register,
+        cells,
+    } = opened;
+    let mut output = Vec::new();
+    for line in lines {
+        match read_command(line, cells) {
+            None => output.extend(printed(0, 12, 0)),
+            Some(command) => output.extend(call(&mut register, &command)),
+        }
+    }
+    output.extend(register);
+    output
+}
+
+/// Makes the call and prints its command, number, and place or count.
+fn call(register: &mut [u8], command: &Command) -> Vec<u8> {
+    let (name, answer): (u64, Answer) = match command {
+        Command::Enter(grid) => (1, enter(register, grid)),
+        Command::Strike(grid) => (2, strike(register, grid)),
+        Command::Fit(low, high) => (3, fit(register, low, high)),
+    };
+    printed(name, answer.number, answer.place)
+}
+
+/// Command, number, and place or count, 6 wide each.
+fn printed(command: u64, answer: u32, place: u64) -> Vec<u8> {
+    let fields = [
+        number(command, 6),
+        number(answer.into(), 6),
+        number(place, 6),
+    ];
+    let mut line = fields.concat();
+    line.push(b'\n');
+    line
+}
+
+/// Line 1: rows, columns, top, capacity, 6 wide.
+fn read_line_1(line: &[u8]) -> Option<[u64; 4]> {
+    read_numbers(line.strip_suffix(b"\n")?, 6)?.try_into().ok()
+}
+
+/// A command 6 wide, then 3-wide cells, or for 3 low and high of each cell in turn.
+/// `None` where the line is not laid so.
+fn read_command(line: &[u8], cells: usize) -> Option<Command> {
+    let fields = line.strip_suffix(b"\n")?;
+    let command = read_number(fields.get(..6)?)?;
+    let bytes = read_cells(&fields[6..])?;
+    match command {
+        1 if bytes.len() == cells => Some(Command::Enter(bytes)),
+        2 if bytes.len() == cells => Some(Command::Strike(bytes)),
+        3 if bytes.len() == 2 * cells => {
+            let low = bytes.iter().step_by(2).copied().collect();
+            let high = bytes.iter().skip(1).step_by(2).copied().collect();
+            Some(Command::Fit(low, high))
+        }
+        _ => None,
+    }
+}
+
+/// The 3-wide cells, none above 255.
+fn read_cells(bytes: &[u8]) -> Option<Vec<u8>> {
+    let cells = read_numbers(bytes, 3)?;
+    cells.into_iter().map(|v| u8::try_from(v).ok()).collect()
+}

@@ -1,0 +1,67 @@
+//! The questions of document 01, one function each. A yes is `Ok`; a no is
+//! `Err` with the question's number.
+
+use crate::grid::rank;
+use crate::layout::Contents;
+
+/// The answer to a question: a yes, or the number of a no.
+pub type Asked = Result<(), u32>;
+
+fn ask(yes: bool, number: u32) -> Asked {
+    if yes {
+        Ok(())
+    } else {
+        Err(number)
+    }
+}
+
+/// 1. Are the rows 1 to 8?
+pub fn rows(m: u64) -> Asked {
+    ask((1..=8).contains(&m), 1)
+}
+
+/// 2. Are the columns 1 to 16?
+pub fn columns(n: u64) -> Asked {
+    ask((1..=16).contains(&n), 2)
+}
+
+/// 3. Is top 0 to 15?
+pub fn top(top: u64) -> Asked {
+    ask(top <= 15, 3)
+}
+
+/// 4. Is the capacity 1 to 500?
+pub fn capacity(capacity: u64) -> Asked {
+    ask((1..=500).contains(&capacity), 4)
+}
+
+/// 5. Is the register laid out? A yes gives what it holds.
+pub fn register(register: &[u8]) -> Result<Contents, u32> {
+    Contents::read(register).ok_or(5)
+}
+
+/// 6. Has every slice its exact length?
+pub fn lengths(slices: &[&[u8]], length: u64) -> Asked {
+    ask(slices.iter().all(|slice| slice.len() as u64 == length), 6)
+}
+
+/// 7. Is every cell or bound at most top? By number, as top is the greatest number of a value.
+pub fn cells(slices: &[&[u8]], top: u64) -> Asked {
+    let at_most_top = |slice: &&[u8]| slice.iter().all(|&value| u64::from(value) <= top);
+    ask(slices.iter().all(at_most_top), 7)
+}
+
+/// 8. Is every low at most its high?
+pub fn bounds(low: &[u8], high: &[u8]) -> Asked {
+    ask(low.iter().zip(high).all(|(&l, &h)| rank(l) <= rank(h)), 8)
+}
+
+/// 9. Is the class held, or the count below capacity?
+pub fn held_or_room(held: bool, count: u64, capacity: u64) -> Asked {
+    ask(held || count < capacity, 9)
+}
+
+/// 10. Is the class held?
+pub fn held(held: bool) -> Asked {
+    ask(held, 10)
+}
