@@ -1,8 +1,10 @@
 -- Bounds on the cells of a grid, a list of lows and a list of highs: document 01's form.
 --
 --   InBounds size top low high g     ==  the grid g lies in the bounds: size cells, each 0 to top and, by rank, within its low to its high
+--   ranksWithin a b v                ==  the value v ranks within a to b
 --   between top a b                  ==  the values 0 to top that rank within a to b
 --   inBounds size top low high g     ==  the test of InBounds
+--   fillings top low high s n        ==  all ways to fill n cells from cell s on
 --   gridsWithin size top low high    ==  all grids that lie in the bounds
 use mathlib.Core.Path.{_≡_}
 use mathlib.Core.List.{List, [], _∷_, map, flatMap}
@@ -29,7 +31,6 @@ unfoldable pub inBounds : ℕ → ℕ → List ℕ → List ℕ → List ℕ →
 inBounds size top low high g =
     eqb (length g) size && every (λ k. leb (getD g k 0) top && ranksWithin (getD low k 0) (getD high k 0) (getD g k 0)) (numbers size)
 
--- the ways to fill n cells from cell s on
 unfoldable pub fillings : ℕ → List ℕ → List ℕ → ℕ → ℕ → List (List ℕ)
 fillings top low high s zero = [] ∷ []
 fillings top low high s (suc n) = flatMap (λ v. map (λ g. v ∷ g) (fillings top low high (suc s) n)) (between top (getD low s 0) (getD high s 0))

@@ -4,7 +4,8 @@
 --   Kept Rule size top low high k v    ==  some grid in the bounds that obeys the rule has the value v in cell k
 --   obeyed, keeps                      ==  their tests, over all grids in the bounds
 --   keptValues rule size top low high k  ==  the values 0 to top that are kept in cell k
---   lowest l, highest l                ==  the value of l that ranks lowest, highest; 0 for no value
+--   lowestFrom x l, highestFrom x l    ==  the value among x and l that ranks lowest, highest
+--   lowest l, highest l                ==  the value of l that does; 0 for no value
 --   keptLow, keptHigh rule size top low high  ==  the lowest and the highest value kept in each cell
 --   removedValues rule size top low high k  ==  the values within the bounds of cell k that are not kept
 --   removed rule size top low high     ==  how many these are, summed over the cells

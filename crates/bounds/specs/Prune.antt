@@ -4,6 +4,7 @@
 --   boundsQuestions size top low high  ==  questions 6, 7 and 8 of two bounds
 --   pruneQuestions m n top low high    ==  the questions that prune asks
 --   Pruned                     ==  the number, the count of values removed, and the two slices afterwards
+--   prunedYes m n top low high ==  prune's outcome where every question gets a yes
 --   pruned m n top low high    ==  prune's outcome
 use mathlib.Core.List.{List, [], _∷_}
 use mathlib.Core.Bool.{true, false}
@@ -31,7 +32,6 @@ pub record Pruned : Type 0 where
   pub low : List ℕ
   pub high : List ℕ
 
--- the outcome where every question gets a yes
 unfoldable pub prunedYes : ℕ → ℕ → ℕ → List ℕ → List ℕ → Pruned
 prunedYes m n top low high =
     elim (obeyed (allperm m n) (m * n) top low high) [

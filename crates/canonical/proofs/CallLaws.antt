@@ -1,5 +1,6 @@
 -- What the answers of represent and same mean.
 --
+--   represent-size, same-sizes  ==  where every question gets a yes the grids have their lengths
 --   represent-least      ==  demand 2's sentence on represent
 --   represent-determined ==  two answers to the same arguments have one number and one output slice
 --   produces-class       ==  orders that produce b from a show the two in one class

@@ -1,6 +1,7 @@
 -- What represent answers and writes, on all arguments. Only the pair of orders is the program's choice.
 --
 --   Produces m n a b rows columns  ==  the orders returned produce b from a: permutations of m rows and n columns, and each position past them holds its own number
+--   Starting rows columns          ==  the orders returned move nothing
 --   representQuestions m n top g out  ==  the questions that represent asks
 --   Represented m n top g out number rows columns out′  ==  represent may answer so: its number, its two orders, and the output slice afterwards
 use mathlib.Core.Path.{_≡_}
@@ -20,7 +21,6 @@ pub record Produces (m n : ℕ) (a b rows columns : List ℕ) : Type 0 where
   pub row-rest : rows ≡ padded 8 m (take m rows)
   pub column-rest : columns ≡ padded 16 n (take n columns)
 
--- orders that move nothing
 pub record Starting (rows columns : List ℕ) : Type 0 where
   pub row-identity : rows ≡ identity 8
   pub column-identity : columns ≡ identity 16

@@ -4,7 +4,7 @@
 --   row-column                                     ==  an index of the cells is a row and a column
 --   first-rows                                     ==  the leading cells of a grid are its first rows
 --   row-zero, rows-size, beneath                   ==  the first row's cells, and where the others are
---   length-arrangement, cell-arrangement           ==  an arrangement by its cells
+--   length-arrangement, cell-arrangement, column-arrangement  ==  an arrangement by its cells and columns
 --   arrangement-identity, arrangement-twice        ==  by the identities; twice is once, by the composed permutations
 --   class-refl, class-trans, class-sym             ==  being in one class is an equivalence
 --   class-length, class-cell, class-grid           ==  what the grids of a class have in common
@@ -23,7 +23,7 @@ use Rattle.permutations.specs.Permutations.{IsPermutation, identity, composed, 
 use Rattle.permutations.proofs.ListLaws.{length-tabulate, at-tabulate, tabulate-is, tabulate-ext, some-at, at-some}
 use Rattle.permutations.proofs.PermutationLaws.{at-identity, at-composed, identity-permutation, composed-permutation, inverse-permutation, composed-inverse}
 use Rattle.permutations.proofs.PermutationTest.{permutation-listed, listed-permutation}
-use Rattle.grids.specs.Grids.{cell, gridOf, IsGrid, row, arrangement, OneClass, oneClass}
+use Rattle.grids.specs.Grids.{cell, gridOf, IsGrid, row, column, permutedColumn, arrangement, OneClass, oneClass}
 use Rattle.grids.proofs.OrderLaws.{equal-eq, eq-equal}
 
 -- ---- a grid by its cells
@@ -82,6 +82,11 @@ length-arrangement m n p q g = length-grid m n _
 pub cell-arrangement : (m n : ℕ) (p q g : List ℕ) (i j : ℕ) → i < m → j < n → cell n (arrangement m n p q g) i j ≡ cell n g (getD p i 0) (getD q j 0)
 unfolding arrangement
 cell-arrangement m n p q g i j a b = cell-grid m n _ i j a b
+
+-- a column of an arrangement is a column of the grid, its cells in the row order
+pub column-arrangement : (m n : ℕ) (p q g : List ℕ) (j : ℕ) → j < n → column m n (arrangement m n p q g) j ≡ permutedColumn m n g p (getD q j 0)
+unfolding column permutedColumn
+column-arrangement m n p q g j h = tabulate-ext 0 m _ _ λ i a. cell-arrangement m n p q g i j a h
 
 pub arrangement-identity : (m n : ℕ) (g : List ℕ) → length g ≡ m * n → arrangement m n (identity m) (identity n) g ≡ g
 unfolding arrangement

@@ -1,11 +1,13 @@
 -- Laws of the order of lists by rank.
 --
 --   rank-injective                       ==  equal ranks, equal values: the one law of rank that others rest on
+--   rank-antisymm                        ==  values that rank no higher than each other are equal
 --   trichotomy                           ==  of two values one ranks lower, or they are equal
 --   ≼-refl, ≼-trans, ≼-antisymm, ≼-total, ≼-dec  ==  the order is a decidable total order
---   leq-yes, ≼-leq, leq-decides          ==  the test decides it
+--   leq-spec, leq-yes, ≼-leq, leq-decides  ==  the test decides it
 --   ≼-by-index, ≼-at                     ==  of lists of one length: wherever all before is equal, the first's value ranks no higher
 --   first-unequal                        ==  the same as document 01 says it: equal, or the first unequal value decides
+--   tabulate-at, tabulate-by-index       ==  the same of tabulated lists
 --   ≼-pointwise                          ==  a list whose values all rank no higher comes no later
 --   ≼-prefix, ≼-lead                     ==  leading values are in the order of the lists; where they differ they decide it
 --   ≺-≼, ≺-trans, ≼-≺, less-decides      ==  strictly before
@@ -41,7 +43,6 @@ trichotomy x y = go (decLt (rank x) (rank y)) (ℕ-discrete (rank x) (rank y))
     go (no h) (yes e) = inr (inl (rank-injective x y e))
     go (no h) (no ne) = inr (inr (omega arith))
 
--- values with one rank no higher than the other's, and the other way round, are equal
 pub rank-antisymm : (x y : ℕ) → rank x ≤ rank y → rank y ≤ rank x → x ≡ y
 rank-antisymm x y h k = rank-injective x y (omega arith)
 

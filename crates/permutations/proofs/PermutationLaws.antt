@@ -1,12 +1,14 @@
 -- Permutations of every size: the pigeonhole principle, identity, composition and inverse.
 --
+--   Within n f, Apart n f                  ==  f stays below n; no two numbers below n become one
 --   onto                                   ==  of n numbers below n, no two equal, each number below n is one
 --   listed                                 ==  a permutation lists every number below its size
---   at-identity, at-composed, at-inverse   ==  entries
+--   at-identity, at-composed, at-inverse, length-composed  ==  entries and length
 --   position-hit, position-miss            ==  the position in a list by its first number
---   position-found                         ==  a number that is listed stands at its position
+--   position-found, position-within, position-at  ==  a number that is listed stands at its position, and in a permutation nowhere else
 --   identity-permutation, composed-permutation, inverse-permutation  ==  each is a permutation
 --   composed-inverse, inverse-composed     ==  a permutation composed with its inverse, on either side, is the identity
+--   through                                ==  any permutation is a given one followed by another
 --   composed-assoc                         ==  composition is associative
 --   composed-identity, identity-composed   ==  the identity changes nothing, on either side
 --   inverse-inverse                        ==  the inverse of the inverse is the permutation

@@ -1,5 +1,6 @@
 -- Column permutations as lists of numbers.
 --
+--   columnNumber i        ==  the number of a column
 --   columnNumbers p       ==  the numbers in p's 16 positions
 --   ListsColumns l n p    ==  p is the permutation of size n with the numbers l in its positions
 use mathlib.Core.Path.{_≡_}

@@ -1,5 +1,6 @@
 -- Row permutations as lists of numbers.
 --
+--   rowNumber i        ==  the number of a row
 --   rowNumbers p       ==  the numbers in p's 8 positions
 --   ListsRows l n p    ==  p is the permutation of size n with the numbers l in its positions
 use mathlib.Core.Path.{_≡_}

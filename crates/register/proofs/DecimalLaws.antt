@@ -2,6 +2,7 @@
 --
 --   length-field                ==  a field of w bytes has w bytes
 --   value-field, field-inj      ==  what is printed is read back
+--   Justified x s               ==  s is spaces and then digits, some unless x is 0, of which the first is no 0
 --   justified-field, zero-field ==  a field is spaces and then digits of which the first is no 0; for zero, spaces and one 0
 use mathlib.Core.Path.{_≡_, refl, sym, ap, _∙_}
 use mathlib.Core.List.{List, [], _∷_, _++_, append-assoc}
@@ -75,7 +76,6 @@ digits-snoc : (l : List ℕ) (d : ℕ) → Digits l → d < 10 → Digits (l ++ 
 digits-snoc [] d h k = (omega arith, omega arith, tt)
 digits-snoc (b ∷ l) d h k = (h .0, h .1, digits-snoc l d (h .2) k)
 
--- spaces and then digits, the first of which is no 0
 pub record Justified (x : ℕ) (s : List ℕ) : Type 0 where
   pub spaces : ℕ
   pub digits : List ℕ

@@ -5,6 +5,7 @@
 --   step-not-5, never-five  ==  question 5 never gets a no
 --   opened-good, opened-shown  ==  after an open that answered 0: the empty set and its bytes
 --   fit-counts           ==  an accepted fit counts the classes whose least grid lies in the bounds as sent
+--   shown-count          ==  the machine's bytes state the size of its set
 --   shown-inj            ==  equal bytes, equal sets
 --   demand3              ==  the demand
 use mathlib.Core.Path.{_≡_, refl, sym, ap, _∙_}

@@ -1,6 +1,7 @@
 -- A register's layout reads back as itself.
 --
---   piece             ==  one of several pieces of one length, put one after another
+--   Wide w ls         ==  every list of ls is w long
+--   piece, length-flatten  ==  one of several pieces of one length, put one after another
 --   length-fields, fields-read  ==  numbers in fields of one width, and each read back
 --   length-entry, length-blank, length-head, length-layout  ==  the lengths of the lines and of the whole
 --   Printable r       ==  the numbers and cells of r fit their fields
@@ -22,7 +23,6 @@ use Rattle.register.proofs.DecimalLaws.{value-field, length-field}
 
 -- ---- pieces of one length
 
--- every list of ls is w long
 abbrev pub Wide : {A : Type 0} → ℕ → List (List A) → Type 0
 Wide {A} w ls = (l : List A) → List·Memᴰ l ls → length l ≡ w
 

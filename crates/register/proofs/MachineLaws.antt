@@ -1,11 +1,13 @@
 -- The plain machine: what its set keeps, its bytes, and each call on its bytes.
 --
---   Good s l        ==  what holds of a set reached by calls: limits, no class twice, at most capacity classes, each by its least grid
---   empty-good, step-good, afterwards-good  ==  it holds at first and after each call
---   reads, laid     ==  the machine's bytes read back, and question 5 gets a yes
---   call-same       ==  each call on the machine's bytes answers and leaves what the machine does
---   run-same, left-shown  ==  the same of whole lists
---   step-not-5, never-five  ==  no call answers 5
+--   Good s l         ==  what holds of a set reached by calls: limits, no class twice, at most capacity classes, each by its least grid
+--   registerOf s l   ==  the register that the machine shows
+--   good-register, reads, laid  ==  it is one, the machine's bytes state it, and question 5 gets a yes
+--   grid-ok          ==  what passes questions 6 and 7 is a grid
+--   self-least       ==  a grid of the set is the least of its class
+--   enter-same, strike-same, fit-same  ==  each call on the machine's bytes answers and leaves what the machine does
+--   fit-keeps        ==  a fit changes no set
+--   step-good, afterwards-good  ==  a good set stays good
 use mathlib.Core.Path.{_≡_, refl, sym, ap, _∙_}
 use mathlib.Core.List.{List, [], _∷_, List·Memᴰ, List·Memᴰ·cases-cons}
 use mathlib.Core.Bool.{Bool, true, false, true≢false, not}

@@ -1,23 +1,27 @@
 -- Sets of grids as lists: membership, ascending lists, insertion, sorting.
 --
+--   Grids                             ==  lists of grids
 --   holds-in, in-holds                ==  the test of membership decides it
+--   insert-asc                        ==  a new grid inserted into an ascending list leaves it ascending
 --   of-sorted, in-sorted, sorted-asc  ==  a sorted list has the same members, and ascends if none stands twice
 --   asc-ext                           ==  ascending lists with the same members are equal
 --   select-once, sorted-select        ==  selecting keeps a list free of repeats, and commutes with sorting
+--   held-line, new-line               ==  a place is the entry's line, the first being 1: of a held grid, and of one that is inserted
 --   length-sorted, count-sorted, holds-sorted  ==  sorting changes no length, no count and no membership
 use mathlib.Core.Path.{_≡_, refl, sym, ap, ap₂, _∙_}
 use mathlib.Core.List.{List, [], _∷_, List·Memᴰ, List·Memᴰ·head, List·Memᴰ·tail, List·Memᴰ·not-nil, List·Memᴰ·cases-cons, Memᴰ·cast}
 use mathlib.Core.Bool.{Bool, true, false}
 use mathlib.Core.Logic.{_⊎_, inl, inr}
-use Prim.Native.Nat.{ℕ, suc}
-use lib.ListN.{length}
+use Prim.Native.Nat.{ℕ, suc, _-_}
+use native.Mathlib.Omega.{arith}
+use lib.ListN.{length, getD}
 use Rattle.permutations.specs.Lists.{select}
-use Rattle.permutations.proofs.BoolLaws.{yes-or-no, bool-ext}
-use Rattle.permutations.proofs.ListLaws.{in-select, of-select, select-yes, select-no, some-at, at-some}
-use Rattle.grids.specs.Order.{_≼_, _≺_, leq, equal}
-use Rattle.grids.proofs.OrderLaws.{≼-refl, ≼-antisymm, ≼-dec, ≼-leq, leq-yes, ≺-≼, ≺-trans, ≼-≺, equal-eq, eq-equal}
+use Rattle.permutations.proofs.BoolLaws.{yes-or-no, bool-ext, refuted}
+use Rattle.permutations.proofs.ListLaws.{in-select, of-select, select-yes, select-no, select-none, some-at, at-some}
+use Rattle.grids.specs.Order.{_≼_, _≺_, leq, less, equal}
+use Rattle.grids.proofs.OrderLaws.{≼-refl, ≼-antisymm, ≼-dec, ≼-leq, leq-yes, ≺-≼, ≺-trans, ≼-≺, less-decides, equal-eq, eq-equal}
 use Rattle.register.specs.Layout.{Ascends}
-use Rattle.register.specs.Calls.{holds, insert}
+use Rattle.register.specs.Calls.{holds, placeIn, insert}
 use Rattle.register.specs.Machine.{sorted}
 use Rattle.register.specs.Demand3.{Once}
 
@@ -203,3 +207,41 @@ holds-sorted r l =
     bool-ext (holds r (sorted l)) (holds r l)
     (λ e. in-holds r l (of-sorted l r (holds-in r (sorted l) e)))
     (λ e. in-holds r (sorted l) (in-sorted l r (holds-in r l e)))
+
+-- ---- places
+
+-- none of an ascending list comes before its first
+none-before : (x : List ℕ) (l : Grids) → Ascends (x ∷ l) → (y : List ℕ) → List·Memᴰ y (x ∷ l) → less y x ≡ true → ⊥
+none-before x l a y m t = less-decides y x .0 t (first-no-later x l (a .0) y (List·Memᴰ·cases-cons m))
+
+-- as many entries come before a grid of an ascending list as stand before it
+stands-at : (l : Grids) → Ascends l → (r : List ℕ) → List·Memᴰ r l → getD l (length (select (λ x. less x r) l)) [] ≡ r
+stands-at [] a r m = absurd (List·Memᴰ·not-nil m)
+stands-at (x ∷ l) a r m = go (stands-at l (a .1) r) (List·Memᴰ·cases-cons m)
+  where
+    go : (List·Memᴰ r l → getD l (length (select (λ y. less y r) l)) [] ≡ r) → (r ≡ x) ⊎ List·Memᴰ r l → getD (x ∷ l) (length (select (λ y. less y r) (x ∷ l))) [] ≡ r
+    go ih (inl e) = rw (e, select-none (λ y. less y x) (x ∷ l) (none-before x l a))
+    go ih (inr k) = rw (select-yes (λ y. less y r) x l (less-decides x r .1 (a .0 r k))) (ih k)
+
+select-insert : (t : List ℕ → Bool) (r : List ℕ) (l : Grids) → t r ≡ false → select t (insert r l) ≡ select t l
+unfolding insert select
+select-insert t r [] e = select-no t r [] e
+select-insert t r (x ∷ l) e = go (select-insert t r l e) (≼-dec r x) (yes-or-no (t x))
+  where
+    go : select t (insert r l) ≡ select t l → Dec (r ≼ x) → (t x ≡ true) ⊎ (t x ≡ false) → select t (insert r (x ∷ l)) ≡ select t (x ∷ l)
+    go ih (yes p) d = ap (select t) (insert-front r x l p) ∙ select-no t r (x ∷ l) e
+    go ih (no p) (inl d) = ap (select t) (insert-later r x l p) ∙ select-yes t x (insert r l) d ∙ ap (λ (y : Grids). x ∷ y) ih ∙ sym (select-yes t x l d)
+    go ih (no p) (inr d) = ap (select t) (insert-later r x l p) ∙ select-no t x (insert r l) d ∙ ih ∙ sym (select-no t x l d)
+
+-- the place of a held grid is its line, the first being 1
+pub held-line : (l : Grids) → Ascends l → (r : List ℕ) → List·Memᴰ r l → getD l (placeIn l r - 1) [] ≡ r
+unfolding placeIn
+held-line l a r m = let e : suc (length (select (λ x. less x r) l)) - 1 ≡ length (select (λ x. less x r) l) = omega arith in rw e (stands-at l a r m)
+
+-- the place of a new grid is its line once it is inserted
+pub new-line : (l : Grids) → Ascends l → (r : List ℕ) → (List·Memᴰ r l → ⊥) → getD (insert r l) (placeIn l r - 1) [] ≡ r
+unfolding placeIn
+new-line l a r new =
+    let e : suc (length (select (λ x. less x r) l)) - 1 ≡ length (select (λ x. less x r) l) = omega arith in
+    rw (e, ← (select-insert (λ x. less x r) r l (refuted (less r r) (less-decides r r) (λ h. h (≼-refl r)))))
+    (stands-at (insert r l) (insert-asc r l a new) r (in-insert r l r (inl refl)))

@@ -2,13 +2,17 @@
 --
 --   Outcome              ==  the number, the place or count, and the register's bytes afterwards
 --   answered k b o       ==  the refusal k, which changes nothing, unless k is 0: then o
---   question4, 5, 9, 10  ==  document 01's questions
+--   question4, question5, question9, question10  ==  document 01's questions
+--   gridQuestions s g    ==  questions 6 and 7 of a grid
 --   openQuestions, enterQuestions, strikeQuestions, fitQuestions  ==  the questions that each call asks, in order
 --   leastIn s g          ==  the least grid of the class of g, a grid of the shape
 --   holds r l            ==  the grid r stands among the grids of l
 --   placeIn l r          ==  1 and the number of grids of l that come before r
 --   insert r l           ==  r put where it belongs in an ascending list
 --   without r l          ==  the grids of l other than r
+--   enterInto b x r, strikeFrom x r  ==  the grid r, least of its class, put into the register x with the bytes b, and taken out of it
+--   fitPruned b x p      ==  after prune left p: its number, and with 0 the count of the entries in the pruned bounds
+--   enterRegister, strikeRegister, fitRegister  ==  the calls on bytes and the register that they state
 --   opened s b           ==  open with the numbers of s on the slice b
 --   entered b g          ==  enter of the grid g into the register b
 --   struck b g           ==  strike of the grid g from it
@@ -79,7 +83,6 @@ openQuestions s b =
 unfoldable pub opened : Shape → List ℕ → Outcome
 opened s b = answered (firstNo (openQuestions s b)) b (record { number = 0; place = 0; bytes = layout (record { shape = s; entries = [] }) })
 
--- the grid r, least of its class, into the register x whose bytes are b, and out of it
 unfoldable pub enterInto : List ℕ → Register → List ℕ → Outcome
 enterInto b x r =
     elim (holds r (x .entries)) [
@@ -111,7 +114,6 @@ entered b g = enterRegister b (decode b) g (leastIn (decode b .shape) g)
 unfoldable pub struck : List ℕ → List ℕ → Outcome
 struck b g = strikeRegister b (decode b) g (leastIn (decode b .shape) g)
 
--- after prune left p: its number, and with 0 the count of the entries in the pruned bounds
 unfoldable pub fitPruned : List ℕ → Register → Pruned → Outcome
 fitPruned b x p =
     elim (p .number) [

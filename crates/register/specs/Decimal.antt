@@ -2,7 +2,8 @@
 --
 --   lead w x   ==  the digits of x in w places, a space in each place that none is left for
 --   field w x  ==  the field: the same, with a last digit in any case
---   value s    ==  the number that a field reads: its digits, spaces passed over
+--   digit acc b, valueFrom acc s  ==  the number acc followed by the digit b, by the digits of s; spaces are passed over
+--   value s    ==  the number that a field reads
 use mathlib.Core.List.{List, [], _∷_, _++_}
 use mathlib.Core.Bool.{true, false}
 use Prim.Native.Nat.{ℕ, zero, suc, _+_, _-_, _*_, _/_, _%_}

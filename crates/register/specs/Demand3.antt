@@ -4,7 +4,8 @@
 --   run b calls          ==  the outcomes of the calls, each on the bytes that the one before left
 --   left b calls         ==  the bytes that the calls leave
 --   accepted k           ==  the number k is no refusal
---   liveAfter m n a was calls os  ==  whether the class of a is live after the calls with the outcomes os, where `was` says whether it was before
+--   liveNext m n a was c k  ==  whether the class of a is live after the call c with the number k, where `was` says whether it was before
+--   liveAfter m n a was calls os  ==  the same after the calls with the outcomes os
 --   live s b calls a     ==  the same from an open that left the bytes b: the last accepted enter or strike of the class is an enter
 --   Once l               ==  no grid stands twice in l
 --   ListsLive m n live l ==  l lists the least grid of each live class once
@@ -41,7 +42,6 @@ left b (c ∷ calls) = left (called b c .bytes) calls
 unfoldable pub accepted : ℕ → Bool
 accepted k = eqb k 0 || (eqb k 101 || eqb k 102)
 
--- whether the class of a is live after one call with the number k
 unfoldable pub liveNext : ℕ → ℕ → List ℕ → Bool → Call → ℕ → Bool
 liveNext m n a was (enter g) k = elim (accepted k && oneClass m n g a) [ true ↦ true | false ↦ was ]
 liveNext m n a was (strike g) k = elim (accepted k && oneClass m n g a) [ true ↦ false | false ↦ was ]

@@ -11,11 +11,13 @@
 --   layoutLength s ==  how many bytes that is
 --   numberAt w i b ==  the number in the w bytes from i on
 --   count b        ==  the count that the bytes state
+--   entryAt size b e  ==  the cells that line e of the entries states, the first being 0
+--   decodeShape b  ==  the shape that the bytes state
 --   decode b       ==  the register that the bytes state
 --   InLimits s     ==  rows 1 to 8, columns 1 to 16, top 0 to 15, capacity 1 to 500
 --   Ascends l      ==  each grid of l comes before all later ones
 --   IsRegister r   ==  limits, count at most capacity, entries of m times n cells at most top, strictly ascending
---   inLimits, ascending, isRegister  ==  their tests; an entry is compared with the next
+--   inLimits, ascending, isEntry, isRegister  ==  their tests; an entry is compared with the next
 --   laidOut b      ==  question 5: what the bytes state is such a register, and its layout is these bytes
 use mathlib.Core.List.{List, [], _∷_, _++_, map, flatten, List·Memᴰ}
 use mathlib.Core.Bool.{Bool, true, _&&_}

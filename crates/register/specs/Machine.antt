@@ -5,7 +5,12 @@
 --   sorted l              ==  the grids of l, ascending
 --   shown s l             ==  the machine's bytes
 --   Step                  ==  the number, the place or count, and the set afterwards
+--   stepUnless k l t      ==  the first no, with which nothing changes, unless it is 0: then t
+--   enterClass s l r      ==  enter of the class of the least grid r: held, 101; else capacity classes held, 9; else it is added
+--   strikeClass l r       ==  strike of it: held, it is removed; else 10
+--   fitClasses s l low high  ==  fit: no grid in the bounds has allperm, 102; else the classes whose least grid lies in the bounds as sent
 --   step s l c            ==  one call
+--   outcome s t           ==  a step's answer, and the bytes that the machine then shows
 --   outcomes s l calls    ==  what the machine answers to each call and the bytes that it then shows
 --   afterwards s l calls  ==  the set after the calls
 use mathlib.Core.List.{List, [], _∷_}
@@ -39,12 +44,10 @@ pub record Step : Type 0 where
   pub place : ℕ
   pub next : List (List ℕ)
 
--- the first no, with which nothing changes, unless it is 0: then t
 unfoldable pub stepUnless : ℕ → List (List ℕ) → Step → Step
 stepUnless zero l t = t
 stepUnless (suc k) l t = record { number = suc k; place = 0; next = l }
 
--- the class of the least grid r: held, 101; else capacity classes held, 9; else it is added
 unfoldable pub enterClass : Shape → List (List ℕ) → List ℕ → Step
 enterClass s l r =
     elim (holds r l) [
@@ -55,7 +58,6 @@ enterClass s l r =
       ]
     ]
 
--- held: it is removed; else 10
 unfoldable pub strikeClass : List (List ℕ) → List ℕ → Step
 strikeClass l r =
     elim (holds r l) [
@@ -63,7 +65,6 @@ strikeClass l r =
       | false ↦ record { number = 10; place = 0; next = l }
     ]
 
--- no grid in the bounds has allperm: 102; else the classes whose least grid lies in the bounds as sent
 unfoldable pub fitClasses : Shape → List (List ℕ) → List ℕ → List ℕ → Step
 fitClasses s l low high =
     elim (obeyed (allperm (s .rows) (s .columns)) (cells s) (s .top) low high) [

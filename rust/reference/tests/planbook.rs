@@ -9,15 +9,10 @@ use reference::register::Answer;
 use std::io::Write;
 use std::process::{Command, Stdio};
 
-const INPUT: &str = "     2     2     1     2
-     1  1  0  0  1
-     1  0  1  1  0
-     2  0  0  1  1
-     3  0  0  0  1  0  1  0  1
-     1  0  0  1  1
-     1  0  1  0  1
-";
+/// Document 01's input.
+const INPUT: &str = include_str!("../../../examples/plans.txt");
 
+/// And what the program prints for it.
 const OUTPUT: &str = "     1     0     1
      1   101     1
      2    10     0
