@@ -9,12 +9,11 @@
 use mathlib.Core.Path.{_≡_, refl, sym, ap, _∙_}
 use mathlib.Core.List.{List, [], _∷_, map}
 use Prim.Native.Nat.{ℕ, zero, suc, _≤_, _<_}
-use native.Mathlib.Nat.{not-suc-le-zero}
 use native.Mathlib.Omega.{arith}
 use lib.ListN.{length, getD, set, take, length-map, List·getD-eq-default}
 use lib.Seq.{getD-take, length-take-le}
 use Rattle.permutations.specs.Lists.{tabulate}
-use Rattle.permutations.proofs.ListLaws.{tabulate-is}
+use Rattle.permutations.proofs.ListLaws.{tabulate-is, at-map}
 
 pub map-length {ℓ κ} : {A : Type ℓ} {B : Type κ} (f : A → B) (l : List A) (n : ℕ) → length (map f l) ≡ n → length l ≡ n
 map-length f l n e = sym (length-map l f) ∙ e
@@ -26,9 +25,7 @@ module _ {A : Type 0} (f : A → ℕ) where
   map-set (x ∷ l) (suc i) v = ap (λ (r : List ℕ). f x ∷ r) (map-set l i v)
 
   pub map-at : (l : List A) (i : ℕ) (d : A) → i < length l → f (getD l i d) ≡ getD (map f l) i 0
-  map-at [] i d h = absurd (not-suc-le-zero h)
-  map-at (x ∷ l) zero d h = refl
-  map-at (x ∷ l) (suc i) d h = map-at l i d (omega arith)
+  map-at l i d h = sym (at-map f l i d 0 h)
 
   pub map-past : (l : List A) (i : ℕ) → length l ≤ i → 0 ≡ getD (map f l) i 0
   map-past l i h = sym (List·getD-eq-default (map f l) 0 (omega (arith, length-map l f)))

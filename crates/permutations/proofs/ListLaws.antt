@@ -4,13 +4,14 @@
 --   tabulate-is, tabulate-ext, tabulate-getD     ==  when a tabulated list is a given list, and when two are equal
 --   in-tabulate, of-tabulate, mem-at, of-mem, no-member  ==  membership, and the index of a member
 --   length-numbers, at-numbers, in-numbers, of-numbers, every-number, number-every  ==  the same of the numbers below n
+--   at-map                                       ==  an entry of a mapped list
 --   in-flatMap, of-flatMap                       ==  membership in lists put one after another
 --   select-yes, select-no, in-select, of-select, select-ext, select-none, length-select, select-split, select-within  ==  the elements that pass a test
 --   every-at, at-every                           ==  a test that every element passes
 --   some-at, at-some                             ==  a test that some element passes
 --   occurs-at, once-occurs                       ==  a number that occurs stands somewhere; one that stands at one index alone occurs once
 use mathlib.Core.Path.{_≡_, refl, sym, ap, _∙_}
-use mathlib.Core.List.{List, [], _∷_, _++_, flatMap, List·Memᴰ, List·Memᴰ·head, List·Memᴰ·tail, List·Memᴰ·not-nil, List·Memᴰ·cases-cons, List·Memᴰ·append-cases, Memᴰ·append-left, Memᴰ·append-right, Memᴰ·cast}
+use mathlib.Core.List.{List, [], _∷_, _++_, map, flatMap, List·Memᴰ, List·Memᴰ·head, List·Memᴰ·tail, List·Memᴰ·not-nil, List·Memᴰ·cases-cons, List·Memᴰ·append-cases, Memᴰ·append-left, Memᴰ·append-right, Memᴰ·cast}
 use mathlib.Core.Bool.{Bool, true, false, true≢false, not, _||_}
 use mathlib.Core.Logic.{_⊎_, inl, inr}
 use Prim.Native.Nat.{ℕ, zero, suc, _+_, _≤_, _<_}
@@ -203,6 +204,11 @@ module _ {ℓ} {A : Type ℓ} where
       go ih (inr k) false d = rw d (ih k e)
 
 module _ {ℓ κ} {A : Type ℓ} {B : Type κ} where
+  pub at-map : (f : A → B) (l : List A) (i : ℕ) (a : A) (b : B) → i < length l → getD (map f l) i b ≡ f (getD l i a)
+  at-map f [] i a b h = absurd (not-suc-le-zero h)
+  at-map f (x ∷ l) zero a b h = refl
+  at-map f (x ∷ l) (suc i) a b h = at-map f l i a b (omega arith)
+
   pub in-flatMap : (f : A → List B) (x : A) (y : B) (l : List A) → List·Memᴰ x l → List·Memᴰ y (f x) → List·Memᴰ y (flatMap f l)
   unfolding flatMap
   in-flatMap f x y [] h k = absurd (List·Memᴰ·not-nil h)

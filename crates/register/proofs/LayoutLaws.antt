@@ -11,12 +11,12 @@ use mathlib.Core.Path.{_≡_, refl, sym, ap, ap₂, _∙_}
 use mathlib.Core.List.{List, [], _∷_, _++_, map, flatten, append-assoc, List·Memᴰ, List·Memᴰ·head, List·Memᴰ·tail, List·Memᴰ·not-nil, List·Memᴰ·cases-cons, Memᴰ·of-map}
 use mathlib.Core.Logic.{_⊎_, inl, inr}
 use Prim.Native.Nat.{ℕ, zero, suc, _+_, _-_, _*_, _^_, _≤_, _<_}
-use native.Mathlib.Nat.{not-suc-le-zero, mul-comm, zero-mul, add-mul}
+use native.Mathlib.Nat.{mul-comm, zero-mul, add-mul}
 use native.Mathlib.Omega.{arith}
 use lib.ListN.{length, getD, take, drop, replicate, length-append, length-map, length-replicate}
 use lib.Seq.{take-at, drop-at, drop-drop, drop-cons}
 use Rattle.permutations.specs.Lists.{tabulate}
-use Rattle.permutations.proofs.ListLaws.{tabulate-is, mem-at}
+use Rattle.permutations.proofs.ListLaws.{tabulate-is, mem-at, at-map}
 use Rattle.register.specs.Decimal.{field, value}
 use Rattle.register.specs.Layout.{Shape, Register, cells, fields, entryLine, blankLine, headLine, layout, layoutLength, numberAt, count, entryAt, decodeShape, decode}
 use Rattle.register.proofs.DecimalLaws.{value-field, length-field}
@@ -58,11 +58,6 @@ of-replicate (suc n) a x m = go (of-replicate n a x) (List·Memᴰ·cases-cons m
     go : (List·Memᴰ x (replicate n a) → x ≡ a) → (x ≡ a) ⊎ List·Memᴰ x (replicate n a) → x ≡ a
     go ih (inl e) = e
     go ih (inr k) = ih k
-
-at-map : {A B : Type 0} (f : A → B) (l : List A) (i : ℕ) (a : A) (b : B) → i < length l → getD (map f l) i b ≡ f (getD l i a)
-at-map f [] i a b h = absurd (not-suc-le-zero h)
-at-map f (x ∷ l) zero a b h = refl
-at-map f (x ∷ l) (suc i) a b h = at-map f l i a b (omega arith)
 
 -- ---- fields of one width
 
