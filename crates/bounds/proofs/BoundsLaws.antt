@@ -7,8 +7,7 @@
 --   within-listed               ==  `gridsWithin` lists the grids that lie in the bounds, and nothing else
 --   some-within                 ==  some listed grid passes a test exactly if some grid in the bounds does
 --   inBounds-decides            ==  the test of lying in the bounds decides it
---   BoundsOk size top low high  ==  size lows and size highs, each 0 to top, no low above its high
---   bounds-ok                   ==  where questions 6, 7 and 8 get a yes, the bounds are such
+--   bounds-asked, bounds-numbered, bounds-pass  ==  questions 6, 7 and 8 get a yes exactly for bounds
 use mathlib.Core.Path.{_≡_, refl, ap}
 use mathlib.Core.List.{List, [], _∷_, map, List·Memᴰ, List·Memᴰ·head, List·Memᴰ·tail, List·Memᴰ·eq-of-singleton, Memᴰ·map, Memᴰ·of-map}
 use mathlib.Core.Bool.{Bool, true}
@@ -21,11 +20,12 @@ use lib.Dec.{leb, eqb}
 use borrow.Author.Tests.{leb-true, le-leb, eqb-true, eq-eqb}
 use Rattle.permutations.specs.Lists.{numbers, some}
 use Rattle.permutations.proofs.BoolLaws.{and-yes, yes-and}
-use Rattle.permutations.proofs.ListLaws.{in-select, of-select, in-flatMap, of-flatMap, in-numbers, of-numbers, every-at, every-number, number-every, some-at, at-some}
+use Rattle.permutations.proofs.ListLaws.{in-select, of-select, in-flatMap, of-flatMap, in-numbers, of-numbers, every-number, number-every, some-at, at-some}
 use Rattle.grids.specs.Order.{rank}
-use Rattle.grids.specs.Questions.{firstNo, question6, question7, capped}
-use Rattle.grids.proofs.QuestionLaws.{firstNo-yes, capped-at}
-use Rattle.bounds.specs.Bounds.{InBounds, ranksWithin, between, inBounds, fillings, gridsWithin}
+use Rattle.grids.specs.Grids.{capped}
+use Rattle.grids.specs.Questions.{firstNo, question6, question7}
+use Rattle.grids.proofs.QuestionLaws.{AllYes, Numbered, first-no-zero, capped-at, at-capped, all-two, lengths-asked, cells-asked}
+use Rattle.bounds.specs.Bounds.{IsBounds, InBounds, ranksWithin, between, inBounds, fillings, gridsWithin}
 use Rattle.bounds.specs.Prune.{question8, boundsQuestions}
 
 abbrev pub Fits : ℕ → ℕ → ℕ → ℕ → Type 0
@@ -126,29 +126,56 @@ some-within size top low high t = (
   λ r. at-some t (gridsWithin size top low high) (r .0) (within-listed size top low high (r .0) .1 (r .1)) (r .2),
 )
 
--- ---- bounds that questions 6, 7 and 8 let through
+-- ---- what questions 6, 7 and 8 ask
 
-pub record BoundsOk (size top : ℕ) (low high : List ℕ) : Type 0 where
-  pub low-size : length low ≡ size
-  pub high-size : length high ≡ size
-  pub low-cap : (k : ℕ) → k < size → getD low k 0 ≤ top
-  pub high-cap : (k : ℕ) → k < size → getD high k 0 ≤ top
-  pub in-order : (k : ℕ) → k < size → rank (getD low k 0) ≤ rank (getD high k 0)
+-- a list of bounds by its length and its test of cells
+caps : (size top : ℕ) (l : List ℕ) → length l ≡ size → capped top l ≡ true → (k : ℕ) → k < size → getD l k 0 ≤ top
+caps size top l z t k b = capped-at top l t k (omega arith)
 
-pub bounds-ok : (size top : ℕ) (low high : List ℕ) → firstNo (boundsQuestions size top low high) ≡ 0 → BoundsOk size top low high
+order-asked : (size : ℕ) (low high : List ℕ) → (question8 size low high .answer ≡ true) ↔ ((k : ℕ) → k < size → rank (getD low k 0) ≤ rank (getD high k 0))
+unfolding question8
+order-asked size low high = (
+  λ e k b. leb-true (rank (getD low k 0)) (rank (getD high k 0)) (every-number _ size e k b),
+  λ h. number-every _ size λ k b. le-leb (rank (getD low k 0)) (rank (getD high k 0)) (h k b),
+)
+
+-- questions 6 to 8 get a yes exactly for bounds
+pub bounds-asked : (size top : ℕ) (low high : List ℕ) → AllYes (boundsQuestions size top low high) ↔ IsBounds size top low high
+unfolding boundsQuestions
+bounds-asked size top low high = (to, back)
+  where
+    to : AllYes (boundsQuestions size top low high) → IsBounds size top low high
+    to h =
+        let sizes = lengths-asked size (low ∷ high ∷ []) .0 (h .0) in
+        let tests = cells-asked top (low ∷ high ∷ []) .0 (h .1 .0) in
+        let l = sizes low (List·Memᴰ·head refl) in
+        let u = sizes high (List·Memᴰ·tail (List·Memᴰ·head refl)) in
+        record {
+          low-size = l;
+          high-size = u;
+          low-cap = caps size top low l (tests low (List·Memᴰ·head refl));
+          high-cap = caps size top high u (tests high (List·Memᴰ·tail (List·Memᴰ·head refl)));
+          in-order = order-asked size low high .0 (h .1 .1 .0);
+        }
+
+    back : IsBounds size top low high → AllYes (boundsQuestions size top low high)
+    back i =
+        let l = i .low-size in
+        let u = i .high-size in (
+          lengths-asked size (low ∷ high ∷ []) .1 (all-two (λ s. length s ≡ size) low high l u),
+          (
+            cells-asked top (low ∷ high ∷ []) .1
+                (all-two (λ s. capped top s ≡ true) low high (at-capped top low (λ k b. i .low-cap k (omega arith))) (at-capped top high (λ k b. i .high-cap k (omega arith)))),
+            (order-asked size low high .1 (i .in-order), tt),
+          ),
+        )
+
+pub bounds-numbered : (size top : ℕ) (low high : List ℕ) → Numbered (boundsQuestions size top low high)
 unfolding boundsQuestions question6 question7 question8
-bounds-ok size top low high e =
-    let q6 = firstNo-yes 5 _ _ e in
-    let q7 = firstNo-yes 6 _ _ (q6 .1) in
-    let slice : (l : List ℕ) → List·Memᴰ l (low ∷ high ∷ []) → (length l ≡ size) × ((k : ℕ) → k < size → getD l k 0 ≤ top) = λ l m.
-    let s = eqb-true (length l) size (every-at (λ s. eqb (length s) size) _ (q6 .0) l m) in
-    (s, λ k b. capped-at top l (every-at (capped top) _ (q7 .0) l m) k (omega arith)) in
-    let l = slice low (List·Memᴰ·head refl) in
-    let h = slice high (List·Memᴰ·tail (List·Memᴰ·head refl)) in
-    record {
-      low-size = l .0;
-      high-size = h .0;
-      low-cap = l .1;
-      high-cap = h .1;
-      in-order = λ k b. leb-true (rank (getD low k 0)) (rank (getD high k 0)) (every-number _ size (firstNo-yes 7 _ [] (q7 .1) .0) k b);
-    }
+bounds-numbered size top low high = (omega arith, (omega arith, (omega arith, tt)))
+
+pub bounds-pass : (size top : ℕ) (low high : List ℕ) → (firstNo (boundsQuestions size top low high) ≡ 0) ↔ IsBounds size top low high
+bounds-pass size top low high =
+    let z = first-no-zero (boundsQuestions size top low high) (bounds-numbered size top low high) in
+    let a = bounds-asked size top low high in
+    (λ e. a .0 (z .0 e), λ i. z .1 (a .1 i))

@@ -22,9 +22,9 @@ use lib.Seq.{getD-set-same, getD-set-other}
 use Rattle.permutations.specs.Lists.{tabulate}
 use Rattle.permutations.proofs.ListLaws.{length-tabulate, at-tabulate}
 use Rattle.grids.specs.Order.{rank}
-use Rattle.bounds.specs.Bounds.{InBounds, between}
+use Rattle.bounds.specs.Bounds.{IsBounds, InBounds, between}
 use Rattle.bounds.specs.Kept.{Obeyed, Kept, keptValues, keptLow, keptHigh}
-use Rattle.bounds.proofs.BoundsLaws.{Fits, fit-cells, BoundsOk}
+use Rattle.bounds.proofs.BoundsLaws.{Fits, fit-cells}
 use Rattle.bounds.proofs.KeptLaws.{kept-bounds, values-between, obeyed-ends}
 
 abbrev pub Toward : Bool → ℕ → ℕ → Type 0
@@ -81,7 +81,7 @@ set-all P x k v b p f t = go (ℕ-discrete t k)
 
 -- ---- what a directed rule keeps
 
-module _ (Rule : List ℕ → Type 0) (falls : ℕ → Bool) (size : ℕ) (directed : Directed falls size Rule) (top : ℕ) (low high : List ℕ) (ok : BoundsOk size top low high) where
+module _ (Rule : List ℕ → Type 0) (falls : ℕ → Bool) (size : ℕ) (directed : Directed falls size Rule) (top : ℕ) (low high : List ℕ) (ok : IsBounds size top low high) where
   toward-extremal : {g : List ℕ} → InBounds size top low high g → (k : ℕ) → k < size → Toward (falls k) (getD g k 0) (getD (extremal falls size low high) k 0)
   toward-extremal {g} i k b = rw (at-extremal falls size low high k b) (toward-end (falls k) (getD low k 0) (getD high k 0) (getD g k 0) (i .above k b) (i .below k b))
 

@@ -15,7 +15,7 @@
 --   inside-kept                            ==  a grid in the old bounds that obeys the rule is in the new
 --   kept-inside                            ==  where some grid in the bounds obeys the rule, a grid in the new bounds is in the old
 --   pruned-same                            ==  there a grid that obeys the rule is in the new bounds exactly if it is in the old
---   kept-bounds-ok                         ==  there the new bounds have their sizes, caps and order
+--   kept-is-bounds                         ==  there the new bounds have their sizes, caps and order
 --   removed-listed, removed-kept           ==  the values removed are those within the bounds that are not kept; with the kept ones they are all
 --   all-kept                               ==  where every value within the bounds is kept, nothing changes
 use mathlib.Core.Path.{_≡_, refl, sym, ap, _∙_}
@@ -32,9 +32,9 @@ use Rattle.permutations.proofs.BoolLaws.{and-yes, yes-and, bool-ext, refuted}
 use Rattle.permutations.proofs.ListLaws.{length-tabulate, at-tabulate, tabulate-is, tabulate-ext, no-member, in-select, of-select, select-ext, select-split, select-within, in-numbers, of-numbers}
 use Rattle.grids.specs.Order.{rank}
 use Rattle.grids.proofs.OrderLaws.{rank-antisymm}
-use Rattle.bounds.specs.Bounds.{InBounds, ranksWithin, between, inBounds}
+use Rattle.bounds.specs.Bounds.{IsBounds, InBounds, ranksWithin, between, inBounds}
 use Rattle.bounds.specs.Kept.{Obeyed, Kept, obeyed, keeps, keptValues, lowestFrom, lowest, highestFrom, highest, keptLow, keptHigh, removedValues, removed}
-use Rattle.bounds.proofs.BoundsLaws.{Fits, ranks-within, between-at, cells-fit, fit-cells, some-within, inBounds-decides, BoundsOk}
+use Rattle.bounds.proofs.BoundsLaws.{Fits, ranks-within, between-at, cells-fit, fit-cells, some-within, inBounds-decides}
 
 -- ---- kept values
 
@@ -200,8 +200,8 @@ module _ (Rule : List ℕ → Type 0) (rule : List ℕ → Bool) (decides : (g :
         let new = inBounds-decides size top (keptLow rule size top low high) (keptHigh rule size top low high) g in
         bool-ext _ _ (λ t. old .1 (kept-inside g (new .0 t))) (λ t. new .1 (inside-kept g (old .0 t) r))
 
-    pub kept-bounds-ok : BoundsOk size top (keptLow rule size top low high) (keptHigh rule size top low high)
-    kept-bounds-ok = record {
+    pub kept-is-bounds : IsBounds size top (keptLow rule size top low high) (keptHigh rule size top low high)
+    kept-is-bounds = record {
       low-size = length-keptLow rule size top low high;
       high-size = length-keptHigh rule size top low high;
       low-cap = λ k b. kept-bounds b (obeyed-ends k b .low-kept) .0;
@@ -230,7 +230,7 @@ module _ (Rule : List ℕ → Type 0) (rule : List ℕ → Bool) (decides : (g :
 
   -- ---- where every value within the bounds is kept
 
-  module _ (ok : BoundsOk size top low high) (all : (k v : ℕ) → k < size → Fits top (getD low k 0) (getD high k 0) v → Kept Rule size top low high k v) where
+  module _ (ok : IsBounds size top low high) (all : (k v : ℕ) → k < size → Fits top (getD low k 0) (getD high k 0) v → Kept Rule size top low high k v) where
     low-same : keptLow rule size top low high ≡ low
     unfolding keptLow
     low-same =

@@ -1,8 +1,7 @@
 -- What prune answers, on all arguments.
 --
---   asked-bounds       ==  where each gets a yes, the bounds have their sizes, caps and order
+--   prune-pass         ==  every question gets a yes exactly for bounds within the limits
 --   pruned-refused     ==  where one gets a no: its number, count 0, and the slices as sent
---   prunedYes-some, prunedYes-none  ==  the outcome where every question gets a yes, by the test
 --   pruned-some        ==  where some grid in the bounds has allperm: 0, the values removed, and the new bounds
 --   pruned-none        ==  where none has it: 102, count 0, and the slices as sent
 --   prune-exact        ==  demand 2's sentence on prune
@@ -14,30 +13,42 @@ use mathlib.Core.List.{List}
 use mathlib.Core.Bool.{true, false}
 use mathlib.Core.Logic.{_↔_}
 use Prim.Native.Nat.{ℕ, suc, _*_}
+use native.Mathlib.Omega.{arith}
 use lib.Dec.{ltb}
 use Rattle.permutations.proofs.BoolLaws.{decided, refuted}
-use Rattle.grids.specs.Questions.{firstNo, question1, question2, question3}
+use Rattle.grids.specs.Questions.{firstNo, Limits, question1, question2, question3}
 use Rattle.grids.specs.Least.{IsLeast}
-use Rattle.grids.proofs.QuestionLaws.{firstNo-yes}
-use Rattle.bounds.specs.Bounds.{inBounds}
+use Rattle.grids.proofs.QuestionLaws.{Numbered, first-no-zero, limits-asked}
+use Rattle.bounds.specs.Bounds.{IsBounds, inBounds}
 use Rattle.bounds.specs.Kept.{Obeyed, obeyed, keptLow, keptHigh, removed}
 use Rattle.bounds.specs.Allperm.{Allperm, allperm}
-use Rattle.bounds.specs.Prune.{pruneQuestions, prunedYes, pruned}
+use Rattle.bounds.specs.Prune.{boundsQuestions, pruneQuestions, prunedYes, pruned}
 use Rattle.bounds.specs.Demand2.{Exact, PruneExact}
-use Rattle.bounds.proofs.BoundsLaws.{inBounds-decides, BoundsOk, bounds-ok}
+use Rattle.bounds.proofs.BoundsLaws.{inBounds-decides, bounds-asked, bounds-numbered}
 use Rattle.bounds.proofs.KeptLaws.{length-keptLow, length-keptHigh, obeyed-decides, obeyed-ends, pruned-same, all-kept}
 use Rattle.bounds.proofs.Extremal.{obeyed-extremal, kept-extremal, kept-exactly}
 use Rattle.bounds.proofs.AllpermLaws.{allperm-decides, allperm-directed, allperm-one-row, least-allperm}
 
 module _ (m n top : ℕ) (low high : List ℕ) where
-  pub asked-bounds : firstNo (pruneQuestions m n top low high) ≡ 0 → BoundsOk (m * n) top low high
+  prune-numbered : Numbered (pruneQuestions m n top low high)
   unfolding question1 question2 question3
-  asked-bounds e = bounds-ok (m * n) top low high (firstNo-yes 2 _ _ (firstNo-yes 1 _ _ (firstNo-yes 0 _ _ e .1) .1) .1)
+  prune-numbered = (omega arith, (omega arith, (omega arith, bounds-numbered (m * n) top low high)))
+
+  -- every question gets a yes exactly for bounds within the limits
+  pub prune-pass : (firstNo (pruneQuestions m n top low high) ≡ 0) ↔ (Limits m n top × IsBounds (m * n) top low high)
+  prune-pass =
+      let z = first-no-zero (pruneQuestions m n top low high) prune-numbered in
+      let l = limits-asked m n top (boundsQuestions (m * n) top low high) in
+      let b = bounds-asked (m * n) top low high in
+      (λ e. let h = l .0 (z .0 e) in (h .0, b .0 (h .1)), λ h. z .1 (l .1 (h .0, b .1 (h .1))))
+
+  asked-bounds : firstNo (pruneQuestions m n top low high) ≡ 0 → IsBounds (m * n) top low high
+  asked-bounds e = prune-pass .0 e .1
 
   some-decides : (obeyed (allperm m n) (m * n) top low high ≡ true) ↔ Obeyed (Allperm m n) (m * n) top low high
   some-decides = obeyed-decides (Allperm m n) (allperm m n) (allperm-decides m n) (m * n) top low high
 
-  pub prunedYes-some : obeyed (allperm m n) (m * n) top low high ≡ true →
+  prunedYes-some : obeyed (allperm m n) (m * n) top low high ≡ true →
       prunedYes m n top low high ≡ record {
         number = 0;
         count = removed (allperm m n) (m * n) top low high;
@@ -47,7 +58,7 @@ module _ (m n top : ℕ) (low high : List ℕ) where
   unfolding prunedYes
   prunedYes-some t = rw (t, prunedYes)
 
-  pub prunedYes-none : obeyed (allperm m n) (m * n) top low high ≡ false → prunedYes m n top low high ≡ record { number = 102; count = 0; low = low; high = high }
+  prunedYes-none : obeyed (allperm m n) (m * n) top low high ≡ false → prunedYes m n top low high ≡ record { number = 102; count = 0; low = low; high = high }
   unfolding prunedYes
   prunedYes-none t = rw (t, prunedYes)
 
@@ -104,7 +115,7 @@ module _ (m n top : ℕ) (low high : List ℕ) where
 
 pub prune-exact : PruneExact
 unfolding PruneExact
-prune-exact = exactly
+prune-exact m n top low high l b = exactly m n top low high (prune-pass m n top low high .1 (l, b))
 
 pub prune-one-row : (n top : ℕ) (low high : List ℕ) → firstNo (pruneQuestions 1 n top low high) ≡ 0 →
     pruned 1 n top low high ≡ record { number = 0; count = 0; low = low; high = high }

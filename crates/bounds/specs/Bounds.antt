@@ -1,5 +1,6 @@
 -- Bounds on the cells of a grid, a list of lows and a list of highs: document 01's form.
 --
+--   IsBounds size top low high       ==  low and high are bounds: size values each, 0 to top, each low at most its high by rank
 --   InBounds size top low high g     ==  the grid g lies in the bounds: size cells, each 0 to top and, by rank, within its low to its high
 --   ranksWithin a b v                ==  the value v ranks within a to b
 --   between top a b                  ==  the values 0 to top that rank within a to b
@@ -14,6 +15,13 @@ use lib.ListN.{length, getD}
 use lib.Dec.{leb, eqb}
 use Rattle.permutations.specs.Lists.{numbers, select, every}
 use Rattle.grids.specs.Order.{rank}
+
+pub record IsBounds (size top : ℕ) (low high : List ℕ) : Type 0 where
+  pub low-size : length low ≡ size
+  pub high-size : length high ≡ size
+  pub low-cap : (k : ℕ) → k < size → getD low k 0 ≤ top
+  pub high-cap : (k : ℕ) → k < size → getD high k 0 ≤ top
+  pub in-order : (k : ℕ) → k < size → rank (getD low k 0) ≤ rank (getD high k 0)
 
 pub record InBounds (size top : ℕ) (low high g : List ℕ) : Type 0 where
   pub cells : length g ≡ size

@@ -1,18 +1,19 @@
 -- Demand 2's sentence on prune: if some grid within the bounds has allperm, a value is pruned exactly when no such grid has it;
 -- if none does, prune answers 102.
 --
---   Exact m n top low high r  ==  what the outcome r says of the bounds, where every question gets a yes
---   PruneExact                ==  the statement, on all arguments
+--   Exact m n top low high r  ==  what the outcome r says of the bounds
+--   PruneExact                ==  the statement, of all bounds within the limits
 use mathlib.Core.Path.{_≡_}
 use mathlib.Core.List.{List}
 use mathlib.Core.Logic.{_↔_}
 use Prim.Native.Nat.{ℕ, _*_, _≤_, _<_}
 use lib.ListN.{getD, length}
 use Rattle.grids.specs.Order.{rank}
-use Rattle.grids.specs.Questions.{firstNo}
+use Rattle.grids.specs.Questions.{Limits}
+use Rattle.bounds.specs.Bounds.{IsBounds}
 use Rattle.bounds.specs.Kept.{Obeyed, Kept, removed}
 use Rattle.bounds.specs.Allperm.{Allperm, allperm}
-use Rattle.bounds.specs.Prune.{pruneQuestions, Pruned, pruned}
+use Rattle.bounds.specs.Prune.{Pruned, pruned}
 
 pub record Exact (m n top : ℕ) (low high : List ℕ) (r : Pruned) : Type 0 where
   -- some grid has allperm: the number is 0, and a value lies in the new bounds of a cell exactly if some such grid has it there
@@ -28,5 +29,5 @@ pub record Exact (m n top : ℕ) (low high : List ℕ) (r : Pruned) : Type 0 whe
   pub none : (Obeyed (Allperm m n) (m * n) top low high → ⊥) → (r .number ≡ 102) × (r .count ≡ 0) × (r .low ≡ low) × (r .high ≡ high)
 
 unfoldable pub PruneExact : Type 0
-PruneExact = (m n top : ℕ) (low high : List ℕ) → firstNo (pruneQuestions m n top low high) ≡ 0 →
-    Exact m n top low high (pruned m n top low high)
+PruneExact =
+    (m n top : ℕ) (low high : List ℕ) → Limits m n top → IsBounds (m * n) top low high → Exact m n top low high (pruned m n top low high)

@@ -1,6 +1,6 @@
 -- What the answers of represent and same mean.
 --
---   represent-size, same-sizes  ==  where every question gets a yes the grids have their lengths
+--   represent-pass, same-pass  ==  what the questions get a yes for, exactly
 --   represent-least      ==  demand 2's sentence on represent
 --   represent-determined ==  two answers to the same arguments have one number and one output slice
 --   produces-class       ==  orders that produce b from a show the two in one class
@@ -9,58 +9,103 @@
 --   represent-answers, same-answers  ==  on all arguments there is an answer
 --   same-orders          ==  orders by which B is the arrangement of A, from those that produce the least grid from each
 use mathlib.Core.Path.{_≡_, refl, sym, ap, _∙_}
-use mathlib.Core.List.{List, _∷_}
+use mathlib.Core.List.{List, [], _∷_, List·Memᴰ·head, List·Memᴰ·tail}
 use mathlib.Core.Bool.{Bool, true, false}
 use mathlib.Core.Logic.{_↔_}
 use Prim.Native.Nat.{ℕ, zero, suc, _*_, _≤_}
 use native.Mathlib.Decide.{ℕ-discrete}
 use native.Mathlib.Omega.{arith}
 use lib.ListN.{length, take}
-use lib.Dec.{eqb}
-use borrow.Author.Tests.{eqb-true}
-use Rattle.permutations.specs.Lists.{every}
 use Rattle.permutations.specs.Permutations.{IsPermutation, identity, composed, inverse}
 use Rattle.permutations.specs.Padded.{padded}
-use Rattle.permutations.proofs.BoolLaws.{and-yes}
 use Rattle.permutations.proofs.PermutationLaws.{inverse-permutation, composed-inverse}
 use Rattle.permutations.proofs.PaddedLaws.{padded-own}
-use Rattle.grids.specs.Grids.{arrangement, OneClass, oneClass}
+use Rattle.grids.specs.Grids.{IsGrid, capped, arrangement, OneClass, oneClass}
 use Rattle.grids.specs.Least.{least}
-use Rattle.grids.specs.Questions.{Question, firstNo, question1, question2, question3, question6}
+use Rattle.grids.specs.Questions.{Question, firstNo, Limits, question1, question2, question3, question6, question7}
 use Rattle.grids.proofs.GridLaws.{arrangement-identity, arrangement-twice, class-passes, passes-class}
 use Rattle.grids.proofs.LeastLaws.{least-is, least-in-class, one-class-one-least}
-use Rattle.grids.proofs.QuestionLaws.{firstNo-yes, range-yes}
+use Rattle.grids.proofs.QuestionLaws.{AllYes, Numbered, first-no-zero, grid-of, grid-capped, all-one, all-two, limits-asked, lengths-asked, cells-asked}
 use Rattle.canonical.specs.Represent.{Produces, representQuestions, Represented}
 use Rattle.canonical.specs.Same.{sameQuestions, sameNumber, Compared}
 use Rattle.canonical.specs.Demand2.{RepresentLeast}
 
--- ---- lengths, from the questions
+-- ---- what the questions ask
 
-pub represent-size : (m n top : ℕ) (g out : List ℕ) → firstNo (representQuestions m n top g out) ≡ 0 → length g ≡ m * n
-unfolding representQuestions question1 question2 question3 question6 every
-represent-size m n top g out e =
-    let q1 = firstNo-yes 0 _ _ e in
-    let q2 = firstNo-yes 1 _ _ (q1 .1) in
-    let q3 = firstNo-yes 2 _ _ (q2 .1) in
-    let q6 = firstNo-yes 5 _ _ (q3 .1) in
-    eqb-true (length g) (m * n) (and-yes (eqb (length g) (m * n)) _ (q6 .0) .0)
+represent-numbered : (m n top : ℕ) (g out : List ℕ) → Numbered (representQuestions m n top g out)
+unfolding representQuestions question1 question2 question3 question6 question7
+represent-numbered m n top g out = (omega arith, (omega arith, (omega arith, (omega arith, (omega arith, tt)))))
 
-pub same-sizes : (m n top : ℕ) (a b : List ℕ) → firstNo (sameQuestions m n top a b) ≡ 0 → (length a ≡ m * n) × (length b ≡ m * n)
-unfolding sameQuestions question1 question2 question3 question6 every
-same-sizes m n top a b e =
-    let q1 = firstNo-yes 0 _ _ e in
-    let q2 = firstNo-yes 1 _ _ (q1 .1) in
-    let q3 = firstNo-yes 2 _ _ (q2 .1) in
-    let q6 = firstNo-yes 5 _ _ (q3 .1) in
-    let p = and-yes (eqb (length a) (m * n)) _ (q6 .0) in
-    (eqb-true (length a) (m * n) (p .0), eqb-true (length b) (m * n) (and-yes (eqb (length b) (m * n)) true (p .1) .0))
+same-numbered : (m n top : ℕ) (a b : List ℕ) → Numbered (sameQuestions m n top a b)
+unfolding sameQuestions question1 question2 question3 question6 question7
+same-numbered m n top a b = (omega arith, (omega arith, (omega arith, (omega arith, (omega arith, tt)))))
+
+-- represent's questions get a yes exactly for a grid within the limits and an output slice of its length
+pub represent-pass : (m n top : ℕ) (g out : List ℕ) → (firstNo (representQuestions m n top g out) ≡ 0) ↔ (Limits m n top × IsGrid m n top g × (length out ≡ m * n))
+unfolding representQuestions
+represent-pass m n top g out = (to, back)
+  where
+    rest : List Question
+    rest = question6 (m * n) (g ∷ out ∷ []) ∷ question7 top (g ∷ []) ∷ []
+
+    zeros : (firstNo (representQuestions m n top g out) ≡ 0) ↔ AllYes (representQuestions m n top g out)
+    zeros = first-no-zero (representQuestions m n top g out) (represent-numbered m n top g out)
+
+    to : firstNo (representQuestions m n top g out) ≡ 0 → Limits m n top × IsGrid m n top g × (length out ≡ m * n)
+    to e =
+        let h = limits-asked m n top rest .0 (zeros .0 e) in
+        let z = lengths-asked (m * n) (g ∷ out ∷ []) .0 (h .1 .0) in
+        let t = cells-asked top (g ∷ []) .0 (h .1 .1 .0) in
+        (h .0, grid-of m n top g (z g (List·Memᴰ·head refl)) (t g (List·Memᴰ·head refl)), z out (List·Memᴰ·tail (List·Memᴰ·head refl)))
+
+    back : Limits m n top × IsGrid m n top g × (length out ≡ m * n) → firstNo (representQuestions m n top g out) ≡ 0
+    back h =
+        zeros .1 (limits-asked m n top rest .1 (
+          h .0,
+          (
+            lengths-asked (m * n) (g ∷ out ∷ []) .1 (all-two (λ s. length s ≡ m * n) g out (h .1 .cells) (h .2)),
+            (cells-asked top (g ∷ []) .1 (all-one (λ s. capped top s ≡ true) g (grid-capped m n top g (h .1))), tt),
+          ),
+        ))
+
+-- same's get a yes exactly for two grids within the limits
+pub same-pass : (m n top : ℕ) (a b : List ℕ) → (firstNo (sameQuestions m n top a b) ≡ 0) ↔ (Limits m n top × IsGrid m n top a × IsGrid m n top b)
+unfolding sameQuestions
+same-pass m n top a b = (to, back)
+  where
+    rest : List Question
+    rest = question6 (m * n) (a ∷ b ∷ []) ∷ question7 top (a ∷ b ∷ []) ∷ []
+
+    zeros : (firstNo (sameQuestions m n top a b) ≡ 0) ↔ AllYes (sameQuestions m n top a b)
+    zeros = first-no-zero (sameQuestions m n top a b) (same-numbered m n top a b)
+
+    to : firstNo (sameQuestions m n top a b) ≡ 0 → Limits m n top × IsGrid m n top a × IsGrid m n top b
+    to e =
+        let h = limits-asked m n top rest .0 (zeros .0 e) in
+        let z = lengths-asked (m * n) (a ∷ b ∷ []) .0 (h .1 .0) in
+        let t = cells-asked top (a ∷ b ∷ []) .0 (h .1 .1 .0) in (
+          h .0,
+          grid-of m n top a (z a (List·Memᴰ·head refl)) (t a (List·Memᴰ·head refl)),
+          grid-of m n top b (z b (List·Memᴰ·tail (List·Memᴰ·head refl))) (t b (List·Memᴰ·tail (List·Memᴰ·head refl))),
+        )
+
+    back : Limits m n top × IsGrid m n top a × IsGrid m n top b → firstNo (sameQuestions m n top a b) ≡ 0
+    back h =
+        zeros .1 (limits-asked m n top rest .1 (
+          h .0,
+          (
+            lengths-asked (m * n) (a ∷ b ∷ []) .1 (all-two (λ s. length s ≡ m * n) a b (h .1 .cells) (h .2 .cells)),
+            (cells-asked top (a ∷ b ∷ []) .1 (all-two (λ s. capped top s ≡ true) a b (grid-capped m n top a (h .1)) (grid-capped m n top b (h .2))), tt),
+          ),
+        ))
 
 -- ---- represent
 
 pub represent-least : RepresentLeast
 unfolding RepresentLeast
-represent-least m n top g out number rows columns out′ r z =
-    (rw (r .written z) (least-is m n g (represent-size m n top g out (sym (r .number-is) ∙ z))), r .produced z .gives ∙ sym (r .written z))
+represent-least m n top g out l i e number rows columns out′ r =
+    let z = r .number-is ∙ represent-pass m n top g out .1 (l, i, e) in
+    (z, rw (r .written z) (least-is m n g (i .cells)), rw (r .written z) (r .produced z))
 
 pub represent-determined : (m n top : ℕ) (g out : List ℕ) (k : ℕ) (p q o : List ℕ) (k′ : ℕ) (p′ q′ o′ : List ℕ) →
     Represented m n top g out k p q o → Represented m n top g out k′ p′ q′ o′ → (k ≡ k′) × (o ≡ o′)
@@ -114,8 +159,8 @@ same-103 m n top a b e = (λ z c. let d = same-zero m n top a b e .1 c in omega 
 
 pub same-leasts : (m n top : ℕ) (a b : List ℕ) → firstNo (sameQuestions m n top a b) ≡ 0 → (sameNumber m n top a b ≡ 0) ↔ (least m n a ≡ least m n b)
 same-leasts m n top a b e =
-    let z = same-sizes m n top a b e in
-    let i = one-class-one-least m n a b (z .0) (z .1) in
+    let z = same-pass m n top a b .0 e in
+    let i = one-class-one-least m n a b (z .1 .cells) (z .2 .cells) in
     let j = same-zero m n top a b e in
     (λ h. i .0 (j .0 h), λ h. j .1 (i .1 h))
 
@@ -143,14 +188,6 @@ padded-produce m n a b hm hn c =
       column-rest = ap (padded 16 n) (sym f);
     }
 
--- the limits, where questions 1 and 2 get a yes
-limits : (m n : ℕ) (l : List Question) → firstNo (question1 m ∷ question2 n ∷ l) ≡ 0 → (m ≤ 8) × (n ≤ 16)
-unfolding question1 question2
-limits m n l e =
-    let q1 = firstNo-yes 0 _ _ e in
-    let q2 = firstNo-yes 1 _ _ (q1 .1) in
-    (range-yes 1 8 m (q1 .0) .1, range-yes 1 16 n (q2 .0) .1)
-
 pub represent-answers : (m n top : ℕ) (g out : List ℕ) → (number : ℕ) × (rows : List ℕ) × (columns : List ℕ) × (out′ : List ℕ) × Represented m n top g out number rows columns out′
 unfolding representQuestions
 represent-answers m n top g out = go (ℕ-discrete (firstNo (representQuestions m n top g out)) 0)
@@ -160,8 +197,8 @@ represent-answers m n top g out = go (ℕ-discrete (firstNo (representQuestions 
 
     go : Dec (k ≡ 0) → (number : ℕ) × (rows : List ℕ) × (columns : List ℕ) × (out′ : List ℕ) × Represented m n top g out number rows columns out′
     go (yes z) =
-        let c = least-in-class m n g (represent-size m n top g out z) in
-        let h = limits m n _ z in (
+        let h = represent-pass m n top g out .0 z in
+        let c = least-in-class m n g (h .1 .cells) in (
           k,
           padded 8 m (c .rows),
           padded 16 n (c .columns),
@@ -169,7 +206,7 @@ represent-answers m n top g out = go (ℕ-discrete (firstNo (representQuestions 
           record {
             number-is = refl;
             written = λ e. refl;
-            produced = λ e. padded-produce m n g (least m n g) (h .0) (h .1) c;
+            produced = λ e. padded-produce m n g (least m n g) (h .0 .rows-limits .1) (h .0 .column-limits .1) c;
             unchanged = λ ne. absurd (ne z);
             starting = λ ne. absurd (ne z);
           },
@@ -199,13 +236,13 @@ same-answers m n top a b = go (ℕ-discrete (sameNumber m n top a b) 0)
     go (yes z) =
         let e = same-asked m n top a b z in
         let c = same-zero m n top a b e .0 z in
-        let h = limits m n _ e in (
+        let h = same-pass m n top a b .0 e .0 in (
           k,
           padded 8 m (c .rows),
           padded 16 n (c .columns),
           record {
             number-is = refl;
-            produced = λ e. padded-produce m n a b (h .0) (h .1) c;
+            produced = λ e. padded-produce m n a b (h .rows-limits .1) (h .column-limits .1) c;
             starting = λ ne. absurd (ne z);
           },
         )

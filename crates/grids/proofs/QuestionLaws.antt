@@ -1,29 +1,60 @@
 -- Laws of the questions.
 --
---   firstNo-yes     ==  where no question of a list gets a no, the first gets a yes and none of the others gets a no
---   firstNo-pass    ==  a question that gets a yes is passed over
---   range-yes, yes-range  ==  what the test of a range says
---   capped-at, at-capped   ==  what question 7 asks of a slice
-use mathlib.Core.Path.{_≡_, refl}
-use mathlib.Core.List.{List, _∷_}
+--   AllYes l, Numbered l   ==  every question of l gets a yes; every question of l has a number above 0
+--   first-no-zero          ==  no question gets a no exactly where every question gets a yes
+--   firstNo-pass, firstNo-stop  ==  a question that gets a yes is passed over; one that gets a no gives its number
+--   range-yes, yes-range   ==  what the test of a range says
+--   capped-at, at-capped, grid-of, grid-capped, grid-decides  ==  what the tests of cells and of a grid say
+--   all-one, all-two       ==  what holds of each of one or two slices holds of every slice of the list
+--   limits-asked           ==  questions 1 to 3 ask the limits
+--   lengths-asked, cells-asked  ==  what questions 6 and 7 ask of slices
+use mathlib.Core.Path.{_≡_, refl, _∙_}
+use mathlib.Core.List.{List, [], _∷_, List·Memᴰ, List·Memᴰ·not-nil, List·Memᴰ·cases-cons}
 use mathlib.Core.Bool.{Bool, true, false}
-use Prim.Native.Nat.{ℕ, suc, _≤_, _<_}
+use mathlib.Core.Logic.{_⊎_, inl, inr, _↔_}
+use Prim.Native.Nat.{ℕ, _*_, _≤_, _<_}
 use native.Mathlib.Omega.{arith}
 use lib.ListN.{length, getD}
-use lib.Dec.{leb}
-use borrow.Author.Tests.{leb-true, le-leb}
+use lib.Dec.{leb, eqb}
+use borrow.Author.Tests.{leb-true, le-leb, eqb-true, eq-eqb}
 use Rattle.permutations.proofs.BoolLaws.{and-yes, yes-and}
 use Rattle.permutations.proofs.ListLaws.{every-at, at-every, mem-at, of-mem}
-use Rattle.grids.specs.Questions.{Question, firstNo, inRange, capped}
+use Rattle.grids.specs.Grids.{IsGrid, capped, isGrid}
+use Rattle.grids.specs.Questions.{Question, firstNo, inRange, Limits, question1, question2, question3, question6, question7}
 
-pub firstNo-yes : (k : ℕ) (b : Bool) (l : List Question) → firstNo (record { number = suc k; answer = b } ∷ l) ≡ 0 → (b ≡ true) × (firstNo l ≡ 0)
-unfolding firstNo
-firstNo-yes k true l e = (refl, e)
-firstNo-yes k false l e = absurd (omega arith)
+abbrev pub AllYes : List Question → Type 0
+AllYes [] = Unit {0}
+AllYes (q ∷ l) = (q .answer ≡ true) × AllYes l
+
+abbrev pub Numbered : List Question → Type 0
+Numbered [] = Unit {0}
+Numbered (q ∷ l) = (0 < q .number) × Numbered l
 
 pub firstNo-pass : (q : Question) (l : List Question) → q .answer ≡ true → firstNo (q ∷ l) ≡ firstNo l
 unfolding firstNo
 firstNo-pass q l e = rw (e, firstNo)
+
+pub firstNo-stop : (q : Question) (l : List Question) → q .answer ≡ false → firstNo (q ∷ l) ≡ q .number
+unfolding firstNo
+firstNo-stop q l e = rw (e, firstNo)
+
+all-pass : (l : List Question) → AllYes l → firstNo l ≡ 0
+unfolding firstNo
+all-pass [] h = refl
+all-pass (q ∷ l) h = firstNo-pass q l (h .0) ∙ all-pass l (h .1)
+
+none-refused : (l : List Question) → Numbered l → firstNo l ≡ 0 → AllYes l
+none-refused [] p e = tt
+none-refused (q ∷ l) p e = go (none-refused l (p .1)) (q .answer) refl
+  where
+    go : (firstNo l ≡ 0 → AllYes l) → (b : Bool) → q .answer ≡ b → AllYes (q ∷ l)
+    go ih true d = (d, ih (rw (firstNo-pass q l d) at e))
+    go ih false d = let z = firstNo-stop q l d in absurd (omega (arith, p .0))
+
+pub first-no-zero : (l : List Question) → Numbered l → (firstNo l ≡ 0) ↔ AllYes l
+first-no-zero l p = (none-refused l p, all-pass l)
+
+-- ---- what the tests say
 
 pub range-yes : (a b x : ℕ) → inRange a b x ≡ true → (a ≤ x) × (x ≤ b)
 unfolding inRange
@@ -40,3 +71,49 @@ capped-at top g e k h = leb-true (getD g k 0) top (every-at (λ x. leb x top) g 
 pub at-capped : (top : ℕ) (g : List ℕ) → ((k : ℕ) → k < length g → getD g k 0 ≤ top) → capped top g ≡ true
 unfolding capped
 at-capped top g h = at-every (λ x. leb x top) g λ x m. let r = of-mem g 0 x m in le-leb x top (rw (r .2) (h (r .0) (r .1)))
+
+-- a grid by its length and its test of cells
+pub grid-of : (m n top : ℕ) (g : List ℕ) → length g ≡ m * n → capped top g ≡ true → IsGrid m n top g
+grid-of m n top g z t = record { cells = z; capped = λ k h. capped-at top g t k (omega arith) }
+
+pub grid-capped : (m n top : ℕ) (g : List ℕ) → IsGrid m n top g → capped top g ≡ true
+grid-capped m n top g i = let z = i .cells in at-capped top g (λ k h. i .capped k (omega arith))
+
+pub grid-decides : (m n top : ℕ) (g : List ℕ) → (isGrid m n top g ≡ true) ↔ IsGrid m n top g
+unfolding isGrid
+grid-decides m n top g = (
+  λ e. let p = and-yes (eqb (length g) (m * n)) (capped top g) e in grid-of m n top g (eqb-true (length g) (m * n) (p .0)) (p .1),
+  λ i. yes-and (eqb (length g) (m * n)) (capped top g) (eq-eqb (length g) (m * n) (i .cells)) (grid-capped m n top g i),
+)
+
+-- ---- what the questions ask
+
+pub all-one : {A : Type 0} (P : A → Type 0) (a : A) → P a → (x : A) → List·Memᴰ x (a ∷ []) → P x
+all-one P a h x m = go (List·Memᴰ·cases-cons m)
+  where
+    go : (x ≡ a) ⊎ List·Memᴰ x [] → P x
+    go (inl e) = rw e h
+    go (inr k) = absurd (List·Memᴰ·not-nil k)
+
+pub all-two : {A : Type 0} (P : A → Type 0) (a b : A) → P a → P b → (x : A) → List·Memᴰ x (a ∷ b ∷ []) → P x
+all-two P a b h k x m = go (List·Memᴰ·cases-cons m)
+  where
+    go : (x ≡ a) ⊎ List·Memᴰ x (b ∷ []) → P x
+    go (inl e) = rw e h
+    go (inr n) = all-one P b k x n
+
+pub limits-asked : (m n top : ℕ) (l : List Question) → AllYes (question1 m ∷ question2 n ∷ question3 top ∷ l) ↔ (Limits m n top × AllYes l)
+unfolding question1 question2 question3
+limits-asked m n top l = (
+  λ h. (record { rows-limits = range-yes 1 8 m (h .0); column-limits = range-yes 1 16 n (h .1 .0); top-limit = range-yes 0 15 top (h .1 .1 .0) .1 }, h .1 .1 .1),
+  λ h. (yes-range 1 8 m (h .0 .rows-limits), (yes-range 1 16 n (h .0 .column-limits), (yes-range 0 15 top (omega arith, h .0 .top-limit), h .1))),
+)
+
+pub lengths-asked : (size : ℕ) (l : List (List ℕ)) → (question6 size l .answer ≡ true) ↔ ((s : List ℕ) → List·Memᴰ s l → length s ≡ size)
+unfolding question6
+lengths-asked size l =
+    (λ e s m. eqb-true (length s) size (every-at (λ s. eqb (length s) size) l e s m), λ h. at-every (λ s. eqb (length s) size) l (λ s m. eq-eqb (length s) size (h s m)))
+
+pub cells-asked : (top : ℕ) (l : List (List ℕ)) → (question7 top l .answer ≡ true) ↔ ((s : List ℕ) → List·Memᴰ s l → capped top s ≡ true)
+unfolding question7
+cells-asked top l = (every-at (capped top) l, at-every (capped top) l)

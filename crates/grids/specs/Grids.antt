@@ -3,6 +3,8 @@
 --   cell n g i j           ==  the cell in row i, column j of the grid g of n columns
 --   gridOf m n f           ==  the grid of m rows and n columns with f i j in row i, column j
 --   IsGrid m n top g       ==  g has m * n cells, each 0 to top
+--   capped top g           ==  the test that every cell is at most top
+--   isGrid m n top g       ==  the test of IsGrid
 --   row n g i              ==  row i from the left
 --   column m n g j         ==  column j from the top
 --   permutedRow n g i q    ==  row i, its cells in the order q
@@ -12,10 +14,11 @@
 --   oneClass m n a b       ==  the test of it, over all orders
 use mathlib.Core.Path.{_≡_}
 use mathlib.Core.List.{List}
-use mathlib.Core.Bool.{Bool}
+use mathlib.Core.Bool.{Bool, _&&_}
 use Prim.Native.Nat.{ℕ, _+_, _*_, _/_, _%_, _≤_, _<_}
 use lib.ListN.{length, getD}
-use Rattle.permutations.specs.Lists.{tabulate, some}
+use lib.Dec.{leb, eqb}
+use Rattle.permutations.specs.Lists.{tabulate, every, some}
 use Rattle.permutations.specs.Permutations.{IsPermutation, permutations}
 use Rattle.grids.specs.Order.{equal}
 
@@ -28,6 +31,12 @@ gridOf m n f = tabulate 0 (m * n) (λ k. f (k / n) (k % n))
 pub record IsGrid (m n top : ℕ) (g : List ℕ) : Type 0 where
   pub cells : length g ≡ m * n
   pub capped : (k : ℕ) → k < m * n → getD g k 0 ≤ top
+
+unfoldable pub capped : ℕ → List ℕ → Bool
+capped top g = every (λ x. leb x top) g
+
+unfoldable pub isGrid : ℕ → ℕ → ℕ → List ℕ → Bool
+isGrid m n top g = eqb (length g) (m * n) && capped top g
 
 unfoldable pub row : ℕ → List ℕ → ℕ → List ℕ
 row n g i = tabulate 0 n (λ j. cell n g i j)

@@ -3,18 +3,19 @@
 --   Question            ==  its number, and whether it gets a yes
 --   firstNo l           ==  the number of the first question of l that gets a no; 0 if each gets a yes
 --   inRange a b x       ==  x is a to b
+--   Limits m n top      ==  m is 1 to 8, n is 1 to 16, top is 0 to 15: what questions 1 to 3 ask
 --   question1 m         ==  are the rows 1 to 8?
 --   question2 n         ==  are the columns 1 to 16?
 --   question3 top       ==  is top 0 to 15?
 --   question6 size l    ==  has every slice of l its exact length?
 --   question7 top l     ==  is every cell or bound of the slices of l at most top?
---   capped top g        ==  every cell of g is at most top
 use mathlib.Core.List.{List, [], _∷_}
 use mathlib.Core.Bool.{Bool, true, false, _&&_}
-use Prim.Native.Nat.{ℕ}
+use Prim.Native.Nat.{ℕ, _≤_}
 use lib.ListN.{length}
 use lib.Dec.{leb, eqb}
 use Rattle.permutations.specs.Lists.{every}
+use Rattle.grids.specs.Grids.{capped}
 
 pub record Question : Type 0 where
   pub number : ℕ
@@ -27,8 +28,10 @@ firstNo (q ∷ l) = elim (q .answer) [ true ↦ firstNo l | false ↦ q .number 
 unfoldable pub inRange : ℕ → ℕ → ℕ → Bool
 inRange a b x = leb a x && leb x b
 
-unfoldable pub capped : ℕ → List ℕ → Bool
-capped top g = every (λ x. leb x top) g
+pub record Limits (m n top : ℕ) : Type 0 where
+  pub rows-limits : (1 ≤ m) × (m ≤ 8)
+  pub column-limits : (1 ≤ n) × (n ≤ 16)
+  pub top-limit : top ≤ 15
 
 unfoldable pub question1 : ℕ → Question
 question1 m = record { number = 1; answer = inRange 1 8 m }

@@ -6,9 +6,9 @@ use mathlib.Core.List.{flatMap}
 use Rattle.permutations.specs.Lists.{tabulate, numbers, select, every, some, occurrences}
 use Rattle.permutations.specs.Permutations.{isPermutation, words, permutations}
 use Rattle.grids.specs.Order.{rank, leq, equal}
-use Rattle.grids.specs.Grids.{gridOf, row, permutedRow, arrangement, oneClass}
+use Rattle.grids.specs.Grids.{capped, gridOf, row, permutedRow, arrangement, oneClass}
 use Rattle.grids.specs.Least.{arrangements, lesser, leastOf, least}
-use Rattle.grids.specs.Questions.{firstNo, inRange, capped, question1, question2, question3, question6, question7}
+use Rattle.grids.specs.Questions.{firstNo, inRange, question1, question2, question3, question6, question7}
 use Rattle.canonical.specs.Represent.{representQuestions}
 use Rattle.canonical.specs.Same.{sameQuestions, sameNumber}
 use Rattle.bounds.specs.Bounds.{ranksWithin, between, fillings, gridsWithin}

@@ -1,1 +1,2 @@
 pub mod MarkedPlans
+pub mod Edges

@@ -37,7 +37,7 @@ Holds (compares m n top a b number) = sameNumber m n top a b ≡ number
 Holds (satisfies m n g answer) = allperm m n g ≡ answer
 Holds (prunes m n top low high outcome) = pruned m n top low high ≡ outcome
 
-unfoldable pub All : (Case → Type 0) → List Case → Type 0
+unfoldable pub All : {A : Type 0} → (A → Type 0) → List A → Type 0
 All P [] = Unit {0}
 All P (c ∷ l) = P c × All P l
 

@@ -13,7 +13,7 @@
 --   composedPadded-is, take-composedPadded, composedPadded-permutation  ==  of sound arguments: the composed permutation, padded
 --   inversePadded-is, take-inversePadded, inversePadded-permutation     ==  of a sound argument: the inverse permutation, padded
 --   composedPadded-no, composedPadded-sizes, composedPadded-first, composedPadded-second, inversePadded-no  ==  of others: the identity
---   isSound-composed, isSound-inverse  ==  every result passes the test
+--   isSound-composed, isSound-inverse  ==  with a size of 1 to width every result passes the test
 --   composed-inversePadded, inversePadded-composed  ==  composed with its inverse, on either side, a permutation is the identity
 --   isSound-first, followed-is, reversed-is, own-composed, own-inverse, composed-of, inverse-of  ==  what the code makes of w numbers, in its first `width` positions
 use mathlib.Core.Path.{_≡_, refl, sym, ap, _∙_}

@@ -3,6 +3,7 @@
 --   call-same            ==  each call on the machine's bytes answers and leaves what the machine does
 --   run-same, left-shown ==  the same of whole lists
 --   step-not-5, never-five  ==  question 5 never gets a no
+--   open-answers         ==  an open whose questions all get a yes answers 0
 --   opened-good, opened-shown  ==  after an open that answered 0: the empty set and its bytes
 --   fit-counts           ==  an accepted fit counts the classes whose least grid lies in the bounds as sent
 --   shown-count          ==  the machine's bytes state the size of its set
@@ -18,8 +19,8 @@ use lib.ListN.{length}
 use lib.Dec.{ltb, eqb}
 use Rattle.permutations.specs.Lists.{select, some, every}
 use Rattle.permutations.proofs.ListLaws.{select-none}
-use Rattle.grids.specs.Questions.{firstNo, question1, question2, question3, question6, question7}
-use Rattle.grids.proofs.QuestionLaws.{firstNo-yes, range-yes}
+use Rattle.grids.specs.Questions.{firstNo, question6, question7}
+use Rattle.register.proofs.AskedLaws.{open-pass}
 use Rattle.bounds.specs.Bounds.{inBounds}
 use Rattle.bounds.specs.Kept.{Obeyed, obeyed}
 use Rattle.bounds.specs.Allperm.{Allperm, allperm}
@@ -27,14 +28,14 @@ use Rattle.bounds.specs.Prune.{boundsQuestions, question8}
 use Rattle.bounds.proofs.KeptLaws.{obeyed-decides}
 use Rattle.bounds.proofs.AllpermLaws.{allperm-decides, least-allperm}
 use Rattle.bounds.proofs.PruneLaws.{none-in-bounds}
-use Rattle.register.specs.Layout.{Shape, Register, cells, layout, count, decode}
-use Rattle.register.specs.Calls.{Outcome, answered, question4, gridQuestions, leastIn, holds, openQuestions, opened, fitted}
-use Rattle.register.specs.Machine.{Call, enter, strike, fit, sorted, shown, Step, stepUnless, enterClass, strikeClass, fitClasses, step, outcome, outcomes, afterwards}
-use Rattle.register.specs.Demand3.{called, run, left, accepted, liveAfter, live, ListsLive, Demand3}
+use Rattle.register.specs.Layout.{Shape, Register, cells, layout, layoutLength, count, decode, InLimits}
+use Rattle.register.specs.Calls.{Outcome, answered, gridQuestions, leastIn, holds, opened, fitted}
+use Rattle.register.specs.Machine.{Call, enter, strike, fit, sorted, shown, Step, stepUnless, enterClass, strikeClass, fitClasses, step, outcome, outcomes}
+use Rattle.register.specs.Demand3.{called, run, left, accepted, liveAfter, live, ListsLive, AfterOpen, Demand3}
 use Rattle.register.proofs.LayoutLaws.{count-layout}
 use Rattle.register.proofs.RegisterLaws.{register-printable}
 use Rattle.register.proofs.SortedLaws.{Grids, asc-ext, in-sorted, of-sorted, sorted-asc, length-sorted, holds-sorted}
-use Rattle.register.proofs.MachineLaws.{Good, registerOf, good-register, reads, self-least, enter-same, strike-same, fit-same, step-good, afterwards-good}
+use Rattle.register.proofs.MachineLaws.{Good, registerOf, good-register, reads, self-least, enter-same, strike-same, fit-same, step-good, afterwards, afterwards-good}
 use Rattle.register.proofs.LiveLaws.{bounds-refused, live-held, lists-held}
 
 -- ---- whole lists
@@ -121,28 +122,22 @@ answered-zero zero b o e = (refl, refl)
 answered-zero (suc k) b o e = absurd (omega arith)
 
 pub opened-good : (s : Shape) (b : List ℕ) → opened s b .number ≡ 0 → Good s []
-unfolding opened openQuestions question1 question2 question3 question4
-opened-good s b e =
-    let q1 = firstNo-yes 0 _ _ (answered-zero _ b _ e .0) in
-    let q2 = firstNo-yes 1 _ _ (q1 .1) in
-    let q3 = firstNo-yes 2 _ _ (q2 .1) in
-    let q4 = firstNo-yes 3 _ _ (q3 .1) in
-    record {
-      limits = record {
-        rows-limits = range-yes 1 8 (s .rows) (q1 .0);
-        column-limits = range-yes 1 16 (s .columns) (q2 .0);
-        top-limit = range-yes 0 15 (s .top) (q3 .0) .1;
-        capacity-limits = range-yes 1 500 (s .capacity) (q4 .0);
-      };
-      once = tt;
-      fits = omega arith;
-      grids = λ r m. absurd (List·Memᴰ·not-nil m);
-      leasts = λ r m. absurd (List·Memᴰ·not-nil m);
-    }
+unfolding opened
+opened-good s b e = record {
+  limits = open-pass s b .0 (answered-zero _ b _ e .0) .0;
+  once = tt;
+  fits = omega arith;
+  grids = λ r m. absurd (List·Memᴰ·not-nil m);
+  leasts = λ r m. absurd (List·Memᴰ·not-nil m);
+}
 
 pub opened-shown : (s : Shape) (b : List ℕ) → opened s b .number ≡ 0 → opened s b .bytes ≡ shown s []
 unfolding opened shown sorted
 opened-shown s b e = answered-zero _ b _ e .1
+
+pub open-answers : (s : Shape) (b : List ℕ) → InLimits s → length b ≡ layoutLength s → opened s b ≡ record { number = 0; place = 0; bytes = shown s [] }
+unfolding opened answered shown sorted
+open-answers s b l z = ap (λ (k : ℕ). answered k b (record { number = 0; place = 0; bytes = shown s [] })) (open-pass s b .1 (l, z))
 
 -- ---- the consequences, of a good set
 
@@ -244,9 +239,8 @@ module _ (s : Shape) (slice slice′ : List ℕ) (e : opened s slice .number ≡
           (λ r m. in-sorted k r (moved (s .rows) (s .columns) _ _ l k (end-lists s slice′ e′ calls′) (end-lists s slice e calls) (λ a z. sym (f a z)) r (of-sorted l r m))))
           ∙ sym (end-bytes s slice′ e′ calls′)
 
-pub demand3 : Demand3
-unfolding Demand3
-demand3 s slice e calls = record {
+after-open : (s : Shape) (slice : List ℕ) → opened s slice .number ≡ 0 → (calls : List Call) → AfterOpen s (opened s slice .bytes) calls
+after-open s slice e calls = record {
   starts = opened-shown s slice e;
   answers = end-run s slice e calls;
   laid = rw (end-run s slice e calls) (never-five s calls []);
@@ -256,3 +250,6 @@ demand3 s slice e calls = record {
   fits = λ low high h. rw (end-bytes s slice e calls) (fit-counts s (end s slice e calls) (end-good s slice e calls) low high (rw (end-bytes s slice e calls) at h));
   bytes-live = λ slice′ e′ calls′. bytes-live s slice slice′ e e′ calls calls′;
 }
+
+pub demand3 : Demand3
+demand3 = record { opens = open-answers; follows = after-open }

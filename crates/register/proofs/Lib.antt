@@ -1,8 +1,10 @@
 pub mod DecimalLaws
 pub mod LayoutLaws
 pub mod RegisterLaws
+pub mod AskedLaws
 pub mod RefusalLaws
 pub mod SortedLaws
+pub mod CallLaws
 pub mod MachineLaws
 pub mod LiveLaws
 pub mod Demand3Laws

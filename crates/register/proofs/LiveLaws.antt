@@ -25,10 +25,11 @@ use Rattle.grids.proofs.LeastLaws.{class-least, least-class}
 use Rattle.bounds.specs.Prune.{boundsQuestions, question8}
 use Rattle.register.specs.Layout.{Shape, cells}
 use Rattle.register.specs.Calls.{gridQuestions, leastIn, holds, without}
-use Rattle.register.specs.Machine.{Call, enter, strike, fit, Step, stepUnless, enterClass, strikeClass, fitClasses, step, outcome, outcomes, afterwards}
+use Rattle.register.specs.Machine.{Call, enter, strike, fit, Step, stepUnless, enterClass, strikeClass, fitClasses, step, outcome, outcomes}
 use Rattle.register.specs.Demand3.{accepted, liveNext, liveAfter, ListsLive}
 use Rattle.register.proofs.SortedLaws.{Grids, holds-in, in-holds}
-use Rattle.register.proofs.MachineLaws.{Good, grid-ok, fit-keeps}
+use Rattle.register.proofs.AskedLaws.{grid-pass}
+use Rattle.register.proofs.MachineLaws.{Good, fit-keeps, afterwards}
 
 pub class-equal : (m n : ℕ) (a b : List ℕ) → length a ≡ m * n → length b ≡ m * n → oneClass m n a b ≡ equal (least m n a) (least m n b)
 class-equal m n a b e f =
@@ -114,7 +115,7 @@ module _ (s : Shape) (l : Grids) (a : List ℕ) (z : length a ≡ cells s) where
     where
       go : (k : ℕ) → firstNo (gridQuestions s g) ≡ k →
           holds (leastIn s a) (stepUnless k l c .next) ≡ Chosen (accepted (stepUnless k l c .number) && oneClass (s .rows) (s .columns) g a) x (holds (leastIn s a) l)
-      go zero e = rw (class-equal (s .rows) (s .columns) g a (grid-ok s g e .cells) z) h
+      go zero e = rw (class-equal (s .rows) (s .columns) g a (grid-pass s g .0 e .cells) z) h
       go (suc k) e = rw (grid-refused s g k e)
 
   held-fit : (k : ℕ) (low high : List ℕ) → holds (leastIn s a) (stepUnless k l (fitClasses s l low high) .next) ≡ holds (leastIn s a) l

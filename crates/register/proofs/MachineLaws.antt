@@ -3,41 +3,42 @@
 --   Good s l         ==  what holds of a set reached by calls: limits, no class twice, at most capacity classes, each by its least grid
 --   registerOf s l   ==  the register that the machine shows
 --   good-register, reads, laid  ==  it is one, the machine's bytes state it, and question 5 gets a yes
---   grid-ok          ==  what passes questions 6 and 7 is a grid
 --   self-least       ==  a grid of the set is the least of its class
 --   enter-same, strike-same, fit-same  ==  each call on the machine's bytes answers and leaves what the machine does
 --   fit-keeps        ==  a fit changes no set
+--   afterwards s l calls  ==  the set after the calls
 --   step-good, afterwards-good  ==  a good set stays good
 use mathlib.Core.Path.{_≡_, refl, sym, ap, _∙_}
 use mathlib.Core.List.{List, [], _∷_, List·Memᴰ, List·Memᴰ·cases-cons}
 use mathlib.Core.Bool.{Bool, true, false, true≢false, not}
-use mathlib.Core.Logic.{_⊎_, inl, inr}
+use mathlib.Core.Logic.{_⊎_, inl, inr, _↔_}
 use Prim.Native.Nat.{ℕ, zero, suc, _≤_, _<_}
 use native.Mathlib.Omega.{arith}
 use lib.ListN.{length}
-use lib.Dec.{ltb, eqb}
-use borrow.Author.Tests.{eqb-true, ltb-true}
-use Rattle.permutations.specs.Lists.{select, every}
-use Rattle.permutations.proofs.BoolLaws.{and-yes}
+use lib.Dec.{ltb}
+use borrow.Author.Tests.{ltb-true}
+use Rattle.permutations.specs.Lists.{select}
 use Rattle.permutations.proofs.ListLaws.{of-select, select-ext, length-select}
 use Rattle.grids.specs.Order.{less, equal}
 use Rattle.grids.specs.Grids.{IsGrid}
 use Rattle.grids.specs.Least.{IsLeast}
-use Rattle.grids.specs.Questions.{Question, firstNo, capped, question6, question7}
+use Rattle.grids.specs.Questions.{Question, firstNo, question6, question7}
 use Rattle.grids.proofs.LeastLaws.{least-is, least-grid, least-least}
-use Rattle.grids.proofs.QuestionLaws.{firstNo-yes, firstNo-pass, capped-at}
-use Rattle.bounds.specs.Bounds.{inBounds}
+use Rattle.grids.proofs.QuestionLaws.{firstNo-pass}
+use Rattle.bounds.specs.Bounds.{IsBounds, inBounds}
 use Rattle.bounds.specs.Kept.{Obeyed, obeyed, keptLow, keptHigh}
 use Rattle.bounds.specs.Allperm.{Allperm, allperm}
-use Rattle.bounds.specs.Prune.{boundsQuestions, prunedYes}
+use Rattle.bounds.specs.Prune.{boundsQuestions, pruneQuestions, pruned}
+use Rattle.bounds.proofs.BoundsLaws.{bounds-pass}
 use Rattle.bounds.proofs.KeptLaws.{obeyed-decides}
 use Rattle.bounds.proofs.AllpermLaws.{allperm-decides}
-use Rattle.bounds.proofs.PruneLaws.{prunedYes-some, prunedYes-none, least-same-bounds}
+use Rattle.bounds.proofs.PruneLaws.{prune-pass, pruned-some, pruned-none, least-same-bounds}
 use Rattle.register.specs.Layout.{Shape, Register, cells, layout, decode, InLimits, IsRegister, laidOut}
 use Rattle.register.specs.Calls.{Outcome, answered, question5, question9, question10, gridQuestions, leastIn, holds, placeIn, without, enterInto, strikeFrom, enterQuestions, strikeQuestions, fitQuestions, enterRegister, strikeRegister, fitPruned, fitRegister, entered, struck, fitted}
-use Rattle.register.specs.Machine.{Call, enter, strike, fit, sorted, shown, Step, stepUnless, enterClass, strikeClass, fitClasses, step, outcome, afterwards}
+use Rattle.register.specs.Machine.{Call, enter, strike, fit, sorted, shown, Step, stepUnless, enterClass, strikeClass, fitClasses, step, outcome}
 use Rattle.register.specs.Demand3.{Once}
 use Rattle.register.proofs.LayoutLaws.{decode-layout}
+use Rattle.register.proofs.AskedLaws.{grid-pass}
 use Rattle.register.proofs.RegisterLaws.{register-printable, question5-layouts}
 use Rattle.register.proofs.SortedLaws.{Grids, in-holds, of-sorted, sorted-asc, length-sorted, count-sorted, holds-sorted, select-once, sorted-select}
 
@@ -70,16 +71,6 @@ module _ (s : Shape) (l : Grids) (g : Good s l) where
   pub laid : laidOut (shown s l) ≡ true
   unfolding shown registerOf
   laid = question5-layouts (shown s l) .1 (registerOf s l, good-register, refl)
-
--- ---- a grid that passes questions 6 and 7
-
-pub grid-ok : (s : Shape) (g : List ℕ) → firstNo (gridQuestions s g) ≡ 0 → IsGrid (s .rows) (s .columns) (s .top) g
-unfolding gridQuestions question6 question7 every
-grid-ok s g e =
-    let a = firstNo-yes 5 _ _ e in
-    let b = firstNo-yes 6 _ _ (a .1) in
-    let z : length g ≡ cells s = eqb-true (length g) (cells s) (and-yes (eqb (length g) (cells s)) true (a .0) .0) in
-    record { cells = z; capped = λ k h. capped-at (s .top) g (and-yes (capped (s .top) g) true (b .0) .0) k (omega arith) }
 
 -- the two questions of a grid and one more
 one-more : (p q t : Bool) (k : ℕ) →
@@ -168,32 +159,35 @@ module _ (s : Shape) (l : Grids) (g : Good s l) where
   pub self-least : (r : List ℕ) → List·Memᴰ r l → IsLeast (s .rows) (s .columns) r r
   self-least r m = rw (g .leasts r m) at (least-is (s .rows) (s .columns) r (g .grids r m .cells))
 
-  fit-classes : (low high : List ℕ) → fitPruned (shown s l) (registerOf s l) (prunedYes (s .rows) (s .columns) (s .top) low high) ≡ outcome s (fitClasses s l low high)
+  fit-classes : (low high : List ℕ) → IsBounds (cells s) (s .top) low high → fitPruned (shown s l) (registerOf s l) (pruned (s .rows) (s .columns) (s .top) low high) ≡ outcome s (fitClasses s l low high)
   unfolding fitPruned fitClasses outcome registerOf
-  fit-classes low high = go (obeyed rule (cells s) (s .top) low high) refl
+  fit-classes low high i = go (obeyed rule (cells s) (s .top) low high) refl
     where
       rule : List ℕ → Bool
       rule = allperm (s .rows) (s .columns)
 
-      some : obeyed rule (cells s) (s .top) low high ≡ true → Obeyed (Allperm (s .rows) (s .columns)) (cells s) (s .top) low high
-      some e = obeyed-decides (Allperm (s .rows) (s .columns)) rule (allperm-decides (s .rows) (s .columns)) (cells s) (s .top) low high .0 e
+      asked : firstNo (pruneQuestions (s .rows) (s .columns) (s .top) low high) ≡ 0
+      asked = prune-pass (s .rows) (s .columns) (s .top) low high .1 (g .limits .grid-limits, i)
+
+      decides : (obeyed rule (cells s) (s .top) low high ≡ true) ↔ Obeyed (Allperm (s .rows) (s .columns)) (cells s) (s .top) low high
+      decides = obeyed-decides (Allperm (s .rows) (s .columns)) rule (allperm-decides (s .rows) (s .columns)) (cells s) (s .top) low high
 
       inside : obeyed rule (cells s) (s .top) low high ≡ true →
           length (select (inBounds (cells s) (s .top) (keptLow rule (cells s) (s .top) low high) (keptHigh rule (cells s) (s .top) low high)) (sorted l)) ≡ length (select (inBounds (cells s) (s .top) low high) l)
       inside e =
-          count-sorted _ l (g .once) ∙ ap length (select-ext _ _ l (λ r m. least-same-bounds (s .rows) (s .columns) (s .top) low high (some e) r r (self-least r m)))
+          count-sorted _ l (g .once) ∙ ap length (select-ext _ _ l (λ r m. least-same-bounds (s .rows) (s .columns) (s .top) low high (decides .0 e) r r (self-least r m)))
 
       go : (t : Bool) → obeyed rule (cells s) (s .top) low high ≡ t →
-          fitPruned (shown s l) (registerOf s l) (prunedYes (s .rows) (s .columns) (s .top) low high) ≡ outcome s (fitClasses s l low high)
-      go true e = ap (fitPruned (shown s l) (registerOf s l)) (prunedYes-some (s .rows) (s .columns) (s .top) low high e) ∙ rw (e, fitClasses) (made 0 (inside e) refl)
-      go false e = ap (fitPruned (shown s l) (registerOf s l)) (prunedYes-none (s .rows) (s .columns) (s .top) low high e) ∙ rw (e, fitClasses) refl
+          fitPruned (shown s l) (registerOf s l) (pruned (s .rows) (s .columns) (s .top) low high) ≡ outcome s (fitClasses s l low high)
+      go true e = ap (fitPruned (shown s l) (registerOf s l)) (pruned-some (s .rows) (s .columns) (s .top) low high asked (decides .0 e)) ∙ rw (e, fitClasses) (made 0 (inside e) refl)
+      go false e = ap (fitPruned (shown s l) (registerOf s l)) (pruned-none (s .rows) (s .columns) (s .top) low high asked (λ o. true≢false (sym (decides .1 o) ∙ e))) ∙ rw (e, fitClasses) refl
 
   pub fit-same : (low high : List ℕ) → fitted (shown s l) low high ≡ outcome s (stepUnless (firstNo (boundsQuestions (cells s) (s .top) low high)) l (fitClasses s l low high))
   unfolding fitted fitRegister fitQuestions registerOf
   fit-same low high =
       ap (λ (x : Register). fitRegister (shown s l) x low high) (reads s l g)
-      ∙ ap (λ (k : ℕ). answered k (shown s l) (fitPruned (shown s l) (registerOf s l) (prunedYes (s .rows) (s .columns) (s .top) low high))) (question5-passes _)
-      ∙ refused-or (firstNo (boundsQuestions (cells s) (s .top) low high)) _ s l (fitClasses s l low high) (λ z. fit-classes low high)
+      ∙ ap (λ (k : ℕ). answered k (shown s l) (fitPruned (shown s l) (registerOf s l) (pruned (s .rows) (s .columns) (s .top) low high))) (question5-passes _)
+      ∙ refused-or (firstNo (boundsQuestions (cells s) (s .top) low high)) _ s l (fitClasses s l low high) (λ z. fit-classes low high (bounds-pass (cells s) (s .top) low high .0 z))
 
 -- ---- a good set stays good
 
@@ -236,7 +230,7 @@ module _ (s : Shape) (l : Grids) (g : Good s l) where
       r = leastIn s a
 
       i : IsGrid (s .rows) (s .columns) (s .top) a
-      i = grid-ok s a e
+      i = grid-pass s a .0 e
 
       go : (h : Bool) → holds r l ≡ h → (f : Bool) → ltb (length l) (s .capacity) ≡ f → Good s (enterClass s l r .next)
       go true h f d = rw (h, enterClass) g
@@ -263,6 +257,11 @@ module _ (s : Shape) (l : Grids) (g : Good s l) where
   step-good (enter a) = unless-good (firstNo (gridQuestions s a)) _ (enter-good a)
   step-good (strike a) = unless-good (firstNo (gridQuestions s a)) _ (λ e. strike-good (leastIn s a))
   step-good (fit low high) = unless-good (firstNo (boundsQuestions (cells s) (s .top) low high)) _ (λ e. rw (fit-keeps s l low high) g)
+
+-- the set after the calls
+unfoldable pub afterwards : Shape → Grids → List Call → Grids
+afterwards s l [] = l
+afterwards s l (c ∷ calls) = afterwards s (step s l c .next) calls
 
 pub afterwards-good : (s : Shape) (calls : List Call) (l : Grids) → Good s l → Good s (afterwards s l calls)
 unfolding afterwards

@@ -15,7 +15,7 @@ use Rattle.bounds.specs.Prune.{Pruned}
 use Rattle.register.specs.Layout.{Shape, Register, decode}
 use Rattle.register.specs.Calls.{Outcome, answered, holds, leastIn, openQuestions, enterQuestions, strikeQuestions, fitQuestions, enterInto, enterRegister, strikeRegister, fitPruned, fitRegister, opened, entered, struck, fitted}
 
-pub refusal : ℕ → List ℕ → Outcome
+unfoldable pub refusal : ℕ → List ℕ → Outcome
 refusal k b = record { number = k; place = 0; bytes = b }
 
 answered-refused : (j k : ℕ) (b : List ℕ) (o : Outcome) → j ≡ suc k → answered j b o ≡ refusal (suc k) b

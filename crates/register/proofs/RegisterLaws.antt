@@ -12,17 +12,17 @@ use mathlib.Core.Logic.{_⊎_, inl, inr, _↔_}
 use Prim.Native.Nat.{ℕ}
 use native.Mathlib.Omega.{arith}
 use lib.ListN.{length}
-use lib.Dec.{leb, eqb}
-use borrow.Author.Tests.{leb-true, le-leb, eqb-true, eq-eqb}
+use lib.Dec.{leb}
+use borrow.Author.Tests.{leb-true, le-leb}
 use Rattle.permutations.specs.Lists.{every}
 use Rattle.permutations.proofs.BoolLaws.{and-yes, yes-and}
 use Rattle.permutations.proofs.ListLaws.{every-at, at-every}
 use Rattle.grids.specs.Order.{_≺_, less, equal}
-use Rattle.grids.specs.Grids.{IsGrid}
-use Rattle.grids.specs.Questions.{inRange, capped}
+use Rattle.grids.specs.Grids.{isGrid}
+use Rattle.grids.specs.Questions.{inRange}
 use Rattle.grids.proofs.OrderLaws.{≺-trans, less-decides, equal-eq, eq-equal}
-use Rattle.grids.proofs.QuestionLaws.{range-yes, yes-range, capped-at, at-capped}
-use Rattle.register.specs.Layout.{Shape, Register, cells, layout, decode, InLimits, Ascends, IsRegister, inLimits, ascending, isEntry, isRegister, laidOut}
+use Rattle.grids.proofs.QuestionLaws.{range-yes, yes-range, grid-decides}
+use Rattle.register.specs.Layout.{Shape, Register, cells, layout, decode, InLimits, Ascends, IsRegister, inLimits, ascending, isRegister, laidOut}
 use Rattle.register.proofs.LayoutLaws.{Printable, decode-layout}
 
 pub limits-decides : (s : Shape) → (inLimits s ≡ true) ↔ InLimits s
@@ -35,15 +35,18 @@ limits-decides s = (to, back)
         let b = and-yes (inRange 1 16 (s .columns)) _ (a .1) in
         let c = and-yes (inRange 0 15 (s .top)) (inRange 1 500 (s .capacity)) (b .1) in
         record {
-          rows-limits = range-yes 1 8 (s .rows) (a .0);
-          column-limits = range-yes 1 16 (s .columns) (b .0);
-          top-limit = range-yes 0 15 (s .top) (c .0) .1;
+          grid-limits = record {
+            rows-limits = range-yes 1 8 (s .rows) (a .0);
+            column-limits = range-yes 1 16 (s .columns) (b .0);
+            top-limit = range-yes 0 15 (s .top) (c .0) .1;
+          };
           capacity-limits = range-yes 1 500 (s .capacity) (c .1);
         }
 
     back : InLimits s → inLimits s ≡ true
     back l =
-        rw (yes-range 1 8 (s .rows) (l .rows-limits), yes-range 1 16 (s .columns) (l .column-limits), yes-range 0 15 (s .top) (omega arith, l .top-limit))
+        let g = l .grid-limits in
+        rw (yes-range 1 8 (s .rows) (g .rows-limits), yes-range 1 16 (s .columns) (g .column-limits), yes-range 0 15 (s .top) (omega arith, g .top-limit))
         (yes-range 1 500 (s .capacity) (l .capacity-limits))
 
 ascends-ascending : (l : List (List ℕ)) → Ascends l → ascending l ≡ true
@@ -71,21 +74,6 @@ ascending-ascends (x ∷ y ∷ l) e = go (and-yes (less x y) (ascending (y ∷ l
 pub ascending-decides : (l : List (List ℕ)) → (ascending l ≡ true) ↔ Ascends l
 ascending-decides l = (ascending-ascends l, ascends-ascending l)
 
-entry-decides : (s : Shape) (g : List ℕ) → (isEntry s g ≡ true) ↔ IsGrid (s .rows) (s .columns) (s .top) g
-unfolding isEntry
-entry-decides s g = (to, back)
-  where
-    to : isEntry s g ≡ true → IsGrid (s .rows) (s .columns) (s .top) g
-    to e =
-        let p = and-yes (eqb (length g) (cells s)) (capped (s .top) g) e in
-        let z = eqb-true (length g) (cells s) (p .0) in
-        record { cells = z; capped = λ k h. capped-at (s .top) g (p .1) k (omega arith) }
-
-    back : IsGrid (s .rows) (s .columns) (s .top) g → isEntry s g ≡ true
-    back i =
-        let z = i .cells in
-        yes-and (eqb (length g) (cells s)) (capped (s .top) g) (eq-eqb (length g) (cells s) z) (at-capped (s .top) g (λ k h. i .capped k (omega arith)))
-
 pub register-decides : (r : Register) → (isRegister r ≡ true) ↔ IsRegister r
 unfolding isRegister
 register-decides r = (to, back)
@@ -94,11 +82,11 @@ register-decides r = (to, back)
     to e =
         let a = and-yes (inLimits (r .shape)) _ e in
         let b = and-yes (leb (length (r .entries)) (r .shape .capacity)) _ (a .1) in
-        let c = and-yes (every (isEntry (r .shape)) (r .entries)) (ascending (r .entries)) (b .1) in
+        let c = and-yes (every (isGrid (r .shape .rows) (r .shape .columns) (r .shape .top)) (r .entries)) (ascending (r .entries)) (b .1) in
         record {
           limits = limits-decides (r .shape) .0 (a .0);
           count-fits = leb-true (length (r .entries)) (r .shape .capacity) (b .0);
-          entry-grids = λ g m. entry-decides (r .shape) g .0 (every-at (isEntry (r .shape)) (r .entries) (c .0) g m);
+          entry-grids = λ g m. grid-decides (r .shape .rows) (r .shape .columns) (r .shape .top) g .0 (every-at (isGrid (r .shape .rows) (r .shape .columns) (r .shape .top)) (r .entries) (c .0) g m);
           entries-ascend = ascending-decides (r .entries) .0 (c .1);
         }
 
@@ -106,20 +94,21 @@ register-decides r = (to, back)
     back o =
         yes-and (inLimits (r .shape)) _ (limits-decides (r .shape) .1 (o .limits))
         (yes-and (leb (length (r .entries)) (r .shape .capacity)) _ (le-leb (length (r .entries)) (r .shape .capacity) (o .count-fits))
-        (yes-and (every (isEntry (r .shape)) (r .entries)) (ascending (r .entries))
-        (at-every (isEntry (r .shape)) (r .entries) (λ g m. entry-decides (r .shape) g .1 (o .entry-grids g m)))
+        (yes-and (every (isGrid (r .shape .rows) (r .shape .columns) (r .shape .top)) (r .entries)) (ascending (r .entries))
+        (at-every (isGrid (r .shape .rows) (r .shape .columns) (r .shape .top)) (r .entries) (λ g m. grid-decides (r .shape .rows) (r .shape .columns) (r .shape .top) g .1 (o .entry-grids g m)))
         (ascending-decides (r .entries) .1 (o .entries-ascend))))
 
 pub register-printable : (r : Register) → IsRegister r → Printable r
 register-printable r o =
-    let l = o .limits in
+    let l = o .limits .grid-limits in
+    let q = o .limits .capacity-limits in
     let c = o .count-fits in
     record {
       rows-small = omega (arith, l .rows-limits);
       columns-small = omega (arith, l .column-limits);
       top-small = omega (arith, l .top-limit);
-      capacity-small = omega (arith, l .capacity-limits);
-      count-small = omega (arith, l .capacity-limits);
+      capacity-small = omega arith;
+      count-small = omega arith;
       entries-sized = λ g m. o .entry-grids g m .cells;
       entries-small = λ g m k h. let i = o .entry-grids g m in omega (arith, l .top-limit, i .capped k (omega (arith, i .cells)));
     }

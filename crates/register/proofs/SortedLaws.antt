@@ -2,10 +2,11 @@
 --
 --   Grids                             ==  lists of grids
 --   holds-in, in-holds                ==  the test of membership decides it
+--   of-insert, length-insert          ==  what is in a list after an insertion, and its length
 --   insert-asc                        ==  a new grid inserted into an ascending list leaves it ascending
 --   of-sorted, in-sorted, sorted-asc  ==  a sorted list has the same members, and ascends if none stands twice
 --   asc-ext                           ==  ascending lists with the same members are equal
---   select-once, sorted-select        ==  selecting keeps a list free of repeats, and commutes with sorting
+--   select-asc, select-once, sorted-select  ==  selecting keeps a list ascending and free of repeats, and commutes with sorting
 --   held-line, new-line               ==  a place is the entry's line, the first being 1: of a held grid, and of one that is inserted
 --   length-sorted, count-sorted, holds-sorted  ==  sorting changes no length, no count and no membership
 use mathlib.Core.Path.{_≡_, refl, sym, ap, ap₂, _∙_}
@@ -50,7 +51,7 @@ insert-later r x l h = go (yes-or-no (leq r x))
     go (inl e) = absurd (h (leq-yes r x e))
     go (inr e) = rw (e, insert)
 
-of-insert : (r : List ℕ) (l : Grids) (y : List ℕ) → List·Memᴰ y (insert r l) → (y ≡ r) ⊎ List·Memᴰ y l
+pub of-insert : (r : List ℕ) (l : Grids) (y : List ℕ) → List·Memᴰ y (insert r l) → (y ≡ r) ⊎ List·Memᴰ y l
 unfolding insert
 of-insert r [] y h = List·Memᴰ·cases-cons h
 of-insert r (x ∷ l) y h = go (of-insert r l y) (≼-dec r x)
@@ -106,7 +107,7 @@ insert-asc r (x ∷ l) a nr = go (insert-asc r l (a .1) (λ k. nr (List·Memᴰ�
     go ih (yes p) = rw (insert-front r x l p) (λ y k. first (≼-≺ r x p (λ e. nr (List·Memᴰ·head e))) y (List·Memᴰ·cases-cons k), a)
     go ih (no p) = rw (insert-later r x l p) (λ y k. rest p y (of-insert r l y k), ih)
 
-length-insert : (r : List ℕ) (l : Grids) → length (insert r l) ≡ suc (length l)
+pub length-insert : (r : List ℕ) (l : Grids) → length (insert r l) ≡ suc (length l)
 unfolding insert
 length-insert r [] = refl
 length-insert r (x ∷ l) = go (length-insert r l) (≼-dec r x)
@@ -175,7 +176,7 @@ asc-ext (x ∷ a) (y ∷ b) p q f g = ap₂ (λ (u : List ℕ) (v : Grids). u �
 -- ---- what passes a test
 
 -- what holds of every later member holds of those that are selected
-select-asc : (t : List ℕ → Bool) (l : Grids) → Ascends l → Ascends (select t l)
+pub select-asc : (t : List ℕ → Bool) (l : Grids) → Ascends l → Ascends (select t l)
 unfolding select
 select-asc t [] a = tt
 select-asc t (x ∷ l) a = go (select-asc t l (a .1)) (yes-or-no (t x))

@@ -7,7 +7,7 @@
 --   openQuestions, enterQuestions, strikeQuestions, fitQuestions  ==  the questions that each call asks, in order
 --   leastIn s g          ==  the least grid of the class of g, a grid of the shape
 --   holds r l            ==  the grid r stands among the grids of l
---   placeIn l r          ==  1 and the number of grids of l that come before r
+--   placeIn l r          ==  1 plus the number of grids of l that come before r
 --   insert r l           ==  r put where it belongs in an ascending list
 --   without r l          ==  the grids of l other than r
 --   enterInto b x r, strikeFrom x r  ==  the grid r, least of its class, put into the register x with the bytes b, and taken out of it
@@ -27,7 +27,7 @@ use Rattle.grids.specs.Order.{leq, less, equal}
 use Rattle.grids.specs.Least.{least}
 use Rattle.grids.specs.Questions.{Question, firstNo, inRange, question1, question2, question3, question6, question7}
 use Rattle.bounds.specs.Bounds.{inBounds}
-use Rattle.bounds.specs.Prune.{boundsQuestions, Pruned, prunedYes}
+use Rattle.bounds.specs.Prune.{boundsQuestions, Pruned, pruned}
 use Rattle.register.specs.Layout.{Shape, Register, cells, layout, layoutLength, decode, laidOut}
 
 pub record Outcome : Type 0 where
@@ -123,7 +123,7 @@ fitPruned b x p =
 
 unfoldable pub fitRegister : List ℕ → Register → List ℕ → List ℕ → Outcome
 fitRegister b x low high =
-    answered (firstNo (fitQuestions b x low high)) b (fitPruned b x (prunedYes (x .shape .rows) (x .shape .columns) (x .shape .top) low high))
+    answered (firstNo (fitQuestions b x low high)) b (fitPruned b x (pruned (x .shape .rows) (x .shape .columns) (x .shape .top) low high))
 
 unfoldable pub fitted : List ℕ → List ℕ → List ℕ → Outcome
 fitted b low high = fitRegister b (decode b) low high

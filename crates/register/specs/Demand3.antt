@@ -22,7 +22,7 @@ use Rattle.permutations.specs.Lists.{select, every}
 use Rattle.grids.specs.Grids.{oneClass}
 use Rattle.grids.specs.Least.{least}
 use Rattle.bounds.specs.Bounds.{inBounds}
-use Rattle.register.specs.Layout.{Shape, cells, count}
+use Rattle.register.specs.Layout.{Shape, cells, layoutLength, count, InLimits}
 use Rattle.register.specs.Calls.{Outcome, opened, entered, struck, fitted}
 use Rattle.register.specs.Machine.{Call, enter, strike, fit, shown, outcomes}
 
@@ -84,5 +84,8 @@ pub record AfterOpen (s : Shape) (b : List ℕ) (calls : List Call) : Type 0 whe
       (left b calls ≡ left (opened s slice′ .bytes) calls′)
       ↔ ((a : List ℕ) → length a ≡ cells s → live s b calls a ≡ live s (opened s slice′ .bytes) calls′ a)
 
-unfoldable pub Demand3 : Type 0
-Demand3 = (s : Shape) (slice : List ℕ) → opened s slice .number ≡ 0 → (calls : List Call) → AfterOpen s (opened s slice .bytes) calls
+pub record Demand3 : Type 0 where
+  -- an open whose questions all get a yes answers 0 and place 0, and leaves the machine's bytes for the empty set
+  pub opens : (s : Shape) (slice : List ℕ) → InLimits s → length slice ≡ layoutLength s → opened s slice ≡ record { number = 0; place = 0; bytes = shown s [] }
+  -- whatever calls follow an open that answered 0
+  pub follows : (s : Shape) (slice : List ℕ) → opened s slice .number ≡ 0 → (calls : List Call) → AfterOpen s (opened s slice .bytes) calls

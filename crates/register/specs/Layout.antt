@@ -17,17 +17,17 @@
 --   InLimits s     ==  rows 1 to 8, columns 1 to 16, top 0 to 15, capacity 1 to 500
 --   Ascends l      ==  each grid of l comes before all later ones
 --   IsRegister r   ==  limits, count at most capacity, entries of m times n cells at most top, strictly ascending
---   inLimits, ascending, isEntry, isRegister  ==  their tests; an entry is compared with the next
+--   inLimits, ascending, isRegister  ==  their tests; an entry is compared with the next
 --   laidOut b      ==  question 5: what the bytes state is such a register, and its layout is these bytes
 use mathlib.Core.List.{List, [], _∷_, _++_, map, flatten, List·Memᴰ}
 use mathlib.Core.Bool.{Bool, true, _&&_}
 use Prim.Native.Nat.{ℕ, _+_, _-_, _*_, _≤_}
 use lib.ListN.{length, take, drop, replicate}
-use lib.Dec.{leb, eqb}
+use lib.Dec.{leb}
 use Rattle.permutations.specs.Lists.{tabulate, every}
 use Rattle.grids.specs.Order.{_≺_, less, equal}
-use Rattle.grids.specs.Grids.{IsGrid}
-use Rattle.grids.specs.Questions.{inRange, capped}
+use Rattle.grids.specs.Grids.{IsGrid, isGrid}
+use Rattle.grids.specs.Questions.{inRange, Limits}
 use Rattle.register.specs.Decimal.{field, value}
 
 pub record Shape : Type 0 where
@@ -79,9 +79,7 @@ unfoldable pub decode : List ℕ → Register
 decode b = record { shape = decodeShape b; entries = tabulate 0 (count b) (entryAt (cells (decodeShape b)) b) }
 
 pub record InLimits (s : Shape) : Type 0 where
-  pub rows-limits : (1 ≤ s .rows) × (s .rows ≤ 8)
-  pub column-limits : (1 ≤ s .columns) × (s .columns ≤ 16)
-  pub top-limit : s .top ≤ 15
+  pub grid-limits : Limits (s .rows) (s .columns) (s .top)
   pub capacity-limits : (1 ≤ s .capacity) × (s .capacity ≤ 500)
 
 abbrev pub Ascends : List (List ℕ) → Type 0
@@ -104,12 +102,9 @@ ascending [] = true
 ascending (x ∷ []) = true
 ascending (x ∷ y ∷ l) = less x y && ascending (y ∷ l)
 
-unfoldable pub isEntry : Shape → List ℕ → Bool
-isEntry s g = eqb (length g) (cells s) && capped (s .top) g
-
 unfoldable pub isRegister : Register → Bool
 isRegister r =
-    inLimits (r .shape) && (leb (length (r .entries)) (r .shape .capacity) && (every (isEntry (r .shape)) (r .entries) && ascending (r .entries)))
+    inLimits (r .shape) && (leb (length (r .entries)) (r .shape .capacity) && (every (isGrid (r .shape .rows) (r .shape .columns) (r .shape .top)) (r .entries) && ascending (r .entries)))
 
 unfoldable pub laidOut : List ℕ → Bool
 laidOut b = isRegister (decode b) && equal (layout (decode b)) b

@@ -12,7 +12,6 @@
 --   step s l c            ==  one call
 --   outcome s t           ==  a step's answer, and the bytes that the machine then shows
 --   outcomes s l calls    ==  what the machine answers to each call and the bytes that it then shows
---   afterwards s l calls  ==  the set after the calls
 use mathlib.Core.List.{List, [], _∷_}
 use mathlib.Core.Bool.{true, false}
 use Prim.Native.Nat.{ℕ, zero, suc}
@@ -83,7 +82,3 @@ outcome s t = record { number = t .number; place = t .place; bytes = shown s (t 
 unfoldable pub outcomes : Shape → List (List ℕ) → List Call → List Outcome
 outcomes s l [] = []
 outcomes s l (c ∷ calls) = outcome s (step s l c) ∷ outcomes s (step s l c .next) calls
-
-unfoldable pub afterwards : Shape → List (List ℕ) → List Call → List (List ℕ)
-afterwards s l [] = l
-afterwards s l (c ∷ calls) = afterwards s (step s l c .next) calls

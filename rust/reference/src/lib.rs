@@ -1,8 +1,9 @@
 //! A plain reference implementation of document 01, the plan register.
 //!
-//! Nothing here is clever: every row permutation is listed, the columns are
-//! sorted, the least arrangement is taken; bounds are pruned by listing every
-//! grid in them; the machine is a set of least grids.
+//! It is written to be seen right: every row permutation is listed, the columns
+//! are sorted, the least arrangement is taken; bounds are pruned by listing every
+//! grid in them, and by the extremal grid where these are too many; the machine
+//! is a set of least grids.
 //!
 //! | module        | part of document 01                                    |
 //! |---------------|--------------------------------------------------------|

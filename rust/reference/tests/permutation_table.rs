@@ -23,7 +23,10 @@ fn the_program_prints_what_the_reference_makes() {
         line("P inverse", p.inverse()),
         line("P followed by P", p.composed(p)),
         line("a row twice, inverse", listed::<8>(&[1, 1], 2).inverse()),
-        line("a row too large, inverse", listed::<8>(&[2, 0], 2).inverse()),
+        line(
+            "a row too large, inverse",
+            listed::<8>(&[2, 0], 2).inverse(),
+        ),
         line("sizes that differ", p.composed(listed(&[1, 0], 3))),
         line("Q", q),
         line("Q inverse", q.inverse()),

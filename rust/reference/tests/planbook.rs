@@ -73,7 +73,7 @@ fn the_program_reads_standard_input_and_writes_standard_output() {
 }
 
 #[test]
-fn reading_1_input_of_65536_bytes_passes_and_one_more_is_11() {
+fn input_of_65536_bytes_passes_and_one_more_is_11() {
     let blank_lines = 65_536 - LINE_1.len();
     let input = LINE_1.to_string() + &"\n".repeat(blank_lines);
     assert_eq!(input.len(), 65_536);
@@ -82,7 +82,7 @@ fn reading_1_input_of_65536_bytes_passes_and_one_more_is_11() {
 }
 
 #[test]
-fn reading_1_11_comes_before_12() {
+fn number_11_comes_before_12() {
     assert_eq!(run(vec![b'x'; 65_537]), ended(11));
     assert_eq!(run(vec![b'x'; 65_536]), ended(12));
     assert_eq!(run(vec![b'\n'; 65_537]), ended(11));
@@ -90,7 +90,7 @@ fn reading_1_11_comes_before_12() {
 }
 
 #[test]
-fn reading_2_a_line_1_that_is_not_laid_so_is_12_and_ends_the_run() {
+fn a_line_1_that_is_not_laid_so_is_12_and_ends_the_run() {
     let bad = [
         "",
         "\n",
@@ -125,7 +125,7 @@ fn reading_2_a_line_1_that_is_not_laid_so_is_12_and_ends_the_run() {
 }
 
 #[test]
-fn reading_2_every_changed_byte_of_line_1_is_refused_or_another_number() {
+fn every_changed_byte_of_line_1_is_refused_or_another_number() {
     for k in 0..LINE_1.len() {
         for byte in 0..=255u8 {
             let mut input = LINE_1.as_bytes().to_vec();
@@ -146,7 +146,7 @@ fn reading_2_every_changed_byte_of_line_1_is_refused_or_another_number() {
 }
 
 #[test]
-fn reading_2_any_well_laid_numbers_go_on_to_questions_1_to_4_and_13() {
+fn any_well_laid_numbers_go_on_to_questions_1_to_4_and_13() {
     let cases = [
         (999_999, 999_999, 999_999, 999_999, 1),
         (0, 0, 16, 0, 1),
@@ -169,7 +169,7 @@ fn reading_2_any_well_laid_numbers_go_on_to_questions_1_to_4_and_13() {
 }
 
 #[test]
-fn reading_3_numbers_of_command_lines_are_laid_out_as_in_the_register() {
+fn numbers_of_command_lines_are_laid_out_as_in_the_register() {
     let bad: [&[u8]; 16] = [
         b"     1  1  0  0   \n",
         b"        1  0  0  1\n",
@@ -194,7 +194,7 @@ fn reading_3_numbers_of_command_lines_are_laid_out_as_in_the_register() {
 }
 
 #[test]
-fn reading_4_a_command_line_of_another_length_is_12() {
+fn a_command_line_of_another_length_is_12() {
     let bad: [&[u8]; 16] = [
         b"\n",
         b" \n",
@@ -219,7 +219,7 @@ fn reading_4_a_command_line_of_another_length_is_12() {
 }
 
 #[test]
-fn reading_4_another_command_or_a_cell_above_255_is_12() {
+fn another_command_or_a_cell_above_255_is_12() {
     for command in [0, 4, 5, 10, 11, 12, 31, 100_001, 999_999] {
         let line = format!("{command:>6}  1  0  0  1\n");
         assert_eq!(commands(line.as_bytes()), ended(12));
@@ -235,7 +235,7 @@ fn reading_4_another_command_or_a_cell_above_255_is_12() {
 }
 
 #[test]
-fn reading_4_the_run_goes_on_after_12() {
+fn the_run_goes_on_after_12() {
     let input = LINE_1.to_string() + "x\n     1  1  0  0  1\n\n     2  0  0  1  1\n     1";
     let expected = ended(12)
         + "     1     0     1\n"
@@ -247,7 +247,7 @@ fn reading_4_the_run_goes_on_after_12() {
 }
 
 #[test]
-fn reading_5_a_cell_of_top_plus_1_to_255_answers_7() {
+fn a_cell_of_top_plus_1_to_255_answers_7() {
     for value in [2, 9, 10, 99, 100, 255] {
         let enter = format!("     1  1  0  0{value:>3}\n");
         assert_eq!(commands(enter.as_bytes()), "     1     7     0\n");
@@ -259,7 +259,7 @@ fn reading_5_a_cell_of_top_plus_1_to_255_answers_7() {
 }
 
 #[test]
-fn reading_6_low_and_high_of_each_cell_in_turn() {
+fn low_and_high_of_each_cell_in_turn() {
     // Low 1, high 0 in cell 0: 8. With a bound above top elsewhere: 7.
     let line = b"     3  1  0  0  1  0  1  0  1\n";
     assert_eq!(commands(line), "     3     8     0\n");
@@ -274,7 +274,7 @@ fn reading_6_low_and_high_of_each_cell_in_turn() {
 }
 
 #[test]
-fn reading_7_a_run_that_ends_looks_at_no_command_line() {
+fn a_run_that_ends_looks_at_no_command_line() {
     let rest = "     1  1  0  0  1\nx\n";
     let too_long = LINE_1.to_string() + rest + &"\n".repeat(65_536);
     assert_eq!(run(too_long), ended(11));
@@ -287,7 +287,7 @@ fn reading_7_a_run_that_ends_looks_at_no_command_line() {
 }
 
 #[test]
-fn reading_8_registers_over_65536_bytes_are_13() {
+fn registers_over_65536_bytes_are_13() {
     for m in 1..=8 {
         for n in 1..=16 {
             for capacity in [1, 169, 170, 171, 200, 300, 400, 499, 500] {
@@ -306,7 +306,7 @@ fn reading_8_registers_over_65536_bytes_are_13() {
 }
 
 #[test]
-fn reading_8_the_largest_capacities_that_pass() {
+fn the_largest_capacities_that_pass() {
     for m in 1..=8 {
         for n in 1..=16 {
             let capacity = (65_505 / (3 * m * n + 1)).min(500);
@@ -320,7 +320,7 @@ fn reading_8_the_largest_capacities_that_pass() {
 }
 
 #[test]
-fn reading_9_the_register_is_printed_without_a_command_too() {
+fn the_register_is_printed_without_a_command_too() {
     assert_eq!(run(LINE_1), EMPTY);
     assert_eq!(
         run(line_1(1, 1, 15, 1)),

@@ -5,8 +5,8 @@ mod common;
 use common::{every_grid, form, shapes_up_to};
 use reference::bounds::{
     allperm, allperm_by_listing, allperm_by_sorting, grids, kept_by_extremal, kept_by_listing,
-    lies_in, number_of_grids, prune, prune_by_extremal, prune_by_listing, some_grid, values,
-    Bounds, Pruned, LISTED_GRIDS,
+    lies_in, number_of_grids, number_of_values, prune, prune_by_extremal, prune_by_listing,
+    some_grid, values, Bounds, Pruned, LISTED_GRIDS,
 };
 use reference::grid::rank;
 use reference::random::Random;
@@ -242,8 +242,11 @@ fn the_call_prunes_large_forms_by_extremal_grids() {
                 met[0] += 1;
             }
             Some(bounds) => {
-                assert_eq!(pruned.number, 0);
-                met[if pruned.count == 0 { 1 } else { 2 }] += 1;
+                let kept = kept_by_extremal(m, n, 15, &low, &high);
+                let kept: u64 = kept.iter().map(|values| values.len() as u64).sum();
+                let removed = number_of_values(15, &low, &high) - kept;
+                assert_eq!((pruned.number, pruned.count), (0, removed));
+                met[if removed == 0 { 1 } else { 2 }] += 1;
                 assert_eq!((new_low, new_high), (bounds.low, bounds.high));
             }
         }
