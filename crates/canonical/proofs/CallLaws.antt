@@ -9,7 +9,7 @@
 --   represent-answers, same-answers  ==  on all arguments there is an answer
 --   same-orders          ==  orders by which B is the arrangement of A, from those that produce the least grid from each
 use mathlib.Core.Path.{_≡_, refl, sym, ap, _∙_}
-use mathlib.Core.List.{List, [], _∷_, List·Memᴰ·head, List·Memᴰ·tail}
+use mathlib.Core.List.{List, [], _∷_, List·Memᴰ, List·Memᴰ·head, List·Memᴰ·tail}
 use mathlib.Core.Bool.{Bool, true, false}
 use mathlib.Core.Logic.{_↔_}
 use Prim.Native.Nat.{ℕ, zero, suc, _*_, _≤_}
@@ -22,82 +22,47 @@ use Rattle.permutations.proofs.PermutationLaws.{inverse-permutation, composed-i
 use Rattle.permutations.proofs.PaddedLaws.{padded-own}
 use Rattle.grids.specs.Grids.{IsGrid, capped, arrangement, OneClass, oneClass}
 use Rattle.grids.specs.Least.{least}
-use Rattle.grids.specs.Questions.{Question, firstNo, Limits, question1, question2, question3, question6, question7}
+use Rattle.grids.specs.Questions.{firstNo, Limits}
 use Rattle.grids.proofs.GridLaws.{arrangement-identity, arrangement-twice, class-passes, passes-class}
 use Rattle.grids.proofs.LeastLaws.{least-is, least-in-class, one-class-one-least}
-use Rattle.grids.proofs.QuestionLaws.{AllYes, Numbered, first-no-zero, grid-of, grid-capped, all-one, all-two, limits-asked, lengths-asked, cells-asked}
+use Rattle.grids.proofs.QuestionLaws.{grid-of, grid-capped, all-one, all-two, slices-pass}
 use Rattle.canonical.specs.Represent.{Produces, representQuestions, Represented}
 use Rattle.canonical.specs.Same.{sameQuestions, sameNumber, Compared}
 use Rattle.canonical.specs.Demand2.{RepresentLeast}
 
 -- ---- what the questions ask
 
-represent-numbered : (m n top : ℕ) (g out : List ℕ) → Numbered (representQuestions m n top g out)
-unfolding representQuestions question1 question2 question3 question6 question7
-represent-numbered m n top g out = (omega arith, (omega arith, (omega arith, (omega arith, (omega arith, tt)))))
-
-same-numbered : (m n top : ℕ) (a b : List ℕ) → Numbered (sameQuestions m n top a b)
-unfolding sameQuestions question1 question2 question3 question6 question7
-same-numbered m n top a b = (omega arith, (omega arith, (omega arith, (omega arith, (omega arith, tt)))))
-
 -- represent's questions get a yes exactly for a grid within the limits and an output slice of its length
 pub represent-pass : (m n top : ℕ) (g out : List ℕ) → (firstNo (representQuestions m n top g out) ≡ 0) ↔ (Limits m n top × IsGrid m n top g × (length out ≡ m * n))
 unfolding representQuestions
-represent-pass m n top g out = (to, back)
-  where
-    rest : List Question
-    rest = question6 (m * n) (g ∷ out ∷ []) ∷ question7 top (g ∷ []) ∷ []
-
-    zeros : (firstNo (representQuestions m n top g out) ≡ 0) ↔ AllYes (representQuestions m n top g out)
-    zeros = first-no-zero (representQuestions m n top g out) (represent-numbered m n top g out)
-
-    to : firstNo (representQuestions m n top g out) ≡ 0 → Limits m n top × IsGrid m n top g × (length out ≡ m * n)
-    to e =
-        let h = limits-asked m n top rest .0 (zeros .0 e) in
-        let z = lengths-asked (m * n) (g ∷ out ∷ []) .0 (h .1 .0) in
-        let t = cells-asked top (g ∷ []) .0 (h .1 .1 .0) in
-        (h .0, grid-of m n top g (z g (List·Memᴰ·head refl)) (t g (List·Memᴰ·head refl)), z out (List·Memᴰ·tail (List·Memᴰ·head refl)))
-
-    back : Limits m n top × IsGrid m n top g × (length out ≡ m * n) → firstNo (representQuestions m n top g out) ≡ 0
-    back h =
-        zeros .1 (limits-asked m n top rest .1 (
-          h .0,
-          (
-            lengths-asked (m * n) (g ∷ out ∷ []) .1 (all-two (λ s. length s ≡ m * n) g out (h .1 .cells) (h .2)),
-            (cells-asked top (g ∷ []) .1 (all-one (λ s. capped top s ≡ true) g (grid-capped m n top g (h .1))), tt),
-          ),
-        ))
+represent-pass m n top g out =
+    let p = slices-pass m n top (g ∷ out ∷ []) (g ∷ []) in (
+      λ e. let h = p .0 e in (h .0, grid-of m n top g (h .1 g (List·Memᴰ·head refl)) (h .2 g (List·Memᴰ·head refl)), h .1 out (List·Memᴰ·tail (List·Memᴰ·head refl))),
+      λ h. p .1 (h .0, all-two (λ s. length s ≡ m * n) g out (h .1 .cells) (h .2), all-one (λ s. capped top s ≡ true) g (grid-capped m n top g (h .1))),
+    )
 
 -- same's get a yes exactly for two grids within the limits
 pub same-pass : (m n top : ℕ) (a b : List ℕ) → (firstNo (sameQuestions m n top a b) ≡ 0) ↔ (Limits m n top × IsGrid m n top a × IsGrid m n top b)
 unfolding sameQuestions
 same-pass m n top a b = (to, back)
   where
-    rest : List Question
-    rest = question6 (m * n) (a ∷ b ∷ []) ∷ question7 top (a ∷ b ∷ []) ∷ []
-
-    zeros : (firstNo (sameQuestions m n top a b) ≡ 0) ↔ AllYes (sameQuestions m n top a b)
-    zeros = first-no-zero (sameQuestions m n top a b) (same-numbered m n top a b)
+    p : (firstNo (sameQuestions m n top a b) ≡ 0)
+        ↔ (Limits m n top × ((s : List ℕ) → List·Memᴰ s (a ∷ b ∷ []) → length s ≡ m * n) × ((s : List ℕ) → List·Memᴰ s (a ∷ b ∷ []) → capped top s ≡ true))
+    p = slices-pass m n top (a ∷ b ∷ []) (a ∷ b ∷ [])
 
     to : firstNo (sameQuestions m n top a b) ≡ 0 → Limits m n top × IsGrid m n top a × IsGrid m n top b
     to e =
-        let h = limits-asked m n top rest .0 (zeros .0 e) in
-        let z = lengths-asked (m * n) (a ∷ b ∷ []) .0 (h .1 .0) in
-        let t = cells-asked top (a ∷ b ∷ []) .0 (h .1 .1 .0) in (
-          h .0,
-          grid-of m n top a (z a (List·Memᴰ·head refl)) (t a (List·Memᴰ·head refl)),
-          grid-of m n top b (z b (List·Memᴰ·tail (List·Memᴰ·head refl))) (t b (List·Memᴰ·tail (List·Memᴰ·head refl))),
-        )
+        let h = p .0 e in
+        let grid : (s : List ℕ) → List·Memᴰ s (a ∷ b ∷ []) → IsGrid m n top s = λ s k. grid-of m n top s (h .1 s k) (h .2 s k) in
+        (h .0, grid a (List·Memᴰ·head refl), grid b (List·Memᴰ·tail (List·Memᴰ·head refl)))
 
     back : Limits m n top × IsGrid m n top a × IsGrid m n top b → firstNo (sameQuestions m n top a b) ≡ 0
     back h =
-        zeros .1 (limits-asked m n top rest .1 (
+        p .1 (
           h .0,
-          (
-            lengths-asked (m * n) (a ∷ b ∷ []) .1 (all-two (λ s. length s ≡ m * n) a b (h .1 .cells) (h .2 .cells)),
-            (cells-asked top (a ∷ b ∷ []) .1 (all-two (λ s. capped top s ≡ true) a b (grid-capped m n top a (h .1)) (grid-capped m n top b (h .2))), tt),
-          ),
-        ))
+          all-two (λ s. length s ≡ m * n) a b (h .1 .cells) (h .2 .cells),
+          all-two (λ s. capped top s ≡ true) a b (grid-capped m n top a (h .1)) (grid-capped m n top b (h .2)),
+        )
 
 -- ---- represent
 

@@ -1,6 +1,8 @@
 -- Laws of the questions.
 --
---   AllYes l, Numbered l   ==  every question of l gets a yes; every question of l has a number above 0
+--   AllYes l               ==  every question of l gets a yes
+--   EachNumber P l, Numbered l  ==  P holds of every question's number; each is above 0
+--   firstNo-has            ==  what holds of 0 and of each question's number holds of the first no
 --   first-no-zero          ==  no question gets a no exactly where every question gets a yes
 --   firstNo-pass, firstNo-stop  ==  a question that gets a yes is passed over; one that gets a no gives its number
 --   range-yes, yes-range   ==  what the test of a range says
@@ -8,6 +10,7 @@
 --   all-one, all-two       ==  what holds of each of one or two slices holds of every slice of the list
 --   limits-asked           ==  questions 1 to 3 ask the limits
 --   lengths-asked, cells-asked  ==  what questions 6 and 7 ask of slices
+--   slices-pass            ==  what questions 1, 2, 3, 6 and 7 together get a yes for
 use mathlib.Core.Path.{_≡_, refl, _∙_}
 use mathlib.Core.List.{List, [], _∷_, List·Memᴰ, List·Memᴰ·not-nil, List·Memᴰ·cases-cons}
 use mathlib.Core.Bool.{Bool, true, false}
@@ -26,9 +29,12 @@ abbrev pub AllYes : List Question → Type 0
 AllYes [] = Unit {0}
 AllYes (q ∷ l) = (q .answer ≡ true) × AllYes l
 
+abbrev pub EachNumber : (ℕ → Type 0) → List Question → Type 0
+EachNumber P [] = Unit {0}
+EachNumber P (q ∷ l) = P (q .number) × EachNumber P l
+
 abbrev pub Numbered : List Question → Type 0
-Numbered [] = Unit {0}
-Numbered (q ∷ l) = (0 < q .number) × Numbered l
+Numbered l = EachNumber (λ k. 0 < k) l
 
 pub firstNo-pass : (q : Question) (l : List Question) → q .answer ≡ true → firstNo (q ∷ l) ≡ firstNo l
 unfolding firstNo
@@ -37,6 +43,16 @@ firstNo-pass q l e = rw (e, firstNo)
 pub firstNo-stop : (q : Question) (l : List Question) → q .answer ≡ false → firstNo (q ∷ l) ≡ q .number
 unfolding firstNo
 firstNo-stop q l e = rw (e, firstNo)
+
+-- what holds of 0 and of each question's number holds of the first no
+pub firstNo-has : (P : ℕ → Type 0) (l : List Question) → P 0 → EachNumber P l → P (firstNo l)
+unfolding firstNo
+firstNo-has P [] z h = z
+firstNo-has P (q ∷ l) z h = go (firstNo-has P l z (h .1)) (q .answer) refl
+  where
+    go : P (firstNo l) → (b : Bool) → q .answer ≡ b → P (firstNo (q ∷ l))
+    go ih true d = rw (firstNo-pass q l d) ih
+    go ih false d = rw (firstNo-stop q l d) (h .0)
 
 all-pass : (l : List Question) → AllYes l → firstNo l ≡ 0
 unfolding firstNo
@@ -117,3 +133,24 @@ lengths-asked size l =
 pub cells-asked : (top : ℕ) (l : List (List ℕ)) → (question7 top l .answer ≡ true) ↔ ((s : List ℕ) → List·Memᴰ s l → capped top s ≡ true)
 unfolding question7
 cells-asked top l = (every-at (capped top) l, at-every (capped top) l)
+
+slices-numbered : (m n top : ℕ) (ls cs : List (List ℕ)) → Numbered (question1 m ∷ question2 n ∷ question3 top ∷ question6 (m * n) ls ∷ question7 top cs ∷ [])
+unfolding question1 question2 question3 question6 question7
+slices-numbered m n top ls cs = (omega arith, (omega arith, (omega arith, (omega arith, (omega arith, tt)))))
+
+-- questions 1, 2, 3, 6 and 7, with 6 asked of some slices and 7 of some
+pub slices-pass : (m n top : ℕ) (ls cs : List (List ℕ)) → (firstNo (question1 m ∷ question2 n ∷ question3 top ∷ question6 (m * n) ls ∷ question7 top cs ∷ []) ≡ 0)
+    ↔ (Limits m n top × ((s : List ℕ) → List·Memᴰ s ls → length s ≡ m * n) × ((s : List ℕ) → List·Memᴰ s cs → capped top s ≡ true))
+slices-pass m n top ls cs = (
+  λ e. let h = a .0 (z .0 e) in (h .0, lengths-asked (m * n) ls .0 (h .1 .0), cells-asked top cs .0 (h .1 .1 .0)),
+  λ h. z .1 (a .1 (h .0, (lengths-asked (m * n) ls .1 (h .1), (cells-asked top cs .1 (h .2), tt)))),
+)
+  where
+    rest : List Question
+    rest = question6 (m * n) ls ∷ question7 top cs ∷ []
+
+    a : AllYes (question1 m ∷ question2 n ∷ question3 top ∷ rest) ↔ (Limits m n top × AllYes rest)
+    a = limits-asked m n top rest
+
+    z : (firstNo (question1 m ∷ question2 n ∷ question3 top ∷ rest) ≡ 0) ↔ AllYes (question1 m ∷ question2 n ∷ question3 top ∷ rest)
+    z = first-no-zero (question1 m ∷ question2 n ∷ question3 top ∷ rest) (slices-numbered m n top ls cs)

@@ -6,10 +6,10 @@
 --   strike-pass  ==  strike's: a register, a grid, and its class held
 --   fit-pass     ==  fit's: a register, and bounds
 use mathlib.Core.Path.{_≡_, refl}
-use mathlib.Core.List.{List, [], _∷_, List·Memᴰ·head}
+use mathlib.Core.List.{List, [], _∷_, _++_, List·Memᴰ·head}
 use mathlib.Core.Bool.{true, _||_}
 use mathlib.Core.Logic.{_↔_}
-use Prim.Native.Nat.{ℕ}
+use Prim.Native.Nat.{ℕ, _<_}
 use native.Mathlib.Omega.{arith}
 use lib.ListN.{length}
 use lib.Dec.{ltb}
@@ -73,32 +73,30 @@ open-pass s b = (to, back)
 
 -- ---- enter, strike and fit
 
+-- question 5, a grid's questions, and one more
+then-numbered : (b : List ℕ) (s : Shape) (g : List ℕ) (q : Question) → 0 < q .number → Numbered (question5 b ∷ (gridQuestions s g ++ (q ∷ [])))
+unfolding gridQuestions question5 question6 question7
+then-numbered b s g q h = (omega arith, (omega arith, (omega arith, (h, tt))))
+
+then-pass : (b : List ℕ) (s : Shape) (g : List ℕ) (q : Question) → 0 < q .number →
+    (firstNo (question5 b ∷ (gridQuestions s g ++ (q ∷ []))) ≡ 0) ↔ ((laidOut b ≡ true) × IsGrid (s .rows) (s .columns) (s .top) g × (q .answer ≡ true))
+unfolding gridQuestions question5
+then-pass b s g q n =
+    let z = first-no-zero (question5 b ∷ (gridQuestions s g ++ (q ∷ []))) (then-numbered b s g q n) in (
+      λ e. let h = z .0 e in (h .0, grid-yes s g (h .1 .0) (h .1 .1 .0), h .1 .1 .1 .0),
+      λ h. z .1 (h .0, (yes-length s g (h .1), (yes-cells s g (h .1), (h .2, tt)))),
+    )
+
 module _ (b : List ℕ) (x : Register) (g r : List ℕ) where
-  enter-numbered : Numbered (enterQuestions b x g r)
-  unfolding enterQuestions gridQuestions question5 question6 question7 question9
-  enter-numbered = (omega arith, (omega arith, (omega arith, (omega arith, tt))))
-
-  strike-numbered : Numbered (strikeQuestions b x g r)
-  unfolding strikeQuestions gridQuestions question5 question6 question7 question10
-  strike-numbered = (omega arith, (omega arith, (omega arith, (omega arith, tt))))
-
   pub enter-pass : (firstNo (enterQuestions b x g r) ≡ 0)
       ↔ ((laidOut b ≡ true) × IsGrid (x .shape .rows) (x .shape .columns) (x .shape .top) g × ((holds r (x .entries) || ltb (length (x .entries)) (x .shape .capacity)) ≡ true))
-  unfolding enterQuestions gridQuestions question5 question9
-  enter-pass =
-      let z = first-no-zero (enterQuestions b x g r) enter-numbered in (
-        λ e. let h = z .0 e in (h .0, grid-yes (x .shape) g (h .1 .0) (h .1 .1 .0), h .1 .1 .1 .0),
-        λ h. z .1 (h .0, (yes-length (x .shape) g (h .1), (yes-cells (x .shape) g (h .1), (h .2, tt)))),
-      )
+  unfolding enterQuestions question9
+  enter-pass = then-pass b (x .shape) g (question9 x r) (omega arith)
 
   pub strike-pass : (firstNo (strikeQuestions b x g r) ≡ 0)
       ↔ ((laidOut b ≡ true) × IsGrid (x .shape .rows) (x .shape .columns) (x .shape .top) g × (holds r (x .entries) ≡ true))
-  unfolding strikeQuestions gridQuestions question5 question10
-  strike-pass =
-      let z = first-no-zero (strikeQuestions b x g r) strike-numbered in (
-        λ e. let h = z .0 e in (h .0, grid-yes (x .shape) g (h .1 .0) (h .1 .1 .0), h .1 .1 .1 .0),
-        λ h. z .1 (h .0, (yes-length (x .shape) g (h .1), (yes-cells (x .shape) g (h .1), (h .2, tt)))),
-      )
+  unfolding strikeQuestions question10
+  strike-pass = then-pass b (x .shape) g (question10 x r) (omega arith)
 
 fit-numbered : (b : List ℕ) (x : Register) (low high : List ℕ) → Numbered (fitQuestions b x low high)
 unfolding fitQuestions question5

@@ -144,21 +144,19 @@ length-after b o e l =
     let s = stated b e in
     ap length (l .bytes-are) ∙ register-length (l .after) (l .is-register) ∙ ap layoutLength (l .same-shape) ∙ sym (register-length (decode b) (s .0)) ∙ ap length (sym (s .1))
 
-pub entered-length : (b g : List ℕ) → length (entered b g .bytes) ≡ length b
+length-kept : (b : List ℕ) (o : Outcome) → (laidOut b ≡ true → Leaves b o) → (laidOut b ≡ false → o ≡ refusal 5 b) → length (o .bytes) ≡ length b
 unfolding refusal
-entered-length b g = go (yes-or-no (laidOut b))
+length-kept b o laid unlaid = go (yes-or-no (laidOut b))
   where
-    go : (laidOut b ≡ true) ⊎ (laidOut b ≡ false) → length (entered b g .bytes) ≡ length b
-    go (inl e) = length-after b (entered b g) e (entered-leaves b g e)
-    go (inr e) = ap (λ (o : Outcome). length (o .bytes)) (unlaid-entered b g e)
+    go : (laidOut b ≡ true) ⊎ (laidOut b ≡ false) → length (o .bytes) ≡ length b
+    go (inl e) = length-after b o e (laid e)
+    go (inr e) = ap (λ (x : Outcome). length (x .bytes)) (unlaid e)
+
+pub entered-length : (b g : List ℕ) → length (entered b g .bytes) ≡ length b
+entered-length b g = length-kept b (entered b g) (entered-leaves b g) (unlaid-entered b g)
 
 pub struck-length : (b g : List ℕ) → length (struck b g .bytes) ≡ length b
-unfolding refusal
-struck-length b g = go (yes-or-no (laidOut b))
-  where
-    go : (laidOut b ≡ true) ⊎ (laidOut b ≡ false) → length (struck b g .bytes) ≡ length b
-    go (inl e) = length-after b (struck b g) e (struck-leaves b g e)
-    go (inr e) = ap (λ (o : Outcome). length (o .bytes)) (unlaid-struck b g e)
+struck-length b g = length-kept b (struck b g) (struck-leaves b g) (unlaid-struck b g)
 
 pub opened-length : (s : Shape) (b : List ℕ) → length (opened s b .bytes) ≡ length b
 unfolding opened answered

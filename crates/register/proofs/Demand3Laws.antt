@@ -21,6 +21,7 @@ use Rattle.permutations.specs.Lists.{select, some, every}
 use Rattle.permutations.proofs.ListLaws.{select-none}
 use Rattle.grids.specs.Questions.{firstNo, question6, question7}
 use Rattle.register.proofs.AskedLaws.{open-pass}
+use Rattle.grids.proofs.QuestionLaws.{firstNo-has}
 use Rattle.bounds.specs.Bounds.{inBounds}
 use Rattle.bounds.specs.Kept.{Obeyed, obeyed}
 use Rattle.bounds.specs.Allperm.{Allperm, allperm}
@@ -85,18 +86,13 @@ fit-not-5 s l low high = go (obeyed (allperm (s .rows) (s .columns)) (cells s) (
     go false e = rw (e, fitClasses)
 
 -- neither does one of questions 6 to 8 answer 5
-no-five : (p q t : Bool) → eqb (firstNo (record { number = 6; answer = p } ∷ record { number = 7; answer = q } ∷ record { number = 8; answer = t } ∷ [])) 5 ≡ false
-unfolding firstNo
-no-five true true true = refl
-no-five true true false = refl
-no-five true false t = refl
-no-five false q t = refl
+grid-not-5 : (s : Shape) (g : List ℕ) → eqb (firstNo (gridQuestions s g)) 5 ≡ false
+unfolding gridQuestions question6 question7
+grid-not-5 s g = firstNo-has (λ k. eqb k 5 ≡ false) (gridQuestions s g) refl (refl, (refl, tt))
 
-no-five-two : (p q : Bool) → eqb (firstNo (record { number = 6; answer = p } ∷ record { number = 7; answer = q } ∷ [])) 5 ≡ false
-unfolding firstNo
-no-five-two true true = refl
-no-five-two true false = refl
-no-five-two false q = refl
+bounds-not-5 : (size top : ℕ) (low high : List ℕ) → eqb (firstNo (boundsQuestions size top low high)) 5 ≡ false
+unfolding boundsQuestions question6 question7 question8
+bounds-not-5 size top low high = firstNo-has (λ k. eqb k 5 ≡ false) (boundsQuestions size top low high) refl (refl, (refl, (refl, tt)))
 
 unless-not-5 : (k : ℕ) (l : Grids) (t : Step) → eqb k 5 ≡ false → eqb (t .number) 5 ≡ false → eqb (stepUnless k l t .number) 5 ≡ false
 unfolding stepUnless
@@ -104,10 +100,10 @@ unless-not-5 zero l t e f = f
 unless-not-5 (suc k) l t e f = e
 
 pub step-not-5 : (s : Shape) (l : Grids) (c : Call) → eqb (step s l c .number) 5 ≡ false
-unfolding step gridQuestions boundsQuestions question6 question7 question8
-step-not-5 s l (enter g) = unless-not-5 _ l _ (no-five-two _ _) (enter-not-5 s l (leastIn s g))
-step-not-5 s l (strike g) = unless-not-5 _ l _ (no-five-two _ _) (strike-not-5 l (leastIn s g))
-step-not-5 s l (fit low high) = unless-not-5 _ l _ (no-five _ _ _) (fit-not-5 s l low high)
+unfolding step
+step-not-5 s l (enter g) = unless-not-5 _ l _ (grid-not-5 s g) (enter-not-5 s l (leastIn s g))
+step-not-5 s l (strike g) = unless-not-5 _ l _ (grid-not-5 s g) (strike-not-5 l (leastIn s g))
+step-not-5 s l (fit low high) = unless-not-5 _ l _ (bounds-not-5 (cells s) (s .top) low high) (fit-not-5 s l low high)
 
 pub never-five : (s : Shape) (calls : List Call) (l : Grids) → every (λ o. not (eqb (o .number) 5)) (outcomes s l calls) ≡ true
 unfolding outcomes outcome every

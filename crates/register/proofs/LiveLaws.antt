@@ -22,6 +22,7 @@ use Rattle.grids.specs.Questions.{firstNo, question6, question7}
 use Rattle.grids.proofs.OrderLaws.{equal-eq, eq-equal, equal-sym}
 use Rattle.grids.proofs.GridLaws.{class-passes, passes-class}
 use Rattle.grids.proofs.LeastLaws.{class-least, least-class}
+use Rattle.grids.proofs.QuestionLaws.{firstNo-has}
 use Rattle.bounds.specs.Prune.{boundsQuestions, question8}
 use Rattle.register.specs.Layout.{Shape, cells}
 use Rattle.register.specs.Calls.{gridQuestions, leastIn, holds, without}
@@ -81,26 +82,18 @@ held-strike l a r = go (holds r l) refl
 
 -- ---- a refusal's number is none of 0, 101 and 102
 
-refused-two : (p q : Bool) (k : ℕ) → firstNo (record { number = 6; answer = p } ∷ record { number = 7; answer = q } ∷ []) ≡ suc k → accepted (suc k) ≡ false
-unfolding firstNo accepted
-refused-two true true k e = absurd (omega arith)
-refused-two true false k e = ap accepted (sym e)
-refused-two false q k e = ap accepted (sym e)
-
-refused-three : (p q t : Bool) (k : ℕ) → firstNo (record { number = 6; answer = p } ∷ record { number = 7; answer = q } ∷ record { number = 8; answer = t } ∷ []) ≡ suc k → accepted (suc k) ≡ false
-unfolding firstNo accepted
-refused-three true true true k e = absurd (omega arith)
-refused-three true true false k e = ap accepted (sym e)
-refused-three true false t k e = ap accepted (sym e)
-refused-three false q t k e = ap accepted (sym e)
+-- k, where it is the number of a refusal, is not accepted
+abbrev Unaccepted : ℕ → ℕ → Type 0
+Unaccepted j k = k ≡ suc j → accepted (suc j) ≡ false
 
 pub grid-refused : (s : Shape) (g : List ℕ) (k : ℕ) → firstNo (gridQuestions s g) ≡ suc k → accepted (suc k) ≡ false
-unfolding gridQuestions question6 question7
-grid-refused s g k e = refused-two _ _ k e
+unfolding gridQuestions question6 question7 accepted
+grid-refused s g k = firstNo-has (Unaccepted k) (gridQuestions s g) (λ e. absurd (omega arith)) (λ e. ap accepted (sym e), (λ e. ap accepted (sym e), tt))
 
 pub bounds-refused : (size top : ℕ) (low high : List ℕ) (k : ℕ) → firstNo (boundsQuestions size top low high) ≡ suc k → accepted (suc k) ≡ false
-unfolding boundsQuestions question6 question7 question8
-bounds-refused size top low high k e = refused-three _ _ _ k e
+unfolding boundsQuestions question6 question7 question8 accepted
+bounds-refused size top low high k =
+    firstNo-has (Unaccepted k) (boundsQuestions size top low high) (λ e. absurd (omega arith)) (λ e. ap accepted (sym e), (λ e. ap accepted (sym e), (λ e. ap accepted (sym e), tt)))
 
 -- ---- membership after a call of the machine
 

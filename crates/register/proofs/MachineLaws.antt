@@ -9,7 +9,7 @@
 --   afterwards s l calls  ==  the set after the calls
 --   step-good, afterwards-good  ==  a good set stays good
 use mathlib.Core.Path.{_≡_, refl, sym, ap, _∙_}
-use mathlib.Core.List.{List, [], _∷_, List·Memᴰ, List·Memᴰ·cases-cons}
+use mathlib.Core.List.{List, [], _∷_, _++_, List·Memᴰ, List·Memᴰ·cases-cons}
 use mathlib.Core.Bool.{Bool, true, false, true≢false, not}
 use mathlib.Core.Logic.{_⊎_, inl, inr, _↔_}
 use Prim.Native.Nat.{ℕ, zero, suc, _≤_, _<_}
@@ -131,17 +131,21 @@ module _ (s : Shape) (l : Grids) (g : Good s l) where
       go true h = rw (holds-sorted r l, h, strikeClass) (made 0 (place-same r) (ap (λ (x : Grids). layout (record { shape = s; entries = x })) (sorted-select (λ x. not (equal r x)) l (g .once))))
       go false h = rw (holds-sorted r l, h, strikeClass) refl
 
+  -- a call of the grid a, whose last question has the number j + 1 and the answer t, o what it answers then, and u the machine's step then
+  grid-call : (a : List ℕ) (j : ℕ) (t : Bool) (o : Outcome) (u : Step) → answered (elim t as (λ x. ℕ) [ true ↦ 0 | false ↦ suc j ]) (shown s l) o ≡ outcome s u →
+      answered (firstNo (question5 (shown s l) ∷ (gridQuestions s a ++ (record { number = suc j; answer = t } ∷ [])))) (shown s l) o ≡ outcome s (stepUnless (firstNo (gridQuestions s a)) l u)
+  unfolding gridQuestions question6 question7
+  grid-call a j t o u h =
+      ap (λ (k : ℕ). answered k (shown s l) o) (question5-passes _ ∙ one-more _ _ t j)
+      ∙ after-questions (firstNo (gridQuestions s a)) j t o s l u h
+
   enter-register : (a r : List ℕ) → enterRegister (shown s l) (registerOf s l) a r ≡ outcome s (stepUnless (firstNo (gridQuestions s a)) l (enterClass s l r))
-  unfolding enterRegister enterQuestions gridQuestions question6 question7 question9 registerOf
-  enter-register a r =
-      ap (λ (k : ℕ). answered k (shown s l) (enterInto (shown s l) (registerOf s l) r)) (question5-passes _ ∙ one-more _ _ (question9 (registerOf s l) r .answer) 8)
-      ∙ after-questions (firstNo (gridQuestions s a)) 8 (question9 (registerOf s l) r .answer) _ s l (enterClass s l r) (enter-class r)
+  unfolding enterRegister enterQuestions question9 registerOf
+  enter-register a r = grid-call a 8 (question9 (registerOf s l) r .answer) _ (enterClass s l r) (enter-class r)
 
   strike-register : (a r : List ℕ) → strikeRegister (shown s l) (registerOf s l) a r ≡ outcome s (stepUnless (firstNo (gridQuestions s a)) l (strikeClass l r))
-  unfolding strikeRegister strikeQuestions gridQuestions question6 question7 question10 registerOf
-  strike-register a r =
-      ap (λ (k : ℕ). answered k (shown s l) (strikeFrom (registerOf s l) r)) (question5-passes _ ∙ one-more _ _ (question10 (registerOf s l) r .answer) 9)
-      ∙ after-questions (firstNo (gridQuestions s a)) 9 (question10 (registerOf s l) r .answer) _ s l (strikeClass l r) (strike-class r)
+  unfolding strikeRegister strikeQuestions question10 registerOf
+  strike-register a r = grid-call a 9 (question10 (registerOf s l) r .answer) _ (strikeClass l r) (strike-class r)
 
   pub enter-same : (a : List ℕ) → entered (shown s l) a ≡ outcome s (stepUnless (firstNo (gridQuestions s a)) l (enterClass s l (leastIn s a)))
   unfolding entered registerOf
