@@ -1,2 +1,12 @@
 pub mod SearchSteps
 pub mod CallLaws
+pub mod BlockLaws
+pub mod LeadingRows
+pub mod OneRow
+pub mod InsertionSteps
+pub mod SearchLaws
+pub mod RepeatedRows
+pub mod PlaceLaws
+pub mod CallSteps
+pub mod BoundLaws
+pub mod SymmetryLaws

@@ -2,3 +2,5 @@ pub mod Represent
 pub mod Same
 pub mod Demand2
 pub mod Search
+pub mod Blocks
+pub mod Answers

@@ -3,3 +3,7 @@ pub mod GridLaws
 pub mod LeastLaws
 pub mod SortedColumns
 pub mod QuestionLaws
+pub mod ComparisonLaws
+pub mod QuestionSteps
+pub mod ComparisonSteps
+pub mod ArrangementSteps

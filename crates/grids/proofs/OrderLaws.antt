@@ -12,18 +12,16 @@
 --   ≼-prefix, ≼-lead                     ==  leading values are in the order of the lists; where they differ they decide it
 --   ≺-≼, ≺-trans, ≼-≺, less-decides      ==  strictly before
 --   equal-eq, eq-equal, equal-sym        ==  the test of equality
---   leq-end, leq-short, leq-at-less, leq-at-more, leq-at-same  ==  the comparison from an index on, as a loop goes
+--   leq-same                             ==  equal first values are passed over
 use mathlib.Core.Path.{_≡_, refl, sym, ap, ap₂, _∙_}
 use mathlib.Core.List.{List, [], _∷_}
 use mathlib.Core.Bool.{Bool, true, false, true≢false, not}
 use mathlib.Core.Logic.{_⊎_, inl, inr, _↔_}
-use Prim.Native.Nat.{ℕ, zero, suc, _+_, _≤_, _<_}
+use Prim.Native.Nat.{ℕ, zero, suc, _≤_, _<_}
 use native.Mathlib.Nat.{not-suc-le-zero}
 use native.Mathlib.Decide.{ℕ-discrete, decLt}
 use native.Mathlib.Omega.{arith}
-use native.Mathlib.Numerals.{add-one}
-use lib.ListN.{length, getD, drop, drop-of-length-le}
-use lib.Seq.{drop-cons}
+use lib.ListN.{length, getD}
 use lib.Dec.{eqb}
 use borrow.Author.Tests.{lt-ltb, le-ltb, eq-eqb, ne-eqb, eqb-true, not-true}
 use Rattle.permutations.specs.Lists.{tabulate}
@@ -82,7 +80,7 @@ leq-less : (x y : ℕ) (a b : List ℕ) → rank x < rank y → leq (x ∷ a) (y
 unfolding leq
 leq-less x y a b h = rw (lt-ltb (rank x) (rank y) h)
 
-leq-same : (x y : ℕ) (a b : List ℕ) → x ≡ y → leq (x ∷ a) (y ∷ b) ≡ leq a b
+pub leq-same : (x y : ℕ) (a b : List ℕ) → x ≡ y → leq (x ∷ a) (y ∷ b) ≡ leq a b
 unfolding leq
 leq-same x y a b h = let e : rank x ≡ rank y = ap rank h in rw (le-ltb (rank x) (rank y) (omega arith), eq-eqb x y h)
 
@@ -292,23 +290,3 @@ eq-equal a b e = rw (← e) (equal-refl a)
 
 pub equal-sym : (a b : List ℕ) → equal a b ≡ equal b a
 equal-sym a b = bool-ext (equal a b) (equal b a) (λ e. eq-equal b a (sym (equal-eq a b e))) (λ e. eq-equal a b (sym (equal-eq b a e)))
-
--- ---- the comparison from an index on
-
-pub leq-end : (a b : List ℕ) (i : ℕ) → length a ≤ i → leq (drop i a) (drop i b) ≡ true
-unfolding leq
-leq-end a b i h = rw (drop-of-length-le a h)
-
-pub leq-short : (a b : List ℕ) (i : ℕ) → i < length a → length b ≤ i → leq (drop i a) (drop i b) ≡ false
-unfolding leq
-leq-short a b i h k = rw (drop-cons a i 0 h, drop-of-length-le b k)
-
-module _ (a b : List ℕ) (i : ℕ) (h : i < length a) (k : i < length b) where
-  pub leq-at-less : rank (getD a i 0) < rank (getD b i 0) → leq (drop i a) (drop i b) ≡ true
-  leq-at-less l = rw (drop-cons a i 0 h, drop-cons b i 0 k) (leq-less (getD a i 0) (getD b i 0) (drop (suc i) a) (drop (suc i) b) l)
-
-  pub leq-at-more : rank (getD b i 0) < rank (getD a i 0) → leq (drop i a) (drop i b) ≡ false
-  leq-at-more l = rw (drop-cons a i 0 h, drop-cons b i 0 k) (leq-more (getD a i 0) (getD b i 0) (drop (suc i) a) (drop (suc i) b) l)
-
-  pub leq-at-same : getD a i 0 ≡ getD b i 0 → leq (drop i a) (drop i b) ≡ leq (drop (i + 1) a) (drop (i + 1) b)
-  leq-at-same e = rw (add-one i, drop-cons a i 0 h, drop-cons b i 0 k) (leq-same (getD a i 0) (getD b i 0) (drop (suc i) a) (drop (suc i) b) e)

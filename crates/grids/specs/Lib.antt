@@ -3,3 +3,4 @@ pub mod Grids
 pub mod Sorted
 pub mod Least
 pub mod Questions
+pub mod Comparisons

@@ -6,12 +6,13 @@
 --   map-past   ==  0 past the end
 --   map-is     ==  the numbers of an array, one by one
 --   take-is    ==  the first numbers of a list, one by one
+--   take-whole ==  an array is its own first numbers
 use mathlib.Core.Path.{_≡_, refl, sym, ap, _∙_}
 use mathlib.Core.List.{List, [], _∷_, map}
 use Prim.Native.Nat.{ℕ, zero, suc, _≤_, _<_}
 use native.Mathlib.Omega.{arith}
 use lib.ListN.{length, getD, set, take, length-map, List·getD-eq-default}
-use lib.Seq.{getD-take, length-take-le}
+use lib.Seq.{getD-take, length-take-le, take-all}
 use Rattle.permutations.specs.Lists.{tabulate}
 use Rattle.permutations.proofs.ListLaws.{tabulate-is, at-map}
 
@@ -35,3 +36,6 @@ module _ {A : Type 0} (f : A → ℕ) where
 
 pub take-is : (l : List ℕ) (n : ℕ) → n ≤ length l → tabulate 0 n (λ i. getD l i 0) ≡ take n l
 take-is l n h = tabulate-is 0 (take n l) n _ (length-take-le n l h) λ i b. getD-take n l i 0 b
+
+pub take-whole : (n : ℕ) (l p : List ℕ) → length l ≤ n → l ≡ p → take n l ≡ p
+take-whole n l p h e = take-all n l h ∙ e

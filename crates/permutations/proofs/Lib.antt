@@ -6,3 +6,4 @@ pub mod PermutationLaws
 pub mod PermutationTest
 pub mod PositionLaws
 pub mod Transpositions
+pub mod SwapLaws

@@ -2,10 +2,12 @@
 -- `width` is 8 for rows and 16 for columns.
 --
 --   padded width n p              ==  p's first n entries; the positions from n on hold their own number
+--   IsPadded width n p            ==  p's first n entries are a permutation of size n, and the positions from n on hold their own number
 --   Sound width n p               ==  n is 1 to width, and the first n positions are a permutation of size n
 --   isSound width n p             ==  the test of it
 --   composedPadded width n p k r  ==  p of size n followed by r of size k: the identity where the sizes differ or either is not sound
 --   inversePadded width n p       ==  the inverse of p of size n: the identity where p is not sound
+use mathlib.Core.Path.{_≡_}
 use mathlib.Core.List.{List}
 use mathlib.Core.Bool.{Bool, true, false, _&&_}
 use Prim.Native.Nat.{ℕ, _≤_}
@@ -16,6 +18,10 @@ use Rattle.permutations.specs.Permutations.{IsPermutation, isPermutation
 
 unfoldable pub padded : ℕ → ℕ → List ℕ → List ℕ
 padded width n p = tabulate 0 width (λ i. elim (ltb i n) [ true ↦ getD p i 0 | false ↦ i ])
+
+pub record IsPadded (width n : ℕ) (p : List ℕ) : Type 0 where
+  pub permutation : IsPermutation n (take n p)
+  pub rest : p ≡ padded width n (take n p)
 
 pub record Sound (width n : ℕ) (p : List ℕ) : Type 0 where
   pub some : 1 ≤ n

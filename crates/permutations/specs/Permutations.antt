@@ -6,13 +6,14 @@
 --   composed n p r     ==  sends i to p (r i) (p followed by r)
 --   position p k       ==  the first position of p that holds k; p's length where none does
 --   inverse n p        ==  sends k to its position in p (the reverse of p)
+--   swapped p i j      ==  p with its entries at i and j exchanged
 --   words n k          ==  all lists of k numbers below n
 --   permutations n     ==  all permutations of size n
 use mathlib.Core.Path.{_≡_}
 use mathlib.Core.List.{List, [], _∷_, map, flatMap}
 use mathlib.Core.Bool.{Bool, true, false, _&&_}
 use Prim.Native.Nat.{ℕ, zero, suc, _<_}
-use lib.ListN.{length, getD}
+use lib.ListN.{length, getD, set}
 use lib.Dec.{eqb}
 use Rattle.permutations.specs.Lists.{tabulate, numbers, select, every, occurrences}
 
@@ -36,6 +37,9 @@ position (x ∷ p) k = elim (eqb x k) [ true ↦ 0 | false ↦ suc (position p k
 
 unfoldable pub inverse : ℕ → List ℕ → List ℕ
 inverse n p = tabulate 0 n (position p)
+
+unfoldable pub swapped : List ℕ → ℕ → ℕ → List ℕ
+swapped p i j = set (set p i (getD p j 0)) j (getD p i 0)
 
 unfoldable pub words : ℕ → ℕ → List (List ℕ)
 words n zero = [] ∷ []

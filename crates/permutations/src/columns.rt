@@ -2,7 +2,7 @@
 use crate::numbers;
 ghost use mathlib.Core.Path.{_≡_};
 ghost use lib.ListN.{getD, set, take};
-ghost use Rattle.permutations.specs.Permutations.{identity};
+ghost use Rattle.permutations.specs.Permutations.{identity, swapped};
 ghost use Rattle.permutations.specs.Padded.{isSound, composedPadded, inversePadded};
 ghost use Rattle.permutations.specs.Columns.{columnNumbers, ListsColumns};
 
@@ -66,11 +66,20 @@ impl ColumnPermutation {
         out
     }
 
+    // The permutation with the columns at two positions exchanged; past the end stands column 0.
+    pub fn swapped(self, i: usize, j: usize) -> ColumnPermutation
+        ensures { λ r. ⌜ ListsColumns (swapped (columnNumbers self) i j) (self .size) r ⌝ }
+    {
+        let first = self.column(i);
+        let second = self.column(j);
+        self.with(i, second).with(j, first)
+    }
+
     // Whether the size is 1 to 16 and the first `size` positions list each column number below it once.
     pub fn is_permutation(self) -> bool
         ensures { λ r. ⌜ r ≡ isSound 16 (self .size) (columnNumbers self) ⌝ }
     {
-        numbers::lists_each_once(self.numbers(), ColumnPermutation::WIDTH, self.size)
+        numbers::lists_each_once(self.bytes(), ColumnPermutation::WIDTH, self.size)
     }
 
     // This permutation followed by another: sends i to self(other(i)).
@@ -79,9 +88,9 @@ impl ColumnPermutation {
     {
         let p = numbers::composition(
             ColumnPermutation::WIDTH,
-            self.numbers(),
+            self.bytes(),
             self.size,
-            other.numbers(),
+            other.bytes(),
             other.size,
         );
         ColumnPermutation::from_numbers(p, self.size)
@@ -91,14 +100,14 @@ impl ColumnPermutation {
     pub fn inverse(self) -> ColumnPermutation
         ensures { λ r. ⌜ ListsColumns (inversePadded 16 (self .size) (columnNumbers self)) (self .size) r ⌝ }
     {
-        let p = self.numbers();
+        let p = self.bytes();
         let q = numbers::inversion(ColumnPermutation::WIDTH, p, self.size);
         ColumnPermutation::from_numbers(q, self.size)
     }
 
     // The numbers in the positions.
-    fn numbers(self) -> [u8; 16]
-        ensures { λ r. ⌜ take 16 r ≡ columnNumbers self ⌝ }
+    pub fn bytes(self) -> [u8; 16]
+        ensures { λ r. ⌜ r ≡ columnNumbers self ⌝ }
     {
         let at = self.at;
         [

@@ -2,7 +2,7 @@
 use crate::numbers;
 ghost use mathlib.Core.Path.{_≡_};
 ghost use lib.ListN.{getD, set, take};
-ghost use Rattle.permutations.specs.Permutations.{identity};
+ghost use Rattle.permutations.specs.Permutations.{identity, swapped};
 ghost use Rattle.permutations.specs.Padded.{isSound, composedPadded, inversePadded};
 ghost use Rattle.permutations.specs.Rows.{rowNumbers, ListsRows};
 
@@ -58,6 +58,15 @@ impl RowPermutation {
         out
     }
 
+    // The permutation with the rows at two positions exchanged; past the end stands row 0.
+    pub fn swapped(self, i: usize, j: usize) -> RowPermutation
+        ensures { λ r. ⌜ ListsRows (swapped (rowNumbers self) i j) (self .size) r ⌝ }
+    {
+        let first = self.row(i);
+        let second = self.row(j);
+        self.with(i, second).with(j, first)
+    }
+
     // Whether the size is 1 to 8 and the first `size` positions list each row number below it once.
     pub fn is_permutation(self) -> bool
         ensures { λ r. ⌜ r ≡ isSound 8 (self .size) (rowNumbers self) ⌝ }
@@ -86,6 +95,23 @@ impl RowPermutation {
         let p = self.numbers();
         let q = numbers::inversion(RowPermutation::WIDTH, p, self.size);
         RowPermutation::from_numbers(q, self.size)
+    }
+
+    // The numbers in the positions.
+    pub fn bytes(self) -> [u8; 8]
+        ensures { λ r. ⌜ r ≡ rowNumbers self ⌝ }
+    {
+        let at = self.at;
+        [
+            at[0].0,
+            at[1].0,
+            at[2].0,
+            at[3].0,
+            at[4].0,
+            at[5].0,
+            at[6].0,
+            at[7].0,
+        ]
     }
 
     // The numbers in the positions, and past them their own.

@@ -16,8 +16,12 @@
 //! | `machine`     | the plain machine of demand 3                          |
 //! | `planbook`    | the program, input bytes to output bytes               |
 //! | `random`      | a small generator for tests                            |
+//! | `examples`    | grids for tests                                        |
+//! | `designs`     | grids with much symmetry, for tests and benchmarks     |
 
 pub mod bounds;
+pub mod designs;
+pub mod examples;
 pub mod grid;
 pub mod layout;
 pub mod machine;

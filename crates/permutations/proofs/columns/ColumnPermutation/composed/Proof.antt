@@ -2,15 +2,16 @@
 use mathlib.Core.Path.{_∙_}
 use native.Mathlib.Omega.{arith}
 use borrow.Author.Needs.{needs}
+use Rattle.permutations.proofs.ArrayLaws.{take-whole}
 use Rattle.permutations.proofs.PaddedLaws.{composed-of}
 use Rattle.permutations.proofs.columns.ColumnPermutation.composed.Statement.{statement}
 use Rattle.permutations.proofs.columns.ColumnPermutation.composed.Tie as tie
 
-numbers-requires : tie.Need-numbers-requires
-numbers-requires c κs = search needs
+bytes-requires : tie.Need-bytes-requires
+bytes-requires c κs = search needs
 
-numbers-requires-2 : tie.Need-numbers-requires-2
-numbers-requires-2 c κs = search needs
+bytes-requires-2 : tie.Need-bytes-requires-2
+bytes-requires-2 c κs = search needs
 
 composition-requires : tie.Need-composition-requires
 composition-requires c κs = search needs
@@ -20,12 +21,12 @@ from-numbers-requires c κs = search needs
 
 returns : tie.Need-returns
 returns c =
-    let p = c .before .before .before .numbers .ensures in
-    let r = c .before .before .numbers2 .ensures in
+    let p = take-whole 16 _ _ (omega arith) (c .before .before .before .bytes .ensures) in
+    let r = take-whole 16 _ _ (omega arith) (c .before .before .bytes2 .ensures) in
     record {
       numbers = c .from-numbers .ensures .numbers ∙ composed-of 16 _ _ _ _ _ _ _ p r (c .before .composition .ensures (omega arith));
       size = c .from-numbers .ensures .size;
     }
 
 pub composed-spec : {M : Type 1} → statement M
-composed-spec = tie.close (tie.spec numbers-requires numbers-requires-2 composition-requires from-numbers-requires returns)
+composed-spec = tie.close (tie.spec bytes-requires bytes-requires-2 composition-requires from-numbers-requires returns)

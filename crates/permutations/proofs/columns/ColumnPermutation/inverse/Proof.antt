@@ -2,12 +2,13 @@
 use mathlib.Core.Path.{_∙_}
 use native.Mathlib.Omega.{arith}
 use borrow.Author.Needs.{needs}
+use Rattle.permutations.proofs.ArrayLaws.{take-whole}
 use Rattle.permutations.proofs.PaddedLaws.{inverse-of}
 use Rattle.permutations.proofs.columns.ColumnPermutation.inverse.Statement.{statement}
 use Rattle.permutations.proofs.columns.ColumnPermutation.inverse.Tie as tie
 
-numbers-requires : tie.Need-numbers-requires
-numbers-requires c κs = search needs
+bytes-requires : tie.Need-bytes-requires
+bytes-requires c κs = search needs
 
 inversion-requires : tie.Need-inversion-requires
 inversion-requires c κs = search needs
@@ -17,10 +18,11 @@ from-numbers-requires c κs = search needs
 
 returns : tie.Need-returns
 returns c =
+    let p = take-whole 16 _ _ (omega arith) (c .before .before .bytes .ensures) in
     record {
-      numbers = c .from-numbers .ensures .numbers ∙ inverse-of 16 _ _ _ _ (c .before .before .numbers .ensures) (c .before .inversion .ensures (omega arith));
+      numbers = c .from-numbers .ensures .numbers ∙ inverse-of 16 _ _ _ _ p (c .before .inversion .ensures (omega arith));
       size = c .from-numbers .ensures .size;
     }
 
 pub inverse-spec : {M : Type 1} → statement M
-inverse-spec = tie.close (tie.spec numbers-requires inversion-requires from-numbers-requires returns)
+inverse-spec = tie.close (tie.spec bytes-requires inversion-requires from-numbers-requires returns)

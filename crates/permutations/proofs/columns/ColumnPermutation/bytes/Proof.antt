@@ -1,11 +1,11 @@
--- `numbers` meets its contract: the array's numbers, one by one.
+-- `bytes` meets its contract: the array's numbers, one by one.
 -- That the array has 16 elements is told by `.good`, of `self`.
 use borrow.Author.Needs.{needs}
 use Rattle.permutations.specs.Lists.{tabulate}
 use Rattle.permutations.specs.Columns.{columnNumber, columnNumbers}
 use Rattle.permutations.proofs.ArrayLaws.{map-length, map-is}
-use Rattle.permutations.proofs.columns.ColumnPermutation.numbers.Statement.{statement}
-use Rattle.permutations.proofs.columns.ColumnPermutation.numbers.Tie as tie
+use Rattle.permutations.proofs.columns.ColumnPermutation.bytes.Statement.{statement}
+use Rattle.permutations.proofs.columns.ColumnPermutation.bytes.Tie as tie
 
 element-copy-out-t5 : tie.Need-element-copy-out-t5
 element-copy-out-t5 c = search needs
@@ -61,8 +61,8 @@ returns c =
     let a = c .before .args in
     map-is columnNumber (a .self .at) 16 _ (map-length _ (a .self .at) 16 (c .before .good .0 .1 .1 .0 .1 .0 .1))
 
-pub numbers-spec : {M : Type 1} → statement M
-numbers-spec =
+pub bytes-spec : {M : Type 1} → statement M
+bytes-spec =
     tie.close
     (tie.spec
     element-copy-out-t5

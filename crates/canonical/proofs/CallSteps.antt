@@ -1,0 +1,291 @@
+-- The joints of the calls represent and same: what their code finds, and what they answer from it.
+--
+--   asked m n top x y cs     ==  the questions of both calls: of the lengths of two slices x and y, and of the cells of the slices cs
+--   shape-refuses, cells-refuse, none-refuses  ==  their first no, as the code finds it: of the shape, else of the cells, else none
+--   shape-fits               ==  where none gets a no, what the shape is
+--   one-capped, two-capped   ==  question 7 gets a yes for one slice, for two
+--   first-cells-no, second-cells-no  ==  it gets a no for the first slice, for the second
+--   least-produces           ==  the orders of the least arrangement produce it
+--   represent-refuses, represent-gives  ==  represent's answers: where a question gets a no, and past the questions
+--   size-fits                ==  a grid has at most 128 cells
+--   written-within           ==  an arrangement at the beginning of an array is within it
+--   meet-equals              ==  two arrangements, each at the beginning of an array, are compared
+--   same-refuses, same-differs, same-gives  ==  same's answers: where a question gets a no, and for grids in two classes and in one
+use mathlib.Core.Path.{_≡_, refl, sym, ap, _∙_}
+use mathlib.Core.List.{List, [], _∷_, _++_, List·Memᴰ·head, List·Memᴰ·tail}
+use mathlib.Core.Bool.{Bool, true, false, true≢false, and-true}
+use Prim.Native.Nat.{ℕ, zero, suc, _*_, _-_, _≤_}
+use native.Mathlib.Nat.{mul-le-mul}
+use native.Mathlib.Omega.{arith}
+use lib.ListN.{length, take, length-append}
+use lib.Seq.{getD-take, take-at}
+use lib.Dec.{eqb}
+use Rattle.permutations.specs.Lists.{every}
+use Rattle.permutations.specs.Permutations.{composed, inverse}
+use Rattle.permutations.specs.Padded.{padded, IsPadded, isSound, composedPadded, inversePadded}
+use Rattle.permutations.specs.declared.rows.RowPermutation.{RowPermutation}
+use Rattle.permutations.specs.declared.columns.ColumnPermutation.{ColumnPermutation}
+use Rattle.permutations.specs.Rows.{rowNumbers, ListsRows}
+use Rattle.permutations.specs.Columns.{columnNumbers, ListsColumns}
+use Rattle.permutations.proofs.BoolLaws.{bool-ext}
+use Rattle.permutations.proofs.PaddedLaws.{isSound-yes, isSound-inverse, composedPadded-is, take-composedPadded, composedPadded-permutation, take-inversePadded}
+use Rattle.grids.specs.declared.comparisons.Comparison.{Comparison}
+use Rattle.grids.specs.Order.{equal}
+use Rattle.grids.specs.Grids.{IsGrid, capped, arrangement, OneClass}
+use Rattle.grids.specs.Least.{least}
+use Rattle.grids.specs.Questions.{Question, firstNo, Limits, question1, question2, question3, question6, question7, shapeNo}
+use Rattle.grids.specs.Comparisons.{isEqual, compared}
+use Rattle.grids.proofs.OrderLaws.{equal-eq, eq-equal}
+use Rattle.grids.proofs.ComparisonLaws.{equal-yes, equal-no}
+use Rattle.grids.proofs.GridLaws.{length-arrangement}
+use Rattle.grids.proofs.LeastLaws.{class-least}
+use Rattle.grids.proofs.QuestionLaws.{Numbered, firstNo-pass, firstNo-stop, slices-pass}
+use Rattle.canonical.specs.declared.answers.Answer.{Answer}
+use Rattle.canonical.specs.declared.search.Orders.{Orders}
+use Rattle.canonical.specs.Answers.{Refused}
+use Rattle.canonical.specs.Represent.{Produces, representQuestions, Represented}
+use Rattle.canonical.specs.Same.{sameQuestions, sameNumber, Compared}
+use Rattle.canonical.specs.Search.{leadingRows, LeastOrders}
+use Rattle.canonical.proofs.LeadingRows.{leading-is}
+use Rattle.canonical.proofs.CallLaws.{same-pass, same-103, same-leasts, same-orders}
+
+-- ---- the first no, as the code finds it
+
+-- questions that follow a no, or follow yeses
+first-no-stays : (l r : List Question) → (firstNo l ≡ 0 → ⊥) → firstNo (l ++ r) ≡ firstNo l
+unfolding firstNo
+first-no-stays [] r h = absurd (h refl)
+first-no-stays (q ∷ l) r h = go (first-no-stays l r) (q .answer) refl
+  where
+    go : ((firstNo l ≡ 0 → ⊥) → firstNo (l ++ r) ≡ firstNo l) → (t : Bool) → q .answer ≡ t → firstNo (q ∷ (l ++ r)) ≡ firstNo (q ∷ l)
+    go ih true e = firstNo-pass q (l ++ r) e ∙ ih (λ z. h (firstNo-pass q l e ∙ z)) ∙ sym (firstNo-pass q l e)
+    go ih false e = firstNo-stop q (l ++ r) e ∙ sym (firstNo-stop q l e)
+
+first-no-next : (l r : List Question) → Numbered l → firstNo l ≡ 0 → firstNo (l ++ r) ≡ firstNo r
+first-no-next [] r p z = refl
+first-no-next (q ∷ l) r p z = go (first-no-next l r (p .1)) (q .answer) refl
+  where
+    go : (firstNo l ≡ 0 → firstNo (l ++ r) ≡ firstNo r) → (t : Bool) → q .answer ≡ t → firstNo (q ∷ (l ++ r)) ≡ firstNo r
+    go ih true e = firstNo-pass q (l ++ r) e ∙ ih (sym (firstNo-pass q l e) ∙ z)
+    go ih false e = let k = firstNo-stop q l e in absurd (omega (arith, p .0))
+
+module _ (m n top : ℕ) (x y : List ℕ) (cs : List (List ℕ)) where
+  abbrev pub asked : List Question
+  asked = question1 m ∷ question2 n ∷ question3 top ∷ question6 (m * n) (x ∷ y ∷ []) ∷ question7 top cs ∷ []
+
+  shape : List Question
+  shape = question1 m ∷ question2 n ∷ question3 top ∷ question6 (m * n) (x ∷ y ∷ []) ∷ []
+
+  shape-numbered : Numbered shape
+  unfolding shape question1 question2 question3 question6
+  shape-numbered = (omega arith, (omega arith, (omega arith, (omega arith, tt))))
+
+  shape-is : firstNo shape ≡ shapeNo m n top (length x) (length y)
+  unfolding shape shapeNo question6 every
+  shape-is = rw (and-true (eqb (length y) (m * n)))
+
+  -- k is the first no of the shape
+  module _ (k : ℕ) (found : k ≡ shapeNo m n top (length x) (length y)) where
+    pub shape-refuses : (k ≡ 0 → ⊥) → firstNo asked ≡ k
+    unfolding shape
+    shape-refuses h = first-no-stays shape (question7 top cs ∷ []) (λ z. h (found ∙ sym shape-is ∙ z)) ∙ shape-is ∙ sym found
+
+    shape-passes : k ≡ 0 → firstNo asked ≡ firstNo (question7 top cs ∷ [])
+    unfolding shape
+    shape-passes z = first-no-next shape (question7 top cs ∷ []) shape-numbered (shape-is ∙ sym found ∙ z)
+
+    pub cells-refuse : k ≡ 0 → question7 top cs .answer ≡ false → firstNo asked ≡ 7
+    unfolding question7
+    cells-refuse z e = shape-passes z ∙ firstNo-stop (question7 top cs) [] e
+
+    pub none-refuses : k ≡ 0 → question7 top cs .answer ≡ true → firstNo asked ≡ 0
+    unfolding firstNo
+    none-refuses z e = shape-passes z ∙ firstNo-pass (question7 top cs) [] e
+
+  -- where none gets a no, the slices have the shape
+  pub shape-fits : firstNo asked ≡ 0 → (m ≤ 8) × (n ≤ 16) × (length x ≡ m * n) × (length y ≡ m * n)
+  shape-fits z =
+      let p = slices-pass m n top (x ∷ y ∷ []) cs .0 z in
+      (p .0 .rows-limits .1, p .0 .column-limits .1, p .1 x (List·Memᴰ·head refl), p .1 y (List·Memᴰ·tail (List·Memᴰ·head refl)))
+
+module _ (top : ℕ) (x : List ℕ) where
+  pub one-capped : capped top x ≡ true → question7 top (x ∷ []) .answer ≡ true
+  unfolding question7 every
+  one-capped e = rw e
+
+  pub two-capped : (y : List ℕ) → capped top x ≡ true → capped top y ≡ true → question7 top (x ∷ y ∷ []) .answer ≡ true
+  unfolding question7 every
+  two-capped y d e = rw (d, e)
+
+  pub first-cells-no : (l : List (List ℕ)) → capped top x ≡ false → question7 top (x ∷ l) .answer ≡ false
+  unfolding question7 every
+  first-cells-no l e = rw e
+
+  pub second-cells-no : (y : List ℕ) (l : List (List ℕ)) → capped top x ≡ true → capped top y ≡ false → question7 top (x ∷ y ∷ l) .answer ≡ false
+  unfolding question7 every
+  second-cells-no y l d e = rw (d, e)
+
+-- ---- represent
+
+arrangement-take : (m n : ℕ) (p q g : List ℕ) → arrangement m n (take m p) (take n q) g ≡ arrangement m n p q g
+arrangement-take m n p q g = leading-is n g (take m p) (take n q) p q m (λ i j im jn. rw (getD-take m p i 0 im, getD-take n q j 0 jn))
+
+pub least-produces : (m n : ℕ) (g : List ℕ) (o : Orders) → LeastOrders m n g o → Produces m n g (least m n g) (rowNumbers (o .rows)) (columnNumbers (o .columns))
+least-produces m n g o l = record {
+  row-permutation = l .orders .rows .whole .permutation;
+  column-permutation = l .orders .columns .whole .permutation;
+  gives = arrangement-take m n (rowNumbers (o .rows)) (columnNumbers (o .columns)) g ∙ l .gives;
+  row-rest = l .orders .rows .whole .rest;
+  column-rest = l .orders .columns .whole .rest;
+}
+
+module _ (m n top : ℕ) (g out : List ℕ) where
+  pub represent-refuses : (k : ℕ) (r : Answer) → firstNo (asked m n top g out (g ∷ [])) ≡ k → (k ≡ 0 → ⊥) → Refused k r →
+      Represented m n top g out (r .number) (rowNumbers (r .rows)) (columnNumbers (r .columns)) out
+  unfolding representQuestions
+  represent-refuses k r e h f = record {
+    number-is = f .number-is ∙ sym e;
+    written = λ z. absurd (h (sym (f .number-is) ∙ z));
+    produced = λ z. absurd (h (sym (f .number-is) ∙ z));
+    unchanged = λ nz. refl;
+    starting = λ nz. f .starting;
+  }
+
+  pub represent-gives : (o : Orders) (out′ : List ℕ) → firstNo (asked m n top g out (g ∷ [])) ≡ 0 → LeastOrders m n g o → out′ ≡ leadingRows m n g o →
+      Represented m n top g out 0 (rowNumbers (o .rows)) (columnNumbers (o .columns)) out′
+  unfolding representQuestions
+  represent-gives o out′ e l w = record {
+    number-is = sym e;
+    written = λ z. w ∙ l .gives;
+    produced = λ z. least-produces m n g o l;
+    unchanged = λ nz. absurd (nz refl);
+    starting = λ nz. absurd (nz refl);
+  }
+
+-- ---- meet
+
+pub size-fits : (m n : ℕ) → m ≤ 8 → n ≤ 16 → m * n ≤ 128
+size-fits m n a b = mul-le-mul a b
+
+-- an arrangement x that is written at the beginning of an array, before the rest x′
+module _ (m n : ℕ) (g p q x x′ : List ℕ) (e : x ≡ arrangement m n p q g) where
+  written-size : length x ≡ m * n
+  written-size = ap length e ∙ length-arrangement m n p q g
+
+  pub written-within : m * n ≤ length (x ++ x′)
+  written-within = simp length-append (omega (arith, written-size))
+
+  -- the part from 0 to m * n
+  written-part : take (m * n - 0) (x ++ x′) ≡ arrangement m n p q g
+  written-part = take-at x x′ (m * n - 0) (omega (arith, written-size)) ∙ e
+
+-- the test of a comparison is the test of equality
+compared-equals : (a b : List ℕ) (c : Comparison) (t : Bool) → c ≡ compared a b → t ≡ isEqual c → t ≡ equal a b
+compared-equals a b c t found f = bool-ext t (equal a b) (λ e. eq-equal a b (equal-yes a b c t found f e)) (λ e. go t refl (equal-eq a b e))
+  where
+    go : (s : Bool) → t ≡ s → a ≡ b → t ≡ true
+    go true e h = e
+    go false e h = absurd (equal-no a b c t found f e h)
+
+pub meet-equals : (m n : ℕ) (a b : List ℕ) (p q : Orders) (x y x′ y′ : List ℕ) (c : Comparison) (t : Bool) →
+    x ≡ leadingRows m n a p → y ≡ leadingRows m n b q → c ≡ compared (take (m * n - 0) (x ++ x′)) (take (m * n - 0) (y ++ y′)) → t ≡ isEqual c →
+    t ≡ equal (leadingRows m n a p) (leadingRows m n b q)
+meet-equals m n a b p q x y x′ y′ c t e f g h =
+    compared-equals _ _ c t (rw (written-part m n a _ _ x x′ e, written-part m n b _ _ y y′ f) at g) h
+
+-- ---- same
+
+-- p followed by the inverse of q
+record Followed (width n : ℕ) (p q r : List ℕ) : Type 0 where
+  whole : IsPadded width n r
+  own : take n r ≡ composed n (take n p) (inverse n (take n q))
+
+followed : (width n : ℕ) (p q : List ℕ) → 1 ≤ n → n ≤ width → IsPadded width n p → IsPadded width n q →
+    Followed width n p q (composedPadded width n p n (inversePadded width n q))
+followed width n p q a b op oq = record {
+  whole = record {
+    permutation = composedPadded-permutation width n p i sp si;
+    rest = composedPadded-is width n p i sp si ∙ ap (padded width n) (sym (take-composedPadded width n p i sp si));
+  };
+  own = take-composedPadded width n p i sp si ∙ ap (composed n (take n p)) (take-inversePadded width n q sq);
+}
+  where
+    i : List ℕ
+    i = inversePadded width n q
+
+    sp : isSound width n p ≡ true
+    sp = isSound-yes width n p (record { some = a; fits = b; permutation = op .permutation })
+
+    sq : isSound width n q ≡ true
+    sq = isSound-yes width n q (record { some = a; fits = b; permutation = oq .permutation })
+
+    si : isSound width n i ≡ true
+    si = isSound-inverse width n a b q
+
+-- as the code makes it, of permutations that hold their size
+followed-of : (width n j k l : ℕ) (p q i r : List ℕ) → 1 ≤ n → n ≤ width → IsPadded width n p → IsPadded width n q → j ≡ n → k ≡ n → l ≡ k →
+    i ≡ inversePadded width k q → r ≡ composedPadded width j p l i → Followed width n p q r
+followed-of width n j k l p q i r a b op oq ej ek el ei er = rw (er, ei, el, ek, ej) (followed width n p q a b op oq)
+
+module _ (m n top : ℕ) (a b : List ℕ) where
+  first-no-number : (k : ℕ) → firstNo (asked m n top a b (a ∷ b ∷ [])) ≡ k → (k ≡ 0 → ⊥) → sameNumber m n top a b ≡ k
+  unfolding sameNumber sameQuestions
+  first-no-number zero e h = absurd (h refl)
+  first-no-number (suc k) e h = rw (e, sameNumber)
+
+  compared-refused : (k : ℕ) (r : Answer) → sameNumber m n top a b ≡ k → (k ≡ 0 → ⊥) → Refused k r →
+      Compared m n top a b (r .number) (rowNumbers (r .rows)) (columnNumbers (r .columns))
+  compared-refused k r e h f = record {
+    number-is = f .number-is ∙ sym e;
+    produced = λ z. absurd (h (sym (f .number-is) ∙ z));
+    starting = λ nz. f .starting;
+  }
+
+  pub same-refuses : (k : ℕ) (r : Answer) → firstNo (asked m n top a b (a ∷ b ∷ [])) ≡ k → (k ≡ 0 → ⊥) → Refused k r →
+      Compared m n top a b (r .number) (rowNumbers (r .rows)) (columnNumbers (r .columns))
+  same-refuses k r e h f = compared-refused k r (first-no-number k e h) h f
+
+  module _ (p q : Orders) (e : firstNo (asked m n top a b (a ∷ b ∷ [])) ≡ 0) (lp : LeastOrders m n a p) (lq : LeastOrders m n b q) where
+    fits : Limits m n top × IsGrid m n top a × IsGrid m n top b
+    unfolding sameQuestions
+    fits = same-pass m n top a b .0 e
+
+    module _ (t : Bool) (met : t ≡ equal (leadingRows m n a p) (leadingRows m n b q)) where
+      two-classes : t ≡ false → OneClass m n a b → ⊥
+      two-classes d c = true≢false (sym (eq-equal _ _ (lp .gives ∙ class-least m n a b (fits .1 .cells) c ∙ sym (lq .gives))) ∙ sym met ∙ d)
+
+      pub same-differs : t ≡ false → (r : Answer) → Refused 103 r → Compared m n top a b (r .number) (rowNumbers (r .rows)) (columnNumbers (r .columns))
+      unfolding sameQuestions
+      same-differs d r f = compared-refused 103 r (same-103 m n top a b e .1 (two-classes d)) (omega arith) f
+
+      one-least : t ≡ true → least m n a ≡ least m n b
+      one-least d = sym (lp .gives) ∙ equal-eq _ _ (sym met ∙ d) ∙ lq .gives
+
+      pub same-gives : t ≡ true → (i r : RowPermutation) (j s : ColumnPermutation) →
+          ListsRows (inversePadded 8 (q .rows .size) (rowNumbers (q .rows))) (q .rows .size) i →
+          ListsRows (composedPadded 8 (p .rows .size) (rowNumbers (p .rows)) (i .size) (rowNumbers i)) (p .rows .size) r →
+          ListsColumns (inversePadded 16 (q .columns .size) (columnNumbers (q .columns))) (q .columns .size) j →
+          ListsColumns (composedPadded 16 (p .columns .size) (columnNumbers (p .columns)) (j .size) (columnNumbers j)) (p .columns .size) s →
+          Compared m n top a b 0 (rowNumbers r) (columnNumbers s)
+      unfolding sameQuestions
+      same-gives d i r j s ei er ej es = record {
+        number-is = sym (same-leasts m n top a b e .1 (one-least d));
+        produced = λ z. record {
+          row-permutation = fr .whole .permutation;
+          column-permutation = fs .whole .permutation;
+          gives = rw (fr .own, fs .own)
+              (same-orders m n a b (least m n b) _ _ _ _ (fits .2 .cells) (lq .orders .rows .whole .permutation) (lq .orders .columns .whole .permutation)
+              (least-produces m n a p lp .gives ∙ one-least d) (least-produces m n b q lq .gives));
+          row-rest = fr .whole .rest;
+          column-rest = fs .whole .rest;
+        };
+        starting = λ nz. absurd (nz refl);
+      }
+        where
+          fr : Followed 8 m (rowNumbers (p .rows)) (rowNumbers (q .rows)) (rowNumbers r)
+          fr = followed-of 8 m (p .rows .size) (q .rows .size) (i .size) _ _ (rowNumbers i) _ (fits .0 .rows-limits .0) (fits .0 .rows-limits .1)
+              (lp .orders .rows .whole) (lq .orders .rows .whole) (lp .orders .rows .size) (lq .orders .rows .size) (ei .size) (ei .numbers) (er .numbers)
+
+          fs : Followed 16 n (columnNumbers (p .columns)) (columnNumbers (q .columns)) (columnNumbers s)
+          fs = followed-of 16 n (p .columns .size) (q .columns .size) (j .size) _ _ (columnNumbers j) _ (fits .0 .column-limits .0) (fits .0 .column-limits .1)
+              (lp .orders .columns .whole) (lq .orders .columns .whole) (lp .orders .columns .size) (lq .orders .columns .size) (ej .size) (ej .numbers) (es .numbers)

@@ -1,0 +1,70 @@
+-- `represent` meets its contract: a refusal has the number of the first no; past the questions it writes the least arrangement.
+use mathlib.Core.Path.{_≡_, sym, _∙_}
+use mathlib.Core.List.{[], _∷_}
+use native.Mathlib.Omega.{arith}
+use borrow.Author.Tests.{not-true, not-false}
+use borrow.Author.Needs.{needs}
+use Rattle.grids.specs.Questions.{firstNo}
+use Rattle.canonical.proofs.CallSteps.{asked, shape-refuses, cells-refuse, none-refuses, shape-fits, one-capped, first-cells-no, represent-refuses, represent-gives}
+use Rattle.canonical.proofs.represent.represent.Statement.{statement}
+use Rattle.canonical.proofs.represent.represent.Tie as tie
+
+shape-no-requires : tie.Need-shape-no-requires
+shape-no-requires c κs = search needs
+
+refused-requires : tie.Need-refused-requires
+refused-requires c κs = search needs
+
+returns : tie.Need-returns
+returns c =
+    represent-refuses _ _ _ _ _ _ _ (shape-refuses _ _ _ _ _ _ _ (c .before .before .shape-no .ensures) (c .before .if1 .taken)) (c .before .if1 .taken)
+    (c .refused .ensures)
+
+is-capped-requires : tie.Need-is-capped-requires
+is-capped-requires c κs = search needs
+
+refused-requires-2 : tie.Need-refused-requires-2
+refused-requires-2 c κs = search needs
+
+returns-2 : tie.Need-returns-2
+returns-2 c =
+    let d = c .before .before in
+    let t = sym (d .is-capped .ensures) ∙ not-true _ (c .before .if2 .taken) in
+    represent-refuses _ _ _ _ _ _ _ (cells-refuse _ _ _ _ _ _ _ (d .before .before .shape-no .ensures) (d .before .if1 .left) (first-cells-no _ _ _ t)) (omega arith) (c .refused2 .ensures)
+
+-- past the questions
+passed : (c : tie.Else2) →
+    let a = c .before .before .before .before .before .before .args in
+    firstNo (asked (a .m) (a .n) (a .top) (a .grid .now) (a .out .now) (a .grid .now ∷ [])) ≡ 0
+passed c =
+    let d = c .before in
+    none-refuses _ _ _ _ _ _ _ (d .before .before .shape-no .ensures) (d .before .if1 .left) (one-capped _ _ (sym (d .is-capped .ensures) ∙ not-false _ (c .if2 .left)))
+
+least-orders-requires : tie.Need-least-orders-requires
+least-orders-requires c κs = let f = shape-fits _ _ _ _ _ _ (passed c) in (f .0, f .1, f .2)
+
+write-arrangement-requires : tie.Need-write-arrangement-requires
+write-arrangement-requires c κs = let f = shape-fits _ _ _ _ _ _ (passed (c .before .before .before .before)) in (f .0, f .1, f .3)
+
+same-length : tie.Need-same-length
+same-length c = search needs
+
+returns-3 : tie.Need-returns-3
+returns-3 c =
+    let d = c .before .before .before .before .before .before in
+    represent-gives _ _ _ _ _ _ _ (passed (d .before)) (d .least-orders .ensures) (c .before .before .write-arrangement .ensures)
+
+pub represent-spec : {M : Type 1} → statement M
+represent-spec =
+    tie.close
+    (tie.spec
+    shape-no-requires
+    refused-requires
+    returns
+    is-capped-requires
+    refused-requires-2
+    returns-2
+    least-orders-requires
+    write-arrangement-requires
+    same-length
+    returns-3)

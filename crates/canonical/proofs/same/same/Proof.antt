@@ -1,0 +1,122 @@
+-- `same` meets its contract: a refusal has the number of the first no; past the questions the two least arrangements decide,
+-- and where they meet, a's orders followed by the inverses of b's carry a to b.
+use mathlib.Core.Path.{_≡_, sym, _∙_}
+use mathlib.Core.List.{[], _∷_}
+use native.Mathlib.Omega.{arith}
+use borrow.Author.Tests.{not-true, not-false}
+use borrow.Author.Needs.{needs}
+use Rattle.grids.specs.Questions.{firstNo}
+use Rattle.canonical.proofs.CallSteps.{asked, shape-refuses, cells-refuse, none-refuses, shape-fits, two-capped, first-cells-no, second-cells-no, same-refuses, same-differs, same-gives}
+use Rattle.canonical.proofs.same.same.Statement.{statement}
+use Rattle.canonical.proofs.same.same.Tie as tie
+
+shape-no-requires : tie.Need-shape-no-requires
+shape-no-requires c κs = search needs
+
+refused-requires : tie.Need-refused-requires
+refused-requires c κs = search needs
+
+returns : tie.Need-returns
+returns c =
+    let h = c .before .if1 .taken in
+    same-refuses _ _ _ _ _ _ _ (shape-refuses _ _ _ _ _ _ _ (c .before .before .shape-no .ensures) h) h (c .refused .ensures)
+
+is-capped-requires : tie.Need-is-capped-requires
+is-capped-requires c κs = search needs
+
+refused-requires-2 : tie.Need-refused-requires-2
+refused-requires-2 c κs = search needs
+
+returns-2 : tie.Need-returns-2
+returns-2 c =
+    let d = c .before .before in
+    let t = sym (d .is-capped .ensures) ∙ not-true _ (c .before .if2 .taken) in
+    let z = cells-refuse _ _ _ _ _ _ _ (d .before .before .shape-no .ensures) (d .before .if1 .left) (first-cells-no _ _ _ t) in
+    same-refuses _ _ _ _ _ _ _ z (omega arith) (c .refused2 .ensures)
+
+is-capped-requires-2 : tie.Need-is-capped-requires-2
+is-capped-requires-2 c κs = search needs
+
+refused-requires-3 : tie.Need-refused-requires-3
+refused-requires-3 c κs = search needs
+
+returns-3 : tie.Need-returns-3
+returns-3 c =
+    let d = c .before .before in
+    let ta = sym (d .before .before .is-capped .ensures) ∙ not-false _ (d .before .if2 .left) in
+    let tb = sym (d .is-capped2 .ensures) ∙ not-true _ (c .before .if3 .taken) in
+    let z = cells-refuse _ _ _ _ _ _ _ (d .before .before .before .before .shape-no .ensures) (d .before .before .before .if1 .left) (second-cells-no _ _ _ _ ta tb) in
+    same-refuses _ _ _ _ _ _ _ z (omega arith) (c .refused3 .ensures)
+
+-- past the questions
+passed : (c : tie.Else3) →
+    let a = c .before .before .before .before .before .before .before .before .args in
+    firstNo (asked (a .m) (a .n) (a .top) (a .a .now) (a .b .now) (a .a .now ∷ a .b .now ∷ [])) ≡ 0
+passed c =
+    let d = c .before in
+    let ta = sym (d .before .before .is-capped .ensures) ∙ not-false _ (d .before .if2 .left) in
+    let tb = sym (d .is-capped2 .ensures) ∙ not-false _ (c .if3 .left) in
+    none-refuses _ _ _ _ _ _ _ (d .before .before .before .before .shape-no .ensures) (d .before .before .before .if1 .left) (two-capped _ _ _ ta tb)
+
+least-orders-requires : tie.Need-least-orders-requires
+least-orders-requires c κs = let f = shape-fits _ _ _ _ _ _ (passed c) in (f .0, f .1, f .2)
+
+least-orders-requires-2 : tie.Need-least-orders-requires-2
+least-orders-requires-2 c κs = let f = shape-fits _ _ _ _ _ _ (passed (c .before)) in (f .0, f .1, f .3)
+
+meet-requires : tie.Need-meet-requires
+meet-requires c κs = let f = shape-fits _ _ _ _ _ _ (passed (c .before .before)) in (f .0, f .1)
+
+refused-requires-4 : tie.Need-refused-requires-4
+refused-requires-4 c κs = search needs
+
+returns-4 : tie.Need-returns-4
+returns-4 c =
+    let d = c .before .before in
+    let p = d .before .before .least-orders .ensures in
+    let q = d .before .least-orders2 .ensures in
+    same-differs _ _ _ _ _ _ _ (passed (d .before .before .before)) p q _ (d .meet .ensures) (not-true _ (c .before .if4 .taken)) _ (c .refused4 .ensures)
+
+inverse-requires : tie.Need-inverse-requires
+inverse-requires c κs = search needs
+
+composed-requires : tie.Need-composed-requires
+composed-requires c κs = search needs
+
+inverse-requires-2 : tie.Need-inverse-requires-2
+inverse-requires-2 c κs = search needs
+
+composed-requires-2 : tie.Need-composed-requires-2
+composed-requires-2 c κs = search needs
+
+returns-5 : tie.Need-returns-5
+returns-5 c =
+    let d = c .before .before .before .before .before in
+    let p = d .before .before .least-orders .ensures in
+    let q = d .before .least-orders2 .ensures in
+    same-gives _ _ _ _ _ _ _ (passed (d .before .before .before)) p q _ (d .meet .ensures) (not-false _ (c .before .before .before .before .if4 .left)) _ _ _ _
+    (c .before .before .before .inverse .ensures) (c .before .before .composed .ensures) (c .before .inverse2 .ensures) (c .composed2 .ensures)
+
+pub same-spec : {M : Type 1} → statement M
+same-spec =
+    tie.close
+    (tie.spec
+    shape-no-requires
+    refused-requires
+    returns
+    is-capped-requires
+    refused-requires-2
+    returns-2
+    is-capped-requires-2
+    refused-requires-3
+    returns-3
+    least-orders-requires
+    least-orders-requires-2
+    meet-requires
+    refused-requires-4
+    returns-4
+    inverse-requires
+    composed-requires
+    inverse-requires-2
+    composed-requires-2
+    returns-5)

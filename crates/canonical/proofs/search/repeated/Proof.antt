@@ -1,0 +1,89 @@
+-- `repeated` meets its contract. The loop's invariant: no row from position k up to s equals the one at t. The measure is what
+-- is left of t.
+use mathlib.Core.Path.{sym}
+use mathlib.Core.Bool.{true≢false}
+use Prim.Native.Nat.{_≤_, _-_}
+use native.Mathlib.Omega.{arith}
+use borrow.Author.Needs.{needs}
+use Rattle.permutations.specs.Permutations.{identity}
+use Rattle.permutations.specs.Rows.{rowNumbers}
+use Rattle.grids.proofs.ComparisonLaws.{equal-yes, equal-no}
+use Rattle.canonical.proofs.RepeatedRows.{rows-compared, NoneUpTo, none-first, none-next, none-all}
+use Rattle.canonical.proofs.search.repeated.Statement.{statement}
+use Rattle.canonical.proofs.search.repeated.Tie as tie
+
+abbrev Inv-loop : tie.InvT-loop
+Inv-loop grid n rows k t start row s₀ s = (k ≤ s) × NoneUpTo n grid (rowNumbers rows) k t s
+
+abbrev μ-loop : tie.MeasureT-loop
+μ-loop grid n rows k t start row s₀ s = t - s
+
+identity-requires : tie.Need-identity-requires Inv-loop μ-loop
+identity-requires c κs = search needs
+
+row-requires : tie.Need-row-requires Inv-loop μ-loop
+row-requires c κs = search needs
+
+loop-holds : tie.Need-loop-holds Inv-loop μ-loop
+loop-holds c = (omega arith, none-first _ _ _ _ _)
+
+row-requires-2 : tie.Need-row-requires-2 Inv-loop μ-loop
+row-requires-2 c κs = search needs
+
+compare-rows-requires : tie.Need-compare-rows-requires Inv-loop μ-loop
+compare-rows-requires c κs = omega arith
+
+is-equal-requires : tie.Need-is-equal-requires Inv-loop μ-loop
+is-equal-requires c κs = search needs
+
+returns : tie.Need-returns Inv-loop μ-loop
+returns c =
+    let l = c .before .before .before .before .before .loop in
+    let start = c .before .before .before .before .before .before .before .identity .ensures .numbers in
+    let second = c .before .before .before .before .before .before .row .ensures in
+    let first = c .before .before .before .row2 .ensures in
+    let found = rows-compared _ _ _ _ _ _ _ _ (omega arith) start first second (c .before .before .compare-rows .ensures) in
+    let test = c .before .is-equal .ensures in
+    record {
+      found = λ e. (l .s, l .inv .0, omega arith, equal-yes _ _ _ _ found test (c .if1 .taken));
+      none = λ e. absurd (true≢false e);
+    }
+
+add-s : tie.Need-add-s Inv-loop μ-loop
+add-s c = omega arith
+
+loop-less : tie.Need-loop-less Inv-loop μ-loop
+loop-less c = omega arith
+
+loop-again : tie.Need-loop-again Inv-loop μ-loop
+loop-again c =
+    let l = c .before .before .before .before .before .loop in
+    let start = c .before .before .before .before .before .before .before .identity .ensures .numbers in
+    let second = c .before .before .before .before .before .before .row .ensures in
+    let first = c .before .before .before .row2 .ensures in
+    let found = rows-compared _ _ _ _ _ _ _ _ (omega arith) start first second (c .before .before .compare-rows .ensures) in
+    let test = c .before .is-equal .ensures in
+    (omega arith, none-next _ _ _ _ _ (l .s) (equal-no _ _ _ _ found test (c .if1 .left)) (l .inv .1))
+
+returns-2 : tie.Need-returns-2 Inv-loop μ-loop
+returns-2 c =
+    let l = c .before .loop in
+    record { found = λ e. absurd (true≢false (sym e)); none = λ e. none-all _ _ _ _ _ (l .s) (omega arith) (l .inv .1) }
+
+pub repeated-spec : {M : Type 1} → statement M
+repeated-spec =
+    tie.close
+    (tie.spec
+    Inv-loop
+    μ-loop
+    identity-requires
+    row-requires
+    loop-holds
+    row-requires-2
+    compare-rows-requires
+    is-equal-requires
+    returns
+    add-s
+    loop-less
+    loop-again
+    returns-2)

@@ -1,0 +1,32 @@
+-- What a comparison of two lists of cells finds.
+--
+--   isLess c, isEqual c, isGreater c  ==  what the comparison c found
+--   compared a b  ==  Less where a comes before b, Greater where b comes before a, Equal where they are equal
+--   comparedCells x y  ==  the same of two cells
+use mathlib.Core.List.{List, [], _∷_}
+use mathlib.Core.Bool.{Bool, true, false}
+use Prim.Native.Nat.{ℕ}
+use Rattle.grids.specs.declared.comparisons.Comparison.{Comparison}
+use Rattle.grids.specs.declared.comparisons.Comparison.the-variants.{Less, Equal, Greater}
+use Rattle.grids.specs.Order.{leq}
+
+abbrev pub isLess : Comparison → Bool
+isLess Less = true
+isLess Equal = false
+isLess Greater = false
+
+abbrev pub isEqual : Comparison → Bool
+isEqual Less = false
+isEqual Equal = true
+isEqual Greater = false
+
+abbrev pub isGreater : Comparison → Bool
+isGreater Less = false
+isGreater Equal = false
+isGreater Greater = true
+
+unfoldable pub compared : List ℕ → List ℕ → Comparison
+compared a b = elim (leq a b) [ true ↦ elim (leq b a) [ true ↦ Equal | false ↦ Less ] | false ↦ Greater ]
+
+abbrev pub comparedCells : ℕ → ℕ → Comparison
+comparedCells x y = compared (x ∷ []) (y ∷ [])

@@ -1,0 +1,46 @@
+// The calls as C and Rust see them: numbers and byte slices in, a struct of numbers out. Each name begins with the library's.
+use canonical::answers::Answer;
+use canonical::represent;
+use canonical::same;
+ghost use Rattle.canonical.specs.Represent.{Represented};
+ghost use Rattle.canonical.specs.Same.{Compared};
+ghost use Rattle.plan_register.specs.Exported.{Exported};
+
+// The number, the row order and the column order.
+#[repr(C)]
+pub struct Orders {
+    pub number: u32,
+    pub rows: [u8; 8],
+    pub columns: [u8; 16],
+}
+
+// The same numbers, without the types that tell rows from columns.
+fn exported(answer: Answer) -> Orders
+    ensures { λ r. ⌜ Exported answer r ⌝ }
+{
+    Orders {
+        number: answer.number,
+        rows: answer.rows.bytes(),
+        columns: answer.columns.bytes(),
+    }
+}
+
+#[no_mangle]
+pub extern "C" fn plan_register_represent(
+    m: usize,
+    n: usize,
+    top: usize,
+    grid: &[u8],
+    out: &mut [u8],
+) -> Orders
+    ensures { λ r. ⌜ Represented m n top (now (grid .entry)) (now (out .entry)) (r .number) (r .rows) (r .columns) (now (out .exit)) ⌝ }
+{
+    exported(represent::represent(m, n, top, grid, out))
+}
+
+#[no_mangle]
+pub extern "C" fn plan_register_same(m: usize, n: usize, top: usize, a: &[u8], b: &[u8]) -> Orders
+    ensures { λ r. ⌜ Compared m n top (now (a .entry)) (now (b .entry)) (r .number) (r .rows) (r .columns) ⌝ }
+{
+    exported(same::same(m, n, top, a, b))
+}

@@ -1,0 +1,39 @@
+//! The calls on grids. A grid of m rows and n columns is m times n cells, row after row.
+
+use crate::sys;
+use crate::Orders;
+
+/// Represent: writes the least arrangement of the grid's class to `out`.
+///
+/// `m` rows 1 to 8, `n` columns 1 to 16, cells 0 to `top`, which is at most 15; `grid` and
+/// `out` have m times n bytes each. Number 0 with orders by which `out` is the arrangement of
+/// `grid`; where several pairs of orders are, which pair is free. Otherwise a refusal,
+/// 1, 2, 3, 6 or 7, and `out` keeps its bytes.
+///
+/// ```
+/// let mut out = [0; 6];
+/// let orders = plan_register::represent(2, 3, 3, &[2, 2, 3, 2, 3, 1], &mut out);
+/// assert_eq!(orders.number, 0);
+/// assert_eq!(out, [1, 2, 3, 3, 2, 2]);
+/// assert_eq!(orders.rows[..2], [1, 0]);
+/// assert_eq!(orders.columns[..3], [2, 0, 1]);
+/// ```
+pub fn represent(m: usize, n: usize, top: usize, grid: &[u8], out: &mut [u8]) -> Orders {
+    sys::represent(m, n, top, grid, out)
+}
+
+/// Same: are the grids `a` and `b` in one class?
+///
+/// The numbers and the slices are as for [`represent`]. Number 0 with orders by which `b` is
+/// the arrangement of `a`, any such pair; 103 where the grids are in two classes. Otherwise
+/// a refusal, 1, 2, 3, 6 or 7.
+///
+/// ```
+/// let orders = plan_register::same(1, 3, 3, &[3, 0, 2], &[0, 2, 3]);
+/// assert_eq!(orders.number, 0);
+/// assert_eq!(orders.columns[..3], [1, 2, 0]);
+/// assert_eq!(plan_register::same(2, 2, 1, &[0, 0, 1, 1], &[0, 1, 0, 1]).number, 103);
+/// ```
+pub fn same(m: usize, n: usize, top: usize, a: &[u8], b: &[u8]) -> Orders {
+    sys::same(m, n, top, a, b)
+}

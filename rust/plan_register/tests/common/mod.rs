@@ -1,0 +1,87 @@
+//! What several tests share: the calls, with all their promises checked but the least itself.
+#![allow(dead_code)]
+
+mod lent;
+
+pub use lent::Lent;
+use plan_register::{represent, same, Orders};
+use reference::grid::{arrangement, identity, is_permutation, least};
+use reference::random::Random;
+
+/// Calls represent on a grid that passes. Checks that its orders are two permutations with
+/// their own numbers past m and n, that they produce what it wrote, and that no other byte
+/// changed. So what it wrote is in the grid's class.
+pub fn represented(m: usize, n: usize, top: u8, grid: &[u8]) -> Vec<u8> {
+    let (lent, mut out) = (Lent::holding(grid), Lent::sentinels(m * n));
+    let orders = represent(m, n, top.into(), lent.slice(), out.slice_mut());
+    assert_eq!(orders.number, 0, "{m}x{n} top {top}: {grid:?}");
+    check_orders(m, n, &orders);
+    let produced = arrangement(m, n, &orders.rows, &orders.columns, grid);
+    lent.check(grid);
+    out.check(&produced);
+    produced
+}
+
+/// Checks same on two grids that pass, against the reference. Are they in one class?
+pub fn check_same(m: usize, n: usize, top: u8, a: &[u8], b: &[u8]) -> bool {
+    let one_class = least(m, n, a) == least(m, n, b);
+    if one_class {
+        check_one_class(m, n, top, a, b);
+    } else {
+        check_two_classes(m, n, top, a, b);
+    }
+    one_class
+}
+
+/// Calls same on two grids of one class. Checks that its orders are two permutations with
+/// their own numbers past m and n, that they carry `a` to `b`, and that no byte changed.
+pub fn check_one_class(m: usize, n: usize, top: u8, a: &[u8], b: &[u8]) {
+    let orders = unchanging_same(m, n, top, a, b);
+    assert_eq!(orders.number, 0, "{m}x{n} top {top}: {a:?} {b:?}");
+    check_orders(m, n, &orders);
+    assert_eq!(arrangement(m, n, &orders.rows, &orders.columns, a), b);
+}
+
+/// Calls same on two grids of two classes. Checks that it answers 103 with the starting
+/// orders, and that no byte changed.
+pub fn check_two_classes(m: usize, n: usize, top: u8, a: &[u8], b: &[u8]) {
+    let orders = unchanging_same(m, n, top, a, b);
+    assert_eq!(orders, starting(103), "{m}x{n} top {top}: {a:?} {b:?}");
+}
+
+fn unchanging_same(m: usize, n: usize, top: u8, a: &[u8], b: &[u8]) -> Orders {
+    let (lent_a, lent_b) = (Lent::holding(a), Lent::holding(b));
+    let orders = same(m, n, top.into(), lent_a.slice(), lent_b.slice());
+    lent_a.check(a);
+    lent_b.check(b);
+    orders
+}
+
+fn check_orders(m: usize, n: usize, orders: &Orders) {
+    assert!(is_permutation(&orders.rows[..m]), "{orders:?}");
+    assert!(is_permutation(&orders.columns[..n]), "{orders:?}");
+    assert_eq!(orders.rows[m..], identity(8)[m..]);
+    assert_eq!(orders.columns[n..], identity(16)[n..]);
+}
+
+/// This number with the starting orders.
+pub fn starting(number: u32) -> Orders {
+    let reference = reference::grid::Orders::starting(number);
+    Orders {
+        number: reference.number,
+        rows: reference.rows,
+        columns: reference.columns,
+    }
+}
+
+/// The grid with its rows and its columns shuffled.
+pub fn shuffled(random: &mut Random, m: usize, n: usize, grid: &[u8]) -> Vec<u8> {
+    let (rows, columns) = (random.permutation(m), random.permutation(n));
+    arrangement(m, n, &rows, &columns, grid)
+}
+
+/// A number of rows and one of columns within the limits, the rows at most `rows`.
+pub fn random_shape(random: &mut Random, rows: u64) -> (usize, usize) {
+    let (m, n) = (random.between(1, rows), random.between(1, 16));
+    (m as usize, n as usize)
+}

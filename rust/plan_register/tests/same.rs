@@ -1,0 +1,93 @@
+//! Same against the reference: every pair of tiny grids, and pairs in one class.
+
+mod common;
+
+use common::{check_one_class, check_same, check_two_classes, random_shape, represented, shuffled};
+use plan_register::same;
+use reference::examples::{every_grid, plan};
+use reference::grid::{arrangement, least};
+use reference::random::Random;
+
+/// Checks same on all pairs of grids of this shape and top.
+fn check_every_pair(m: usize, n: usize, top: u8) {
+    let with_least = |grid: Vec<u8>| (least(m, n, &grid), grid);
+    let grids: Vec<_> = every_grid(m * n, top).into_iter().map(with_least).collect();
+    for (least_of_a, a) in &grids {
+        for (least_of_b, b) in &grids {
+            if least_of_a == least_of_b {
+                check_one_class(m, n, top, a, b);
+            } else {
+                check_two_classes(m, n, top, a, b);
+            }
+        }
+    }
+}
+
+#[test]
+fn every_pair_of_tiny_grids() {
+    check_every_pair(1, 1, 15);
+    for (m, n) in [(1, 2), (2, 1)] {
+        check_every_pair(m, n, 3);
+    }
+    for (m, n) in [(1, 3), (3, 1), (2, 2)] {
+        check_every_pair(m, n, 2);
+    }
+    for (m, n) in [(2, 3), (3, 2), (1, 8), (2, 4), (4, 2), (7, 1), (3, 3)] {
+        check_every_pair(m, n, 1);
+    }
+}
+
+#[test]
+fn the_orders_lead_from_a_to_b() {
+    // All rows and all columns differ, so that there is one pair only, and neither is its own reverse.
+    let (m, n, a) = plan("0123/1234/2345");
+    let (rows, columns) = ([1, 2, 0], [1, 2, 3, 0]);
+    let b = arrangement(m, n, &rows, &columns, &a);
+    let there = same(m, n, 5, &a, &b);
+    assert_eq!(there.number, 0);
+    assert_eq!(there.rows[..3], rows);
+    assert_eq!(there.columns[..4], columns);
+    let back = same(m, n, 5, &b, &a);
+    assert_eq!(back.number, 0);
+    assert_eq!(back.rows[..3], [2, 0, 1]);
+    assert_eq!(back.columns[..4], [3, 0, 1, 2]);
+}
+
+#[test]
+fn shuffled_copies_are_in_one_class() {
+    let mut random = Random::new(31);
+    for _ in 0..3000 {
+        let (m, n) = random_shape(&mut random, 8);
+        let top = random.between(0, 15) as u8;
+        let a = random.cells(m * n, top);
+        let b = shuffled(&mut random, m, n, &a);
+        check_one_class(m, n, top, &a, &b);
+        check_one_class(m, n, top, &b, &a);
+        check_one_class(m, n, top, &a, &represented(m, n, top, &a));
+    }
+}
+
+#[test]
+fn random_grids_are_in_one_class_where_the_reference_says_so() {
+    let mut random = Random::new(32);
+    let mut one_class = 0;
+    for _ in 0..20_000 {
+        let (m, n) = (random.between(1, 3) as usize, random.between(1, 4) as usize);
+        let (a, b) = (random.cells(m * n, 1), random.cells(m * n, 1));
+        one_class += usize::from(check_same(m, n, 1, &a, &b));
+    }
+    assert!((1000..19_000).contains(&one_class), "{one_class}");
+}
+
+#[test]
+fn one_slice_may_be_lent_as_both_grids() {
+    let mut random = Random::new(33);
+    for _ in 0..200 {
+        let (m, n) = random_shape(&mut random, 8);
+        let grid = random.cells(m * n, 2);
+        let orders = same(m, n, 2, &grid, &grid);
+        assert_eq!(orders.number, 0);
+        let carried = arrangement(m, n, &orders.rows, &orders.columns, &grid);
+        assert_eq!(carried, grid);
+    }
+}

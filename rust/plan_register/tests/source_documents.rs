@@ -1,0 +1,63 @@
+//! The marked plans of document 01 and examples of documents 000 and 002.
+
+mod common;
+
+use common::{check_one_class, check_two_classes, represented};
+use plan_register::{represent, same};
+use reference::examples::{cells, plan};
+
+/// Checks the representative of a written grid, with top 3.
+fn check_represented(grid: &str, representative: &str) {
+    let (m, n, grid) = plan(grid);
+    assert_eq!(represented(m, n, 3, &grid), cells(representative));
+}
+
+#[test]
+fn m1_with_its_only_orders() {
+    check_represented("223/231", "123/322");
+    let orders = represent(2, 3, 3, &cells("223/231"), &mut [0; 6]);
+    assert_eq!(orders.rows[..2], [1, 0]);
+    assert_eq!(orders.columns[..3], [2, 0, 1]);
+}
+
+#[test]
+fn m2_to_m5() {
+    check_represented("10/01", "01/10");
+    check_represented("112/010", "001/121");
+    check_represented("12/12", "12/12");
+    check_represented("302", "023");
+}
+
+#[test]
+fn m6_equal_cells_do_not_make_a_class() {
+    check_two_classes(2, 2, 1, &cells("00/11"), &cells("01/01"));
+}
+
+#[test]
+fn of_equally_good_rows_the_first_does_not_suffice() {
+    check_represented("012/201", "012/120");
+}
+
+#[test]
+fn document_000_two_matrices_of_one_class_have_one_pair_of_orders() {
+    let (first, second) = (cells("223/231"), cells("123/322"));
+    check_one_class(2, 3, 3, &first, &second);
+    let orders = same(2, 3, 3, &first, &second);
+    assert_eq!(orders.rows[..2], [1, 0]);
+    assert_eq!(orders.columns[..3], [2, 0, 1]);
+}
+
+#[test]
+fn document_002_matrices_a_b_c_are_in_one_class() {
+    let matrices = [
+        "021201/022110/010212/001122",
+        "001122/010212/021201/022110",
+        "001122/010212/012021/022110",
+    ];
+    for a in matrices {
+        check_represented(a, "001122/010212/012021/021201");
+        for b in matrices {
+            check_one_class(4, 6, 2, &cells(a), &cells(b));
+        }
+    }
+}

@@ -1,0 +1,35 @@
+//! Grids for tests: written ones, and every one of a small shape.
+
+/// The rows, columns and cells of a grid that is written with a slash between rows.
+pub fn plan(text: &str) -> (usize, usize, Vec<u8>) {
+    let rows: Vec<&str> = text.split('/').collect();
+    let cells: Vec<u8> = rows.concat().bytes().map(|digit| digit - b'0').collect();
+    (rows.len(), rows[0].len(), cells)
+}
+
+/// The cells of a grid that is written with a slash between rows.
+pub fn cells(text: &str) -> Vec<u8> {
+    plan(text).2
+}
+
+/// Every list of `count` cells of 0 to top, as a counter would show them.
+pub fn every_grid(count: usize, top: u8) -> Vec<Vec<u8>> {
+    let base = usize::from(top) + 1;
+    let digit = |number: usize, k: usize| (number / base.pow(k as u32) % base) as u8;
+    (0..base.pow(count as u32))
+        .map(|number| (0..count).map(|k| digit(number, k)).collect())
+        .collect()
+}
+
+/// Every (m, n) with at most `count` cells, within the limits.
+pub fn shapes_up_to(count: usize) -> Vec<(usize, usize)> {
+    let mut shapes = Vec::new();
+    for m in 1..=8 {
+        for n in 1..=16 {
+            if m * n <= count {
+                shapes.push((m, n));
+            }
+        }
+    }
+    shapes
+}
