@@ -65,6 +65,10 @@ fn candidate(
     ensures { λ r. ⌜ Candidate m n (now (grid .entry)) k t placed breaks r ⌝ }
 {
     let columns = blocks::sorted(grid, n, placed.rows.row(t), placed.columns, breaks);
+    if k == t {
+        let rows = placed.rows;
+        return Orders { rows, columns };
+    }
     let rows = placed.rows.swapped(k, t);
     Orders { rows, columns }
 }

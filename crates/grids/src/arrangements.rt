@@ -21,12 +21,13 @@ pub fn write_arrangement(
     requires { ⌜ (m ≤ 8) × (n ≤ 16) × (length (now out) ≡ m * n) ⌝ }
     ensures { λ _. ⌜ now (out .exit) ≡ arrangement m n (rowNumbers rows) (columnNumbers columns) (now (grid .entry)) ⌝ }
 {
+    let order = columns.at;
     let mut i = 0;
     while i < m {
         let row = rows.row(i);
         let mut j = 0;
         while j < n {
-            out[i * n + j] = cells::cell(grid, n, row, columns.column(j));
+            out[i * n + j] = cells::cell(grid, n, row, order[j]);
             j += 1;
         }
         i += 1;

@@ -2,6 +2,7 @@
 --
 --   length-swapped, at-swapped  ==  length and entries after an exchange
 --   swapped-other               ==  a position that is not exchanged keeps its entry
+--   swapped-same                ==  an entry exchanged with itself
 --   swapped-of                  ==  two entries stored, each where the other was
 --   length-whole, at-whole, rest-whole  ==  length and entries of a padded permutation
 --   identity-whole              ==  the identity is one, of every size up to its width
@@ -12,7 +13,7 @@ use Prim.Native.Nat.{ℕ, _≤_, _<_}
 use native.Mathlib.Decide.{ℕ-discrete}
 use native.Mathlib.Omega.{arith}
 use lib.ListN.{length, getD, set, take, length-set}
-use lib.Seq.{getD-set-same, getD-set-other, getD-take, length-take-le}
+use lib.Seq.{getD-set-same, getD-set-other, set-set, set-getD, getD-take, length-take-le}
 use Rattle.permutations.specs.Permutations.{identity, swapped}
 use Rattle.permutations.specs.Padded.{padded, IsPadded}
 use Rattle.permutations.proofs.PermutationLaws.{identity-permutation}
@@ -40,6 +41,10 @@ pub swapped-other : (p : List ℕ) (i j t : ℕ) → (t ≡ i → ⊥) → (t �
 unfolding swapped
 swapped-other p i j t ne nf =
     getD-set-other (set p i (getD p j 0)) j t (getD p i 0) 0 nf ∙ getD-set-other p i t (getD p j 0) 0 ne
+
+pub swapped-same : (p : List ℕ) (i j : ℕ) → i ≡ j → swapped p i j ≡ p
+unfolding swapped
+swapped-same p i j e = rw (e, set-set p j (getD p j 0) (getD p j 0)) (set-getD p j 0)
 
 pub swapped-of : (p a b : List ℕ) (i j x y : ℕ) → x ≡ getD p i 0 → y ≡ getD p j 0 → a ≡ set p i y → b ≡ set a j x → b ≡ swapped p i j
 unfolding swapped

@@ -1,5 +1,7 @@
 -- `candidate` meets its contract: the row at position t is brought to k, and the blocks are sorted by it.
+use mathlib.Core.Path.{refl, sym}
 use borrow.Author.Needs.{needs}
+use Rattle.permutations.proofs.SwapLaws.{swapped-same}
 use Rattle.canonical.proofs.SearchLaws.{candidate-of}
 use Rattle.canonical.proofs.search.candidate.Statement.{statement}
 use Rattle.canonical.proofs.search.candidate.Tie as tie
@@ -12,13 +14,19 @@ sorted-requires c κs =
     let s = c .before .before .pre .0 in
     (s .columns-fit, s .orders .columns)
 
+returns : tie.Need-returns
+returns c =
+    let pre = c .before .before .before .before .before .pre in
+    candidate-of _ _ _ _ _ _ _ _ _ (pre .0) (pre .1) (pre .2) (record { numbers = sym (swapped-same _ _ _ (c .before .if1 .taken)); size = refl }) _
+    (c .before .before .before .row .ensures) (c .before .before .sorted .ensures)
+
 swapped-requires : tie.Need-swapped-requires
 swapped-requires c κs = search needs
 
-returns : tie.Need-returns
-returns c =
-    let pre = c .before .before .before .before .pre in
-    candidate-of _ _ _ _ _ _ _ _ _ (pre .0) (pre .1) (pre .2) (c .swapped .ensures) _ (c .before .before .row .ensures) (c .before .sorted .ensures)
+returns-2 : tie.Need-returns-2
+returns-2 c =
+    let pre = c .before .before .before .before .before .pre in
+    candidate-of _ _ _ _ _ _ _ _ _ (pre .0) (pre .1) (pre .2) (c .swapped .ensures) _ (c .before .before .before .row .ensures) (c .before .before .sorted .ensures)
 
 pub candidate-spec : {M : Type 1} → statement M
-candidate-spec = tie.close (tie.spec row-requires sorted-requires swapped-requires returns)
+candidate-spec = tie.close (tie.spec row-requires sorted-requires returns swapped-requires returns-2)
