@@ -2,7 +2,7 @@
 use crate::numbers;
 ghost use mathlib.Core.Path.{_≡_};
 ghost use lib.ListN.{getD, set, take};
-ghost use Rattle.permutations.specs.Permutations.{identity, swapped};
+ghost use Rattle.permutations.specs.Permutations.{identity};
 ghost use Rattle.permutations.specs.Padded.{isSound, composedPadded, inversePadded};
 ghost use Rattle.permutations.specs.Columns.{columnNumbers, ListsColumns};
 
@@ -64,15 +64,6 @@ impl ColumnPermutation {
             out.at[i] = column;
         }
         out
-    }
-
-    // The permutation with the columns at two positions exchanged; past the end stands column 0.
-    pub fn swapped(self, i: usize, j: usize) -> ColumnPermutation
-        ensures { λ r. ⌜ ListsColumns (swapped (columnNumbers self) i j) (self .size) r ⌝ }
-    {
-        let first = self.column(i);
-        let second = self.column(j);
-        self.with(i, second).with(j, first)
     }
 
     // Whether the size is 1 to 16 and the first `size` positions list each column number below it once.
