@@ -1,12 +1,15 @@
 -- Laws of bounds.
 --
 --   Fits top a b v              ==  v is 0 to top and, by rank, within a to b
+--   bounds-wider                ==  bounds of values up to a top are bounds of values up to a greater one
 --   ranks-within                ==  the test of ranking within a to b
 --   between-at                  ==  `between` lists the values that fit, and nothing else
+--   between-fewer               ==  narrower bounds have no more values
 --   cells-fit, fit-cells        ==  a grid lies in the bounds exactly if it has their size and each cell fits
 --   within-listed               ==  `gridsWithin` lists the grids that lie in the bounds, and nothing else
 --   some-within                 ==  some listed grid passes a test exactly if some grid in the bounds does
 --   inBounds-decides            ==  the test of lying in the bounds decides it
+--   order-asked                 ==  what question 8 asks
 --   bounds-asked, bounds-numbered, bounds-pass  ==  questions 6, 7 and 8 get a yes exactly for bounds
 use mathlib.Core.Path.{_≡_, refl, ap}
 use mathlib.Core.List.{List, [], _∷_, map, List·Memᴰ, List·Memᴰ·head, List·Memᴰ·tail, List·Memᴰ·eq-of-singleton, Memᴰ·map, Memᴰ·of-map}
@@ -18,9 +21,9 @@ use native.Mathlib.Omega.{arith}
 use lib.ListN.{length, getD}
 use lib.Dec.{leb, eqb}
 use borrow.Author.Tests.{leb-true, le-leb, eqb-true, eq-eqb}
-use Rattle.permutations.specs.Lists.{numbers, some}
+use Rattle.permutations.specs.Lists.{numbers, select, some}
 use Rattle.permutations.proofs.BoolLaws.{and-yes, yes-and}
-use Rattle.permutations.proofs.ListLaws.{in-select, of-select, in-flatMap, of-flatMap, in-numbers, of-numbers, every-number, number-every, some-at, at-some}
+use Rattle.permutations.proofs.ListLaws.{in-select, of-select, length-select, select-within, in-flatMap, of-flatMap, in-numbers, of-numbers, every-number, number-every, some-at, at-some}
 use Rattle.grids.specs.Order.{rank}
 use Rattle.grids.specs.Grids.{capped}
 use Rattle.grids.specs.Questions.{firstNo, question6, question7}
@@ -30,6 +33,15 @@ use Rattle.bounds.specs.Prune.{question8, boundsQuestions}
 
 abbrev pub Fits : ℕ → ℕ → ℕ → ℕ → Type 0
 Fits top a b v = (v ≤ top) × (rank a ≤ rank v) × (rank v ≤ rank b)
+
+pub bounds-wider : {size top cap : ℕ} {low high : List ℕ} → top ≤ cap → IsBounds size top low high → IsBounds size cap low high
+bounds-wider h i = record {
+  low-size = i .low-size;
+  high-size = i .high-size;
+  low-cap = λ k b. omega (arith, i .low-cap k b);
+  high-cap = λ k b. omega (arith, i .high-cap k b);
+  in-order = i .in-order;
+}
 
 -- ---- values
 
@@ -49,6 +61,14 @@ between-at top a b v = (
       (omega (arith, of-numbers (suc top) v (s .0)), w .0, w .1),
   λ h. in-select (ranksWithin a b) v (numbers (suc top)) (in-numbers (suc top) v (omega arith)) (ranks-within a b v .1 (h .1, h .2)),
 )
+
+pub between-fewer : (top a b c d : ℕ) → rank a ≤ rank c → rank d ≤ rank b → length (between top c d) ≤ length (between top a b)
+unfolding between
+between-fewer top a b c d l h =
+    rw (select-within (ranksWithin c d) (ranksWithin a b) (numbers (suc top)) inside) at (length-select (ranksWithin c d) (select (ranksWithin a b) (numbers (suc top))))
+  where
+    inside : (v : ℕ) → List·Memᴰ v (numbers (suc top)) → ranksWithin c d v ≡ true → ranksWithin a b v ≡ true
+    inside v m t = let w = ranks-within c d v .0 t in ranks-within a b v .1 (omega arith, omega arith)
 
 -- ---- grids
 
@@ -132,7 +152,7 @@ some-within size top low high t = (
 caps : (size top : ℕ) (l : List ℕ) → length l ≡ size → capped top l ≡ true → (k : ℕ) → k < size → getD l k 0 ≤ top
 caps size top l z t k b = capped-at top l t k (omega arith)
 
-order-asked : (size : ℕ) (low high : List ℕ) → (question8 size low high .answer ≡ true) ↔ ((k : ℕ) → k < size → rank (getD low k 0) ≤ rank (getD high k 0))
+pub order-asked : (size : ℕ) (low high : List ℕ) → (question8 size low high .answer ≡ true) ↔ ((k : ℕ) → k < size → rank (getD low k 0) ≤ rank (getD high k 0))
 unfolding question8
 order-asked size low high = (
   λ e k b. leb-true (rank (getD low k 0)) (rank (getD high k 0)) (every-number _ size e k b),

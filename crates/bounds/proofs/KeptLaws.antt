@@ -17,6 +17,7 @@
 --   pruned-same                            ==  there a grid that obeys the rule is in the new bounds exactly if it is in the old
 --   kept-is-bounds                         ==  there the new bounds have their sizes, caps and order
 --   removed-listed, removed-kept           ==  the values removed are those within the bounds that are not kept; with the kept ones they are all
+--   exact-low, exact-high, exact-inside, exact-removed  ==  where the kept values are those within given bounds, these are the new bounds
 --   all-kept                               ==  where every value within the bounds is kept, nothing changes
 use mathlib.Core.Path.{_≡_, refl, sym, ap, _∙_}
 use mathlib.Core.List.{List, [], _∷_, foldr, List·Memᴰ, List·Memᴰ·head, List·Memᴰ·tail, List·Memᴰ·not-nil}
@@ -29,11 +30,12 @@ use lib.Dec.{ltb, eqb}
 use borrow.Author.Tests.{ltb-true, ltb-false, eqb-true, eq-eqb, not-true}
 use Rattle.permutations.specs.Lists.{tabulate, numbers}
 use Rattle.permutations.proofs.BoolLaws.{and-yes, yes-and, bool-ext, refuted}
-use Rattle.permutations.proofs.ListLaws.{length-tabulate, at-tabulate, tabulate-is, tabulate-ext, no-member, in-select, of-select, select-ext, select-split, select-within, in-numbers, of-numbers}
+use Rattle.permutations.proofs.ListLaws.{length-tabulate, at-tabulate, tabulate-is, tabulate-ext, in-select, of-select, select-ext, select-split, select-within, in-numbers, of-numbers}
 use Rattle.grids.specs.Order.{rank}
 use Rattle.grids.proofs.OrderLaws.{rank-antisymm}
 use Rattle.bounds.specs.Bounds.{IsBounds, InBounds, ranksWithin, between, inBounds}
 use Rattle.bounds.specs.Kept.{Obeyed, Kept, obeyed, keeps, keptValues, lowestFrom, lowest, highestFrom, highest, keptLow, keptHigh, removedValues, removed}
+use Rattle.bounds.specs.Narrowed.{Inside, removedBy}
 use Rattle.bounds.proofs.BoundsLaws.{Fits, ranks-within, between-at, cells-fit, fit-cells, some-within, inBounds-decides}
 
 -- ---- kept values
@@ -125,6 +127,10 @@ sum-zeros : (s n : ℕ) → foldr _+_ 0 (tabulate s n (λ k. 0)) ≡ 0
 unfolding tabulate
 sum-zeros s zero = refl
 sum-zeros s (suc n) = omega (arith, sum-zeros (suc s) n)
+
+removed-none : (size top : ℕ) (low high : List ℕ) → removedBy size top low high low high ≡ 0
+unfolding removedBy
+removed-none size top low high = ap (foldr _+_ 0) (tabulate-ext 0 size _ (λ k. 0) (λ k b. omega arith)) ∙ sum-zeros 0 size
 
 module _ (Rule : List ℕ → Type 0) (rule : List ℕ → Bool) (decides : (g : List ℕ) → (rule g ≡ true) ↔ Rule g) (size top : ℕ) (low high : List ℕ) where
   pub obeyed-decides : (obeyed rule size top low high ≡ true) ↔ Obeyed Rule size top low high
@@ -228,29 +234,51 @@ module _ (Rule : List ℕ → Type 0) (rule : List ℕ → Bool) (decides : (g :
       inside : (v : ℕ) → List·Memᴰ v (numbers (suc top)) → keeps rule size top low high k v ≡ true → ranksWithin (getD low k 0) (getD high k 0) v ≡ true
       inside v m t = let f = kept-bounds b (keeps-decides k v .0 t) in ranks-within (getD low k 0) (getD high k 0) v .1 (f .1, f .2)
 
+  -- ---- where the kept values are those within given bounds
+
+  module _ (low′ high′ : List ℕ) (new : IsBounds size top low′ high′)
+      (exact : (k v : ℕ) → k < size → v ≤ top → Kept Rule size top low high k v ↔ ((rank (getD low′ k 0) ≤ rank v) × (rank v ≤ rank (getD high′ k 0)))) where
+    ends-kept : (k : ℕ) → k < size → Kept Rule size top low high k (getD low′ k 0) × Kept Rule size top low high k (getD high′ k 0)
+    ends-kept k b =
+        let h = new .in-order k b in
+        (exact k (getD low′ k 0) b (new .low-cap k b) .1 (omega arith, h), exact k (getD high′ k 0) b (new .high-cap k b) .1 (h, omega arith))
+
+    exact-within : (k v : ℕ) → k < size → Kept Rule size top low high k v → (rank (getD low′ k 0) ≤ rank v) × (rank v ≤ rank (getD high′ k 0))
+    exact-within k v b h = exact k v b (kept-bounds b h .0) .0 h
+
+    pub exact-low : keptLow rule size top low high ≡ low′
+    unfolding keptLow
+    exact-low =
+        tabulate-is 0 low′ size _ (new .low-size) λ k b.
+        let m = kept-listed k (getD low′ k 0) b .1 (ends-kept k b .0) in
+        rank-antisymm _ _ (exact-within k _ b (kept-listed k _ b .0 (lowest-in _ _ m)) .0) (lowest-le _ _ m)
+
+    pub exact-high : keptHigh rule size top low high ≡ high′
+    unfolding keptHigh
+    exact-high =
+        tabulate-is 0 high′ size _ (new .high-size) λ k b.
+        let m = kept-listed k (getD high′ k 0) b .1 (ends-kept k b .1) in
+        rank-antisymm _ _ (highest-le _ _ m) (exact-within k _ b (kept-listed k _ b .0 (highest-in _ _ m)) .1)
+
+    pub exact-removed : removed rule size top low high ≡ removedBy size top low high low′ high′
+    unfolding removed removedBy
+    exact-removed =
+        ap (foldr _+_ 0) (tabulate-ext 0 size _ _ λ k b.
+        omega (arith, removed-kept k b, ap length (values-between k (getD low′ k 0) (getD high′ k 0) b (λ v t. exact k v b t))))
+
+    pub exact-inside : IsBounds size top low high → Inside size top low high low′ high′
+    exact-inside ok = record {
+      old = ok;
+      new = new;
+      above = λ k b. kept-bounds b (ends-kept k b .0) .1;
+      below = λ k b. kept-bounds b (ends-kept k b .1) .2;
+    }
+
   -- ---- where every value within the bounds is kept
 
   module _ (ok : IsBounds size top low high) (all : (k v : ℕ) → k < size → Fits top (getD low k 0) (getD high k 0) v → Kept Rule size top low high k v) where
-    low-same : keptLow rule size top low high ≡ low
-    unfolding keptLow
-    low-same =
-        tabulate-is 0 low size _ (ok .low-size) λ k b.
-        let m = kept-listed k (getD low k 0) b .1 (all k (getD low k 0) b (ok .low-cap k b, omega arith, ok .in-order k b)) in
-        rank-antisymm _ _ (kept-bounds b (kept-listed k _ b .0 (lowest-in _ _ m)) .1) (lowest-le _ _ m)
-
-    high-same : keptHigh rule size top low high ≡ high
-    unfolding keptHigh
-    high-same =
-        tabulate-is 0 high size _ (ok .high-size) λ k b.
-        let m = kept-listed k (getD high k 0) b .1 (all k (getD high k 0) b (ok .high-cap k b, ok .in-order k b, omega arith)) in
-        rank-antisymm _ _ (highest-le _ _ m) (kept-bounds b (kept-listed k _ b .0 (highest-in _ _ m)) .2)
-
-    none-removed : removed rule size top low high ≡ 0
-    unfolding removed
-    none-removed = ap (foldr _+_ 0) (tabulate-ext 0 size _ (λ k. 0) (λ k b. ap length (none k b))) ∙ sum-zeros 0 size
-      where
-        none : (k : ℕ) → k < size → removedValues rule size top low high k ≡ []
-        none k b = no-member (removedValues rule size top low high k) λ v m. let r = removed-listed k v .0 m in r .1 (all k v b (r .0))
+    exact-same : (k v : ℕ) → k < size → v ≤ top → Kept Rule size top low high k v ↔ ((rank (getD low k 0) ≤ rank v) × (rank v ≤ rank (getD high k 0)))
+    exact-same k v b t = (λ h. let f = kept-bounds b h in (f .1, f .2), λ w. all k v b (t, w .0, w .1))
 
     pub all-kept : (removed rule size top low high ≡ 0) × (keptLow rule size top low high ≡ low) × (keptHigh rule size top low high ≡ high)
-    all-kept = (none-removed, low-same, high-same)
+    all-kept = (exact-removed low high ok exact-same ∙ removed-none size top low high, exact-low low high ok exact-same, exact-high low high ok exact-same)

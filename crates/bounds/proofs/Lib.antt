@@ -3,3 +3,14 @@ pub mod KeptLaws
 pub mod Extremal
 pub mod AllpermLaws
 pub mod PruneLaws
+pub mod CountLaws
+pub mod SortingSteps
+pub mod LeadsLaws
+pub mod InsertedLaws
+pub mod ThresholdLaws
+pub mod RowLowsLaws
+pub mod CapLaws
+pub mod RowSteps
+pub mod NarrowedLaws
+pub mod NarrowSteps
+pub mod PruneSteps

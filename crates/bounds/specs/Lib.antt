@@ -3,3 +3,5 @@ pub mod Kept
 pub mod Allperm
 pub mod Prune
 pub mod Demand2
+pub mod Rows
+pub mod Narrowed

@@ -1,1 +1,4 @@
-// Bounds on the cells of a grid.
+// Bounds on the cells of a grid, document 01's form: a slice of lows and a slice of highs.
+pub mod prune;
+pub mod rows;
+pub mod sorting;

@@ -1,26 +1,19 @@
 -- The joints of the calls represent and same: what their code finds, and what they answer from it.
 --
 --   asked m n top x y cs     ==  the questions of both calls: of the lengths of two slices x and y, and of the cells of the slices cs
---   shape-refuses, cells-refuse, none-refuses  ==  their first no, as the code finds it: of the shape, else of the cells, else none
---   shape-fits               ==  where none gets a no, what the shape is
---   one-capped, two-capped   ==  question 7 gets a yes for one slice, for two
---   first-cells-no, second-cells-no  ==  it gets a no for the first slice, for the second
+--   none-refuses             ==  none of them gets a no, as the code finds it
 --   least-produces           ==  the orders of the least arrangement produce it
 --   represent-refuses, represent-gives  ==  represent's answers: where a question gets a no, and past the questions
---   size-fits                ==  a grid has at most 128 cells
 --   written-within           ==  an arrangement at the beginning of an array is within it
 --   meet-equals              ==  two arrangements, each at the beginning of an array, are compared
 --   same-refuses, same-differs, same-gives  ==  same's answers: where a question gets a no, and for grids in two classes and in one
 use mathlib.Core.Path.{_≡_, refl, sym, ap, _∙_}
-use mathlib.Core.List.{List, [], _∷_, _++_, List·Memᴰ·head, List·Memᴰ·tail}
-use mathlib.Core.Bool.{Bool, true, false, true≢false, and-true}
+use mathlib.Core.List.{List, [], _∷_, _++_}
+use mathlib.Core.Bool.{Bool, true, false, true≢false}
 use Prim.Native.Nat.{ℕ, zero, suc, _*_, _-_, _≤_}
-use native.Mathlib.Nat.{mul-le-mul}
 use native.Mathlib.Omega.{arith}
-use lib.ListN.{length, take, length-append}
-use lib.Seq.{getD-take, take-at}
-use lib.Dec.{eqb}
-use Rattle.permutations.specs.Lists.{every}
+use lib.ListN.{length, take}
+use lib.Seq.{getD-take}
 use Rattle.permutations.specs.Permutations.{composed, inverse}
 use Rattle.permutations.specs.Padded.{padded, IsPadded, isSound, composedPadded, inversePadded}
 use Rattle.permutations.specs.declared.rows.RowPermutation.{RowPermutation}
@@ -28,18 +21,19 @@ use Rattle.permutations.specs.declared.columns.ColumnPermutation.{ColumnPermuta
 use Rattle.permutations.specs.Rows.{rowNumbers, ListsRows}
 use Rattle.permutations.specs.Columns.{columnNumbers, ListsColumns}
 use Rattle.permutations.proofs.BoolLaws.{bool-ext}
+use Rattle.permutations.proofs.ListLaws.{part-within, part-is}
 use Rattle.permutations.proofs.PaddedLaws.{isSound-yes, isSound-inverse, composedPadded-is, take-composedPadded, composedPadded-permutation, take-inversePadded}
 use Rattle.grids.specs.declared.comparisons.Comparison.{Comparison}
 use Rattle.grids.specs.Order.{equal}
-use Rattle.grids.specs.Grids.{IsGrid, capped, arrangement, OneClass}
+use Rattle.grids.specs.Grids.{IsGrid, arrangement, OneClass}
 use Rattle.grids.specs.Least.{least}
-use Rattle.grids.specs.Questions.{Question, firstNo, Limits, question1, question2, question3, question6, question7, shapeNo}
+use Rattle.grids.specs.Questions.{Question, firstNo, Limits, question7, shapeNo}
 use Rattle.grids.specs.Comparisons.{isEqual, compared}
 use Rattle.grids.proofs.OrderLaws.{equal-eq, eq-equal}
 use Rattle.grids.proofs.ComparisonLaws.{equal-yes, equal-no}
 use Rattle.grids.proofs.GridLaws.{length-arrangement}
 use Rattle.grids.proofs.LeastLaws.{class-least}
-use Rattle.grids.proofs.QuestionLaws.{Numbered, firstNo-pass, firstNo-stop, slices-pass}
+use Rattle.grids.proofs.QuestionLaws.{shapeThen, cells-pass}
 use Rattle.canonical.specs.declared.answers.Answer.{Answer}
 use Rattle.canonical.specs.declared.search.Orders.{Orders}
 use Rattle.canonical.specs.Answers.{Refused}
@@ -51,79 +45,13 @@ use Rattle.canonical.proofs.CallLaws.{same-pass, same-103, same-leasts,
 
 -- ---- the first no, as the code finds it
 
--- questions that follow a no, or follow yeses
-first-no-stays : (l r : List Question) → (firstNo l ≡ 0 → ⊥) → firstNo (l ++ r) ≡ firstNo l
-unfolding firstNo
-first-no-stays [] r h = absurd (h refl)
-first-no-stays (q ∷ l) r h = go (first-no-stays l r) (q .answer) refl
-  where
-    go : ((firstNo l ≡ 0 → ⊥) → firstNo (l ++ r) ≡ firstNo l) → (t : Bool) → q .answer ≡ t → firstNo (q ∷ (l ++ r)) ≡ firstNo (q ∷ l)
-    go ih true e = firstNo-pass q (l ++ r) e ∙ ih (λ z. h (firstNo-pass q l e ∙ z)) ∙ sym (firstNo-pass q l e)
-    go ih false e = firstNo-stop q (l ++ r) e ∙ sym (firstNo-stop q l e)
-
-first-no-next : (l r : List Question) → Numbered l → firstNo l ≡ 0 → firstNo (l ++ r) ≡ firstNo r
-first-no-next [] r p z = refl
-first-no-next (q ∷ l) r p z = go (first-no-next l r (p .1)) (q .answer) refl
-  where
-    go : (firstNo l ≡ 0 → firstNo (l ++ r) ≡ firstNo r) → (t : Bool) → q .answer ≡ t → firstNo (q ∷ (l ++ r)) ≡ firstNo r
-    go ih true e = firstNo-pass q (l ++ r) e ∙ ih (sym (firstNo-pass q l e) ∙ z)
-    go ih false e = let k = firstNo-stop q l e in absurd (omega (arith, p .0))
-
 module _ (m n top : ℕ) (x y : List ℕ) (cs : List (List ℕ)) where
   abbrev pub asked : List Question
-  asked = question1 m ∷ question2 n ∷ question3 top ∷ question6 (m * n) (x ∷ y ∷ []) ∷ question7 top cs ∷ []
+  asked = shapeThen m n top x y (question7 top cs ∷ [])
 
-  shape : List Question
-  shape = question1 m ∷ question2 n ∷ question3 top ∷ question6 (m * n) (x ∷ y ∷ []) ∷ []
-
-  shape-numbered : Numbered shape
-  unfolding shape question1 question2 question3 question6
-  shape-numbered = (omega arith, (omega arith, (omega arith, (omega arith, tt))))
-
-  shape-is : firstNo shape ≡ shapeNo m n top (length x) (length y)
-  unfolding shape shapeNo question6 every
-  shape-is = rw (and-true (eqb (length y) (m * n)))
-
-  -- k is the first no of the shape
-  module _ (k : ℕ) (found : k ≡ shapeNo m n top (length x) (length y)) where
-    pub shape-refuses : (k ≡ 0 → ⊥) → firstNo asked ≡ k
-    unfolding shape
-    shape-refuses h = first-no-stays shape (question7 top cs ∷ []) (λ z. h (found ∙ sym shape-is ∙ z)) ∙ shape-is ∙ sym found
-
-    shape-passes : k ≡ 0 → firstNo asked ≡ firstNo (question7 top cs ∷ [])
-    unfolding shape
-    shape-passes z = first-no-next shape (question7 top cs ∷ []) shape-numbered (shape-is ∙ sym found ∙ z)
-
-    pub cells-refuse : k ≡ 0 → question7 top cs .answer ≡ false → firstNo asked ≡ 7
-    unfolding question7
-    cells-refuse z e = shape-passes z ∙ firstNo-stop (question7 top cs) [] e
-
-    pub none-refuses : k ≡ 0 → question7 top cs .answer ≡ true → firstNo asked ≡ 0
-    unfolding firstNo
-    none-refuses z e = shape-passes z ∙ firstNo-pass (question7 top cs) [] e
-
-  -- where none gets a no, the slices have the shape
-  pub shape-fits : firstNo asked ≡ 0 → (m ≤ 8) × (n ≤ 16) × (length x ≡ m * n) × (length y ≡ m * n)
-  shape-fits z =
-      let p = slices-pass m n top (x ∷ y ∷ []) cs .0 z in
-      (p .0 .rows-limits .1, p .0 .column-limits .1, p .1 x (List·Memᴰ·head refl), p .1 y (List·Memᴰ·tail (List·Memᴰ·head refl)))
-
-module _ (top : ℕ) (x : List ℕ) where
-  pub one-capped : capped top x ≡ true → question7 top (x ∷ []) .answer ≡ true
-  unfolding question7 every
-  one-capped e = rw e
-
-  pub two-capped : (y : List ℕ) → capped top x ≡ true → capped top y ≡ true → question7 top (x ∷ y ∷ []) .answer ≡ true
-  unfolding question7 every
-  two-capped y d e = rw (d, e)
-
-  pub first-cells-no : (l : List (List ℕ)) → capped top x ≡ false → question7 top (x ∷ l) .answer ≡ false
-  unfolding question7 every
-  first-cells-no l e = rw e
-
-  pub second-cells-no : (y : List ℕ) (l : List (List ℕ)) → capped top x ≡ true → capped top y ≡ false → question7 top (x ∷ y ∷ l) .answer ≡ false
-  unfolding question7 every
-  second-cells-no y l d e = rw (d, e)
+  pub none-refuses : (k : ℕ) → k ≡ shapeNo m n top (length x) (length y) → k ≡ 0 → question7 top cs .answer ≡ true → firstNo asked ≡ 0
+  unfolding firstNo
+  none-refuses k found z e = cells-pass m n top x y k found z cs [] e
 
 -- ---- represent
 
@@ -164,20 +92,17 @@ module _ (m n top : ℕ) (g out : List ℕ) where
 
 -- ---- meet
 
-pub size-fits : (m n : ℕ) → m ≤ 8 → n ≤ 16 → m * n ≤ 128
-size-fits m n a b = mul-le-mul a b
-
 -- an arrangement x that is written at the beginning of an array, before the rest x′
 module _ (m n : ℕ) (g p q x x′ : List ℕ) (e : x ≡ arrangement m n p q g) where
   written-size : length x ≡ m * n
   written-size = ap length e ∙ length-arrangement m n p q g
 
   pub written-within : m * n ≤ length (x ++ x′)
-  written-within = simp length-append (omega (arith, written-size))
+  written-within = part-within x x′ (m * n) written-size
 
   -- the part from 0 to m * n
   written-part : take (m * n - 0) (x ++ x′) ≡ arrangement m n p q g
-  written-part = take-at x x′ (m * n - 0) (omega (arith, written-size)) ∙ e
+  written-part = part-is x x′ (m * n) written-size ∙ e
 
 -- the test of a comparison is the test of equality
 compared-equals : (a b : List ℕ) (c : Comparison) (t : Bool) → c ≡ compared a b → t ≡ isEqual c → t ≡ equal a b

@@ -2,6 +2,7 @@
 --
 --   rank-injective                       ==  equal ranks, equal values: the one law of rank that others rest on
 --   rank-antisymm                        ==  values that rank no higher than each other are equal
+--   rank-cap                             ==  the values 0 to 15 rank 0 to 15
 --   trichotomy                           ==  of two values one ranks lower, or they are equal
 --   ≼-refl, ≼-trans, ≼-antisymm, ≼-total, ≼-dec  ==  the order is a decidable total order
 --   leq-spec, leq-yes, ≼-leq, leq-decides  ==  the test decides it
@@ -43,6 +44,10 @@ trichotomy x y = go (decLt (rank x) (rank y)) (ℕ-discrete (rank x) (rank y))
 
 pub rank-antisymm : (x y : ℕ) → rank x ≤ rank y → rank y ≤ rank x → x ≡ y
 rank-antisymm x y h k = rank-injective x y (omega arith)
+
+pub rank-cap : (v : ℕ) → v ≤ 15 → rank v ≤ 15
+unfolding rank
+rank-cap v h = h
 
 -- ---- a total order
 

@@ -11,19 +11,29 @@
 --   limits-asked           ==  questions 1 to 3 ask the limits
 --   lengths-asked, cells-asked  ==  what questions 6 and 7 ask of slices
 --   slices-pass            ==  what questions 1, 2, 3, 6 and 7 together get a yes for
-use mathlib.Core.Path.{_≡_, refl, _∙_}
-use mathlib.Core.List.{List, [], _∷_, List·Memᴰ, List·Memᴰ·not-nil, List·Memᴰ·cases-cons}
-use mathlib.Core.Bool.{Bool, true, false}
+--   size-fits              ==  a grid within the limits has at most 128 cells
+-- The first no of questions 1, 2, 3 and 6 of two slices, and of those that follow, as a call finds it:
+--   shapeThen m n top x y l  ==  questions 1, 2, 3 and 6 of the slices x and y, then those of l
+--   shape-refuses, cells-refuse  ==  it is that of the shape, else that of the cells
+--   cells-pass             ==  where neither gets a no, it is that of the questions after
+--   shape-fits             ==  where the shape gets no no, the limits and the lengths
+--   one-capped, two-capped ==  question 7 gets a yes for one slice, for two
+--   first-cells-no, second-cells-no  ==  it gets a no for the first slice, for the second
+use mathlib.Core.Path.{_≡_, refl, sym, _∙_}
+use mathlib.Core.List.{List, [], _∷_, _++_, List·Memᴰ, List·Memᴰ·head, List·Memᴰ·tail, List·Memᴰ·not-nil, List·Memᴰ·cases-cons}
+use mathlib.Core.Bool.{Bool, true, false, and-true}
 use mathlib.Core.Logic.{_⊎_, inl, inr, _↔_}
 use Prim.Native.Nat.{ℕ, _*_, _≤_, _<_}
+use native.Mathlib.Nat.{mul-le-mul}
 use native.Mathlib.Omega.{arith}
 use lib.ListN.{length, getD}
 use lib.Dec.{leb, eqb}
 use borrow.Author.Tests.{leb-true, le-leb, eqb-true, eq-eqb}
+use Rattle.permutations.specs.Lists.{every}
 use Rattle.permutations.proofs.BoolLaws.{and-yes, yes-and}
 use Rattle.permutations.proofs.ListLaws.{every-at, at-every, mem-at, of-mem}
 use Rattle.grids.specs.Grids.{IsGrid, capped, isGrid}
-use Rattle.grids.specs.Questions.{Question, firstNo, inRange, Limits, question1, question2, question3, question6, question7}
+use Rattle.grids.specs.Questions.{Question, firstNo, inRange, Limits, question1, question2, question3, question6, question7, shapeNo}
 
 abbrev pub AllYes : List Question → Type 0
 AllYes [] = Unit {0}
@@ -154,3 +164,81 @@ slices-pass m n top ls cs = (
 
     z : (firstNo (question1 m ∷ question2 n ∷ question3 top ∷ rest) ≡ 0) ↔ AllYes (question1 m ∷ question2 n ∷ question3 top ∷ rest)
     z = first-no-zero (question1 m ∷ question2 n ∷ question3 top ∷ rest) (slices-numbered m n top ls cs)
+
+pub size-fits : (m n : ℕ) → m ≤ 8 → n ≤ 16 → m * n ≤ 128
+size-fits m n a b = mul-le-mul a b
+
+-- ---- the first no, as a call finds it
+
+-- questions that follow a no, or follow yeses
+first-no-stays : (l r : List Question) → (firstNo l ≡ 0 → ⊥) → firstNo (l ++ r) ≡ firstNo l
+unfolding firstNo
+first-no-stays [] r h = absurd (h refl)
+first-no-stays (q ∷ l) r h = go (first-no-stays l r) (q .answer) refl
+  where
+    go : ((firstNo l ≡ 0 → ⊥) → firstNo (l ++ r) ≡ firstNo l) → (t : Bool) → q .answer ≡ t → firstNo (q ∷ (l ++ r)) ≡ firstNo (q ∷ l)
+    go ih true e = firstNo-pass q (l ++ r) e ∙ ih (λ z. h (firstNo-pass q l e ∙ z)) ∙ sym (firstNo-pass q l e)
+    go ih false e = firstNo-stop q (l ++ r) e ∙ sym (firstNo-stop q l e)
+
+first-no-next : (l r : List Question) → Numbered l → firstNo l ≡ 0 → firstNo (l ++ r) ≡ firstNo r
+first-no-next [] r p z = refl
+first-no-next (q ∷ l) r p z = go (first-no-next l r (p .1)) (q .answer) refl
+  where
+    go : (firstNo l ≡ 0 → firstNo (l ++ r) ≡ firstNo r) → (t : Bool) → q .answer ≡ t → firstNo (q ∷ (l ++ r)) ≡ firstNo r
+    go ih true e = firstNo-pass q (l ++ r) e ∙ ih (sym (firstNo-pass q l e) ∙ z)
+    go ih false e = let k = firstNo-stop q l e in absurd (omega (arith, p .0))
+
+module _ (m n top : ℕ) (x y : List ℕ) where
+  abbrev pub shapeThen : List Question → List Question
+  shapeThen l = question1 m ∷ question2 n ∷ question3 top ∷ question6 (m * n) (x ∷ y ∷ []) ∷ l
+
+  shape-numbered : Numbered (shapeThen [])
+  unfolding question1 question2 question3 question6
+  shape-numbered = (omega arith, (omega arith, (omega arith, (omega arith, tt))))
+
+  shape-is : firstNo (shapeThen []) ≡ shapeNo m n top (length x) (length y)
+  unfolding shapeNo question6 every
+  shape-is = rw (and-true (eqb (length y) (m * n)))
+
+  -- k is the first no of the shape
+  module _ (k : ℕ) (found : k ≡ shapeNo m n top (length x) (length y)) where
+    pub shape-refuses : (l : List Question) → (k ≡ 0 → ⊥) → firstNo (shapeThen l) ≡ k
+    shape-refuses l h = first-no-stays (shapeThen []) l (λ z. h (found ∙ sym shape-is ∙ z)) ∙ shape-is ∙ sym found
+
+    module _ (z : k ≡ 0) where
+      no-no : firstNo (shapeThen []) ≡ 0
+      no-no = shape-is ∙ sym found ∙ z
+
+      pub shape-fits : Limits m n top × (length x ≡ m * n) × (length y ≡ m * n)
+      shape-fits =
+          let a = limits-asked m n top (question6 (m * n) (x ∷ y ∷ []) ∷ []) .0 (first-no-zero (shapeThen []) shape-numbered .0 no-no) in
+          let s = lengths-asked (m * n) (x ∷ y ∷ []) .0 (a .1 .0) in
+          (a .0, s x (List·Memᴰ·head refl), s y (List·Memᴰ·tail (List·Memᴰ·head refl)))
+
+      module _ (cs : List (List ℕ)) (l : List Question) where
+        shape-passes : firstNo (shapeThen (question7 top cs ∷ l)) ≡ firstNo (question7 top cs ∷ l)
+        shape-passes = first-no-next (shapeThen []) (question7 top cs ∷ l) shape-numbered no-no
+
+        pub cells-refuse : question7 top cs .answer ≡ false → firstNo (shapeThen (question7 top cs ∷ l)) ≡ 7
+        unfolding question7
+        cells-refuse e = shape-passes ∙ firstNo-stop (question7 top cs) l e
+
+        pub cells-pass : question7 top cs .answer ≡ true → firstNo (shapeThen (question7 top cs ∷ l)) ≡ firstNo l
+        cells-pass e = shape-passes ∙ firstNo-pass (question7 top cs) l e
+
+module _ (top : ℕ) (x : List ℕ) where
+  pub one-capped : capped top x ≡ true → question7 top (x ∷ []) .answer ≡ true
+  unfolding question7 every
+  one-capped e = rw e
+
+  pub two-capped : (y : List ℕ) → capped top x ≡ true → capped top y ≡ true → question7 top (x ∷ y ∷ []) .answer ≡ true
+  unfolding question7 every
+  two-capped y d e = rw (d, e)
+
+  pub first-cells-no : (l : List (List ℕ)) → capped top x ≡ false → question7 top (x ∷ l) .answer ≡ false
+  unfolding question7 every
+  first-cells-no l e = rw e
+
+  pub second-cells-no : (y : List ℕ) (l : List (List ℕ)) → capped top x ≡ true → capped top y ≡ false → question7 top (x ∷ y ∷ l) .answer ≡ false
+  unfolding question7 every
+  second-cells-no y l d e = rw (d, e)

@@ -4,6 +4,7 @@
 --   tabulate-is, tabulate-ext, tabulate-getD     ==  when a tabulated list is a given list, and when two are equal
 --   in-tabulate, of-tabulate, mem-at, of-mem, no-member  ==  membership, and the index of a member
 --   length-numbers, at-numbers, in-numbers, of-numbers, every-number, number-every  ==  the same of the numbers below n
+--   part-within, part-is                         ==  the part from 0 on of a list that begins with a given list
 --   at-map                                       ==  an entry of a mapped list
 --   in-flatMap, of-flatMap                       ==  membership in lists put one after another
 --   select-yes, select-no, in-select, of-select, select-ext, select-none, length-select, select-split, select-within  ==  the elements that pass a test
@@ -14,11 +15,11 @@ use mathlib.Core.Path.{_≡_, refl, sym, ap, _∙_}
 use mathlib.Core.List.{List, [], _∷_, _++_, map, flatMap, List·Memᴰ, List·Memᴰ·head, List·Memᴰ·tail, List·Memᴰ·not-nil, List·Memᴰ·cases-cons, List·Memᴰ·append-cases, Memᴰ·append-left, Memᴰ·append-right, Memᴰ·cast}
 use mathlib.Core.Bool.{Bool, true, false, true≢false, not, _||_}
 use mathlib.Core.Logic.{_⊎_, inl, inr}
-use Prim.Native.Nat.{ℕ, zero, suc, _+_, _≤_, _<_}
+use Prim.Native.Nat.{ℕ, zero, suc, _+_, _-_, _≤_, _<_}
 use native.Mathlib.Nat.{add-zero, zero-add, not-suc-le-zero}
 use native.Mathlib.Omega.{arith}
-use lib.ListN.{length, getD}
-use lib.Seq.{ext-getD}
+use lib.ListN.{length, getD, take, length-append}
+use lib.Seq.{ext-getD, take-at}
 use lib.Dec.{eqb}
 use borrow.Author.Tests.{eq-eqb, ne-eqb, eqb-true}
 use Rattle.permutations.specs.Lists.{tabulate, numbers, select, every, some, occurrences}
@@ -53,6 +54,13 @@ module _ {ℓ} {A : Type ℓ} where
 
   pub tabulate-getD : (d : A) (l : List A) (n : ℕ) → length l ≡ n → tabulate 0 n (λ i. getD l i d) ≡ l
   tabulate-getD d l n e = tabulate-is d l n (λ i. getD l i d) e (λ i b. refl)
+
+  -- the part from 0 to k of x ++ x′, where x has the length k
+  pub part-within : (x x′ : List A) (k : ℕ) → length x ≡ k → k ≤ length (x ++ x′)
+  part-within x x′ k e = simp length-append (omega arith)
+
+  pub part-is : (x x′ : List A) (k : ℕ) → length x ≡ k → take (k - 0) (x ++ x′) ≡ x
+  part-is x x′ k e = take-at x x′ (k - 0) (omega arith)
 
   pub in-tabulate : (s n : ℕ) (f : ℕ → A) (i : ℕ) → i < n → List·Memᴰ (f (s + i)) (tabulate s n f)
   unfolding tabulate

@@ -1,9 +1,13 @@
 // The calls as C and Rust see them: numbers and byte slices in, a struct of numbers out. Each name begins with the library's.
+use bounds::prune;
+use bounds::prune::Counted;
 use canonical::answers::Answer;
 use canonical::represent;
 use canonical::same;
+ghost use mathlib.Core.Path.{_≡_};
 ghost use Rattle.canonical.specs.Represent.{Represented};
 ghost use Rattle.canonical.specs.Same.{Compared};
+ghost use Rattle.bounds.specs.Prune.{outcome, pruned};
 ghost use Rattle.plan_register.specs.Exported.{Exported};
 
 // The number, the row order and the column order.
@@ -43,4 +47,17 @@ pub extern "C" fn plan_register_same(m: usize, n: usize, top: usize, a: &[u8], b
     ensures { λ r. ⌜ Compared m n top (now (a .entry)) (now (b .entry)) (r .number) (r .rows) (r .columns) ⌝ }
 {
     exported(same::same(m, n, top, a, b))
+}
+
+#[no_mangle]
+pub extern "C" fn plan_register_prune(
+    m: usize,
+    n: usize,
+    top: usize,
+    low: &mut [u8],
+    high: &mut [u8],
+) -> Counted
+    ensures { λ r. ⌜ outcome (r .number) (r .count) (now (low .exit)) (now (high .exit)) ≡ pruned m n top (now (low .entry)) (now (high .entry)) ⌝ }
+{
+    prune::prune(m, n, top, low, high)
 }

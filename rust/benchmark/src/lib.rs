@@ -1,23 +1,36 @@
-//! How fast represent is: the verified library beside four unverified implementations in Rust.
+//! How fast represent and prune are: the verified library beside unverified implementations in
+//! Rust.
 //!
-//! | module             | what                                                    |
-//! |--------------------|---------------------------------------------------------|
-//! | `theorem_1`        | document 002's Theorem 1: every row permutation         |
-//! | `packed_theorem_1` | the same over columns packed into words                 |
-//! | `same_search`      | the library's own search, written in plain Rust         |
-//! | `branch_and_bound` | the vectorised search: a similar one, written for speed |
-//! | `bitonic`          | its sorting of 8 or 16 bytes                            |
-//! | `call`             | the call and its questions                              |
-//! | `inputs`           | the grids that are timed                                |
-//! | `timing`           | medians over interleaved rounds                         |
-//! | `table`            | the printed table                                       |
+//! | module             | what                                                         |
+//! |--------------------|--------------------------------------------------------------|
+//! | `theorem_1`        | represent by document 002's Theorem 1: every row permutation |
+//! | `packed_theorem_1` | the same over columns packed into words                      |
+//! | `same_search`      | the library's own search, written in plain Rust              |
+//! | `branch_and_bound` | the vectorised search: a similar one, written for speed      |
+//! | `bitonic`          | its sorting of 8 or 16 bytes                                 |
+//! | `value_by_value`   | prune by trying each value                                   |
+//! | `same_pruning`     | the library's own pruning, written in plain Rust             |
+//! | `values`           | what these two share: values and rows by rank                |
+//! | `call`             | the calls and their questions                                |
+//! | `implementations`  | what is compared                                             |
+//! | `inputs`           | what the timing needs of inputs                              |
+//! | `grids`            | the grids that are timed                                     |
+//! | `bounds`           | the bounds that are timed                                    |
+//! | `timing`           | medians over interleaved rounds                              |
+//! | `table`            | the printed tables                                           |
 
 mod bitonic;
+pub mod bounds;
 pub mod branch_and_bound;
 pub mod call;
+pub mod grids;
+pub mod implementations;
 pub mod inputs;
 pub mod packed_theorem_1;
+pub mod same_pruning;
 pub mod same_search;
 pub mod table;
 pub mod theorem_1;
 pub mod timing;
+pub mod value_by_value;
+mod values;

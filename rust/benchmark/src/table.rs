@@ -1,26 +1,36 @@
-//! The printed table, in Markdown.
+//! The printed tables, in Markdown.
 
 use std::time::Duration;
 
-/// The heading and the rule beneath it.
-pub fn heading() -> String {
-    "| input | Theorem 1 / plan_register | Theorem 1, packed / plan_register \
-     | plan_register / same search in plain Rust | plan_register / vectorised search |\n\
-     |---|---:|---:|---:|---:|\n"
-        .to_string()
+/// A table: the implementations of a call by name, and which times are divided by which.
+pub struct Table<Call, const N: usize> {
+    pub implementations: [(&'static str, Call); N],
+    pub ratios: &'static [(usize, usize)],
 }
 
-/// The line of an input: the times of Theorem 1, plain and packed, the library, the same search
-/// in plain Rust and the vectorised search, as four ratios.
-pub fn line(name: &str, times: [Duration; 5]) -> String {
-    let [theorem_1, packed_theorem_1, library, same_search, vectorised] = times;
-    let ratios = [
-        ratio(theorem_1, library),
-        ratio(packed_theorem_1, library),
-        ratio(library, same_search),
-        ratio(library, vectorised),
-    ];
-    format!("| {name} | {} |", ratios.join(" | "))
+impl<Call: Copy, const N: usize> Table<Call, N> {
+    pub fn calls(&self) -> [Call; N] {
+        self.implementations.map(|(_, call)| call)
+    }
+
+    /// The heading and the rule beneath it.
+    pub fn heading(&self) -> String {
+        let name = |k: usize| self.implementations[k].0;
+        let mut names = vec!["input".to_string()];
+        let ratios = self.ratios.iter();
+        names.extend(ratios.map(|&(k, other)| format!("{} / {}", name(k), name(other))));
+        let rule = "---:|".repeat(self.ratios.len());
+        format!("| {} |\n|---|{rule}\n", names.join(" | "))
+    }
+
+    /// The line of an input: the ratios of these times.
+    pub fn line(&self, name: &str, times: [Duration; N]) -> String {
+        let ratios = self.ratios.iter();
+        let ratios: Vec<String> = ratios
+            .map(|&(k, other)| ratio(times[k], times[other]))
+            .collect();
+        format!("| {name} | {} |", ratios.join(" | "))
+    }
 }
 
 /// With two decimals below 10, with one below 100, else with none.
@@ -36,27 +46,33 @@ fn ratio(time: Duration, other: Duration) -> String {
 
 #[cfg(test)]
 mod tests {
-    use super::{heading, line};
+    use super::Table;
     use std::time::Duration;
 
+    const TABLE: Table<(), 3> = Table {
+        implementations: [("plain", ()), ("library", ()), ("fast", ())],
+        ratios: &[(0, 1), (1, 2)],
+    };
+
     #[test]
-    fn a_line_has_the_four_ratios() {
-        let times = [567_800, 123_400, 1_000, 500, 800].map(Duration::from_nanos);
+    fn the_heading_names_what_is_divided() {
         assert_eq!(
-            line("some grid", times),
-            "| some grid | 568 | 123 | 2.00 | 1.25 |"
-        );
-        let times = [98_765, 12_345, 1_000, 2_000, 16_000].map(Duration::from_nanos);
-        assert_eq!(
-            line("some grid", times),
-            "| some grid | 98.8 | 12.3 | 0.50 | 0.06 |"
+            TABLE.heading(),
+            "| input | plain / library | library / fast |\n|---|---:|---:|\n"
         );
     }
 
     #[test]
-    fn a_line_has_the_columns_of_the_heading() {
-        let bars = |text: &str| text.matches('|').count();
-        let line = line("some grid", [Duration::from_nanos(1); 5]);
-        assert!(heading().lines().all(|text| bars(text) == bars(&line)));
+    fn a_line_has_the_ratios() {
+        for (times, line) in [
+            ([567_800, 1_000, 800], "| some grid | 568 | 1.25 |"),
+            ([98_765, 1_000, 16_000], "| some grid | 98.8 | 0.06 |"),
+            ([2_000, 1_000, 1_000], "| some grid | 2.00 | 1.00 |"),
+        ] {
+            assert_eq!(
+                TABLE.line("some grid", times.map(Duration::from_nanos)),
+                line
+            );
+        }
     }
 }

@@ -1,8 +1,6 @@
 //! Medians over rounds in which the implementations take turns.
 
-use crate::call::{Represent, IMPLEMENTATIONS};
 use crate::inputs::Input;
-use std::hint::black_box;
 use std::time::{Duration, Instant};
 
 /// An input is timed until this much time has passed and so many rounds were made.
@@ -14,16 +12,16 @@ const MOST_ROUNDS: usize = 501;
 const SAMPLE: Duration = Duration::from_millis(1);
 
 /// The median time of one pass over the input for each implementation.
-pub fn medians(input: &Input) -> [Duration; 5] {
-    let repetitions = IMPLEMENTATIONS.map(|represent| repetitions(represent, input));
-    let mut samples: [Vec<Duration>; 5] = Default::default();
+pub fn medians<I: Input, const N: usize>(input: &I, calls: [I::Call; N]) -> [Duration; N] {
+    let repetitions = calls.map(|call| repetitions(input, call));
+    let mut samples = [const { Vec::new() }; N];
     let start = Instant::now();
     for round in 0..MOST_ROUNDS {
         if round >= LEAST_ROUNDS && start.elapsed() >= TIME {
             break;
         }
-        for (k, &represent) in IMPLEMENTATIONS.iter().enumerate() {
-            let time = sample(represent, input, repetitions[k]);
+        for (k, &call) in calls.iter().enumerate() {
+            let time = sample(input, call, repetitions[k]);
             samples[k].push(time / repetitions[k]);
         }
     }
@@ -31,25 +29,19 @@ pub fn medians(input: &Input) -> [Duration; 5] {
 }
 
 /// How many passes over the input make a sample.
-fn repetitions(represent: Represent, input: &Input) -> u32 {
+fn repetitions<I: Input>(input: &I, call: I::Call) -> u32 {
     let mut repetitions = 1;
-    while sample(represent, input, repetitions) < SAMPLE {
+    while sample(input, call, repetitions) < SAMPLE {
         repetitions *= 2;
     }
     repetitions
 }
 
 /// The time of so many passes over the input.
-fn sample(represent: Represent, input: &Input, repetitions: u32) -> Duration {
-    let mut out = [0; 128];
+fn sample<I: Input>(input: &I, call: I::Call, repetitions: u32) -> Duration {
     let start = Instant::now();
     for _ in 0..repetitions {
-        for grid in &input.grids {
-            let (m, n, top) = black_box((grid.m, grid.n, grid.top.into()));
-            let out = &mut out[..grid.cells.len()];
-            black_box(represent(m, n, top, black_box(&grid.cells), out));
-            black_box(out);
-        }
+        input.pass(call);
     }
     start.elapsed()
 }

@@ -9,14 +9,20 @@
 //! |----------|------------------------------------------------|
 //! | `grids`  | represent and same                             |
 //! | `orders` | what these return                              |
+//! | `bounds` | prune                                          |
+//! | `pruned` | what it returns                                |
 //! | `sys`    | the library's declarations and all unsafe code |
 
 #![deny(unsafe_code)]
 
+mod bounds;
 mod grids;
 mod orders;
+mod pruned;
 #[allow(unsafe_code)]
 mod sys;
 
+pub use bounds::prune;
 pub use grids::{represent, same};
 pub use orders::Orders;
+pub use pruned::Pruned;

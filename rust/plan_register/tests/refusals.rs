@@ -1,10 +1,10 @@
-//! The questions of represent and same: at and past every limit, every set of failures at
-//! once, the first decides; and a refusal changes no byte.
+//! The questions of represent, same and prune: at and past every limit, every set of failures
+//! at once, the first decides; and a refusal changes no byte.
 
 mod common;
 
-use common::{check_one_class, represented, starting, Lent};
-use plan_register::{represent, same};
+use common::{check_one_class, check_prune, check_pruned, represented, starting, Lent};
+use plan_register::{represent, same, Pruned};
 use reference::questions::{self, Asked};
 use std::collections::BTreeSet;
 
@@ -52,14 +52,30 @@ impl Numbers {
     /// Grids of this length: all cells at top, then one above it as the first, the middle
     /// and the last cell.
     fn grids(self, length: usize) -> Vec<Vec<u8>> {
-        let at_top = vec![self.top.min(254) as u8; length];
+        [vec![self.at_top(length)], self.with_one_cell(length, 1)].concat()
+    }
+
+    /// Highs of this length: the grids, then all at top but one below it as the first, the
+    /// middle and the last.
+    fn highs(self, length: usize) -> Vec<Vec<u8>> {
+        [self.grids(length), self.with_one_cell(length, -1)].concat()
+    }
+
+    fn at_top(self, length: usize) -> Vec<u8> {
+        vec![self.top.min(254) as u8; length]
+    }
+
+    /// All cells at top, but the first, the middle or the last off by this step, if it can be.
+    fn with_one_cell(self, length: usize, step: i8) -> Vec<Vec<u8>> {
+        let at_top = self.at_top(length);
         let places = BTreeSet::from([0, length / 2, length.saturating_sub(1)]);
-        let above = places.into_iter().filter(|&k| k < length).map(|k| {
+        let changed = places.into_iter().filter_map(|k| {
             let mut grid = at_top.clone();
-            grid[k] += 1;
-            grid
+            let cell = grid.get_mut(k)?;
+            *cell = cell.checked_add_signed(step)?;
+            Some(grid)
         });
-        [at_top.clone()].into_iter().chain(above).collect()
+        changed.collect()
     }
 
     /// What the reference answers to questions 1, 2, 3, 6 and 7.
@@ -116,6 +132,23 @@ fn check_same(numbers: Numbers, a: &[u8], b: &[u8]) -> Vec<u32> {
     nos
 }
 
+/// Checks a refusal by prune, or that there is none. Returns the questions that get a no.
+fn check_prune_refusal(numbers: Numbers, low: &[u8], high: &[u8]) -> Vec<u32> {
+    let Numbers { m, n, top } = numbers;
+    let mut nos = nos(&numbers.answers(&[low, high], &[low, high]));
+    nos.extend(questions::bounds(low, high).err());
+    match nos.first() {
+        None => {
+            check_prune(m, n, top as u8, low, high);
+        }
+        Some(&number) => {
+            let refused = Pruned { number, count: 0 };
+            check_pruned(m, n, top, (low, high), refused, (low, high));
+        }
+    }
+    nos
+}
+
 #[test]
 fn represent_answers_the_first_no() {
     let mut met = BTreeSet::new();
@@ -147,24 +180,40 @@ fn same_answers_the_first_no() {
 }
 
 #[test]
+fn prune_answers_the_first_no() {
+    let mut met = BTreeSet::new();
+    for numbers in Numbers::every() {
+        let lows = numbers.lengths().map(|length| numbers.grids(length));
+        let highs = numbers.lengths().map(|length| numbers.highs(length));
+        for low in lows.concat() {
+            for high in highs.iter().flatten() {
+                met.insert(check_prune_refusal(numbers, &low, high));
+            }
+        }
+    }
+    assert_eq!(met.len(), 64, "every set of the six questions");
+}
+
+#[test]
 fn the_edges_of_document_01() {
-    let represent_number = |m: usize, n: usize, top: usize, cell: u8, length: usize| {
+    let number = |m: usize, n: usize, top: usize, cell: u8, length: usize| {
         let numbers = Numbers { m, n, top };
         let grid = vec![cell; length];
         let nos = check_represent(numbers, &grid, m * n);
         assert_eq!(check_same(numbers, &grid, &grid), nos);
+        assert_eq!(check_prune_refusal(numbers, &grid, &grid), nos);
         nos.first().copied().unwrap_or(0)
     };
-    assert_eq!(represent_number(0, 0, 15, 0, 0), 1);
-    assert_eq!(represent_number(8, 16, 15, 15, 128), 0);
-    assert_eq!(represent_number(9, 16, 15, 15, 144), 1);
-    assert_eq!(represent_number(8, 17, 15, 15, 136), 2);
-    assert_eq!(represent_number(8, 16, 16, 15, 128), 3);
-    assert_eq!(represent_number(8, 16, 15, 15, 129), 6);
-    assert_eq!(represent_number(8, 16, 15, 15, 127), 6);
-    assert_eq!(represent_number(8, 16, 15, 16, 128), 7);
-    assert_eq!(represent_number(1, 1, 0, 0, 1), 0);
-    assert_eq!(represent_number(1, 1, 0, 1, 1), 7);
+    assert_eq!(number(0, 0, 15, 0, 0), 1);
+    assert_eq!(number(8, 16, 15, 15, 128), 0);
+    assert_eq!(number(9, 16, 15, 15, 144), 1);
+    assert_eq!(number(8, 17, 15, 15, 136), 2);
+    assert_eq!(number(8, 16, 16, 15, 128), 3);
+    assert_eq!(number(8, 16, 15, 15, 129), 6);
+    assert_eq!(number(8, 16, 15, 15, 127), 6);
+    assert_eq!(number(8, 16, 15, 16, 128), 7);
+    assert_eq!(number(1, 1, 0, 0, 1), 0);
+    assert_eq!(number(1, 1, 0, 1, 1), 7);
 }
 
 #[test]
@@ -182,6 +231,7 @@ fn products_that_wrap_around_are_no_lengths() {
         let grid = vec![1; wrapped];
         assert_eq!(check_represent(numbers, &grid, wrapped)[0], number);
         assert_eq!(check_same(numbers, &grid, &grid)[0], number);
+        assert_eq!(check_prune_refusal(numbers, &grid, &grid)[0], number);
     }
 }
 
@@ -206,6 +256,24 @@ fn every_cell_is_asked() {
             assert_eq!(check_represent(numbers, &grid, 128), [7]);
             assert_eq!(check_same(numbers, &grid, &[0; 128]), [7]);
             assert_eq!(check_same(numbers, &[0; 128], &grid), [7]);
+        }
+    }
+}
+
+#[test]
+fn every_bound_is_asked() {
+    for top in 1..=14 {
+        for k in 0..128 {
+            let numbers = Numbers { m: 8, n: 16, top };
+            let at_top = vec![top as u8; 128];
+            let (mut above, mut below) = (at_top.clone(), at_top.clone());
+            above[k] += 1;
+            below[k] -= 1;
+            assert_eq!(check_prune_refusal(numbers, &above, &at_top), [7, 8]);
+            assert_eq!(check_prune_refusal(numbers, &above, &above), [7]);
+            assert_eq!(check_prune_refusal(numbers, &at_top, &above), [7]);
+            assert_eq!(check_prune_refusal(numbers, &at_top, &below), [8]);
+            assert_eq!(check_prune_refusal(numbers, &below, &at_top), []);
         }
     }
 }

@@ -2,14 +2,31 @@
 
 mod common;
 
-use common::{check_one_class, check_two_classes, represented};
-use plan_register::{represent, same};
+use common::{check_one_class, check_prune, check_pruned, check_two_classes, represented};
+use plan_register::{represent, same, Pruned};
 use reference::examples::{cells, plan};
+use reference::forms::written;
 
 /// Checks the representative of a written grid, with top 3.
 fn check_represented(grid: &str, representative: &str) {
     let (m, n, grid) = plan(grid);
     assert_eq!(represented(m, n, 3, &grid), cells(representative));
+}
+
+/// Checks what prune makes of written bounds: the number, the bounds after, the count.
+fn check_bounds(top: u8, before: &str, number: u32, after: &str, count: u32) {
+    let (m, n, (low, high)) = written(before);
+    let (_, _, (new_low, new_high)) = written(after);
+    let pruned = Pruned { number, count };
+    check_pruned(
+        m,
+        n,
+        top.into(),
+        (&low, &high),
+        pruned,
+        (&new_low, &new_high),
+    );
+    assert_eq!(check_prune(m, n, top, &low, &high), pruned);
 }
 
 #[test]
@@ -34,6 +51,22 @@ fn m6_equal_cells_do_not_make_a_class() {
 }
 
 #[test]
+fn m9_loses_5_values() {
+    check_bounds(3, "13 03/01 02", 0, "11 02/11 12", 5);
+}
+
+#[test]
+fn m10_has_no_grid_with_allperm() {
+    check_bounds(3, "23/01", 102, "23/01", 0);
+}
+
+#[test]
+fn the_other_row_is_sorted_for_pruning() {
+    // Unsorted, row 0's first cell would be compared with 3 and keep its 2 and 3.
+    check_bounds(3, "03 03/33 11", 0, "01 03/33 11", 2);
+}
+
+#[test]
 fn of_equally_good_rows_the_first_does_not_suffice() {
     check_represented("012/201", "012/120");
 }
@@ -45,6 +78,24 @@ fn document_000_two_matrices_of_one_class_have_one_pair_of_orders() {
     let orders = same(2, 3, 3, &first, &second);
     assert_eq!(orders.rows[..2], [1, 0]);
     assert_eq!(orders.columns[..3], [2, 0, 1]);
+}
+
+#[test]
+fn document_000_section_5_2_first_matrix_loses_nothing() {
+    let matrix = "12 12 44 44/33 33 22 22";
+    check_bounds(4, matrix, 0, matrix, 0);
+}
+
+#[test]
+fn document_000_section_5_2_second_matrix_loses_one_value() {
+    let pruned = "11 22 33 34/22 11 33 44";
+    check_bounds(4, "11 22 34 34/22 11 33 44", 0, pruned, 1);
+}
+
+#[test]
+fn document_000_section_6_2_worked_example() {
+    let pruned = "22 33 44 66/55 33 22 55";
+    check_bounds(6, "23 34 45 66/45 13 12 45", 0, pruned, 8);
 }
 
 #[test]

@@ -102,7 +102,7 @@ fn permuted(row: &[u8], columns: &[u8]) -> Vec<u8> {
     columns.iter().map(|&j| row[usize::from(j)]).collect()
 }
 
-fn sorted(row: &[u8]) -> Vec<u8> {
+pub(crate) fn sorted(row: &[u8]) -> Vec<u8> {
     let mut result = row.to_vec();
     result.sort_by_key(|&value| rank(value));
     result

@@ -18,10 +18,12 @@
 //! | `random`      | a small generator for tests                            |
 //! | `examples`    | grids for tests                                        |
 //! | `designs`     | grids with much symmetry, for tests and benchmarks     |
+//! | `forms`       | bounds, for tests and benchmarks                       |
 
 pub mod bounds;
 pub mod designs;
 pub mod examples;
+pub mod forms;
 pub mod grid;
 pub mod layout;
 pub mod machine;

@@ -1,6 +1,6 @@
 //! A small deterministic generator for tests.
 
-use crate::grid::rank;
+use crate::forms::{ordered, Form};
 
 /// Xorshift with 64 bits of state.
 #[derive(Clone, Debug)]
@@ -47,14 +47,8 @@ impl Random {
     }
 
     /// A low and a high for each of the cells, each low at most its high.
-    pub fn form(&mut self, count: usize, top: u8) -> (Vec<u8>, Vec<u8>) {
-        let (mut low, mut high) = (self.cells(count, top), self.cells(count, top));
-        for (l, h) in low.iter_mut().zip(&mut high) {
-            if rank(*l) > rank(*h) {
-                std::mem::swap(l, h);
-            }
-        }
-        (low, high)
+    pub fn form(&mut self, count: usize, top: u8) -> Form {
+        ordered(self.cells(count, top), self.cells(count, top))
     }
 
     /// A permutation of the numbers below `n`.

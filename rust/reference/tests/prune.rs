@@ -8,34 +8,26 @@ use reference::bounds::{
     lies_in, number_of_grids, number_of_values, prune, prune_by_extremal, prune_by_listing,
     some_grid, values, Bounds, Pruned, LISTED_GRIDS,
 };
+use reference::forms::{close, every_form, Form};
 use reference::grid::rank;
 use reference::random::Random;
 
-/// Every low and high of a cell with low at most high.
-fn intervals(top: u8) -> Vec<(u8, u8)> {
-    let pairs = (0..=top).flat_map(|l| (0..=top).map(move |h| (l, h)));
-    pairs.filter(|&(l, h)| rank(l) <= rank(h)).collect()
-}
-
-/// Every form of `count` cells.
-fn every_form(count: usize, top: u8) -> Vec<(Vec<u8>, Vec<u8>)> {
-    let intervals = intervals(top);
-    let choices = every_grid(count, intervals.len() as u8 - 1);
-    let bounds = |choice: Vec<u8>| -> Vec<(u8, u8)> {
-        choice.iter().map(|&c| intervals[usize::from(c)]).collect()
-    };
-    choices.into_iter().map(|c| form(&bounds(c))).collect()
-}
-
-/// A random form with at most `limit` grids.
-fn small_form(random: &mut Random, count: usize, top: u8, limit: u64) -> (Vec<u8>, Vec<u8>) {
-    let (mut low, mut high) = random.form(count, top);
+/// The form with cells set to a single value until it has at most `limit` grids. In half of
+/// the forms it is the extremal grid's value.
+fn narrowed(random: &mut Random, n: usize, top: u8, form: Form, limit: u64) -> Form {
+    let (mut low, mut high) = form;
+    let to_extremal = random.once_in(2);
     while number_of_grids(top, &low, &high) > limit {
-        let k = random.below(count as u64) as usize;
-        if random.once_in(2) {
-            low[k] = high[k];
+        let k = random.below(low.len() as u64) as usize;
+        let to_low = if to_extremal {
+            k < n
         } else {
+            random.once_in(2)
+        };
+        if to_low {
             high[k] = low[k];
+        } else {
+            low[k] = high[k];
         }
     }
     (low, high)
@@ -183,36 +175,34 @@ fn random_forms() {
     for _ in 0..3000 {
         let (m, n) = (random.between(2, 4) as usize, random.between(1, 6) as usize);
         let top = random.between(1, 5) as u8;
-        let (low, high) = small_form(&mut random, m * n, top, 150);
+        let form = random.form(m * n, top);
+        let (low, high) = narrowed(&mut random, n, top, form, 150);
         check_form(m, n, top, &low, &high);
     }
 }
 
-/// A form whose row 0 is near the sorted highs of another row, so that pruning reaches far.
-fn close_form(random: &mut Random, m: usize, n: usize, top: u8) -> (Vec<u8>, Vec<u8>) {
-    let (mut low, mut high) = small_form(random, m * n, top, 100);
-    let mut row = high[n..2 * n].to_vec();
-    row.sort_by_key(|&v| rank(v));
-    for j in 0..n {
-        let span = random.below(2) as u8;
-        low[j] = row[j];
-        high[j] = (row[j] + span).min(top);
+/// Checks random forms with row 0 near the other rows, so that pruning reaches far, and with
+/// at most `limit` grids.
+fn check_close_forms(seed: u64, times: usize, rows: u64, columns: u64, limit: u64) {
+    let mut random = Random::new(seed);
+    for _ in 0..times {
+        let m = random.between(2, rows) as usize;
+        let n = random.between(2, columns) as usize;
+        let top = random.between(1, 5) as u8;
+        let form = close(&mut random, m, n, top);
+        let (low, high) = narrowed(&mut random, n, top, form, limit);
+        check_form(m, n, top, &low, &high);
     }
-    if random.once_in(2) {
-        let j = random.below(n as u64) as usize;
-        low[j] = random.between(0, high[j].into()) as u8;
-    }
-    (low, high)
 }
 
 #[test]
-fn random_forms_with_row_0_near_another_row() {
-    let mut random = Random::new(9);
-    for _ in 0..2000 {
-        let (m, n) = (random.between(2, 3) as usize, random.between(2, 5) as usize);
-        let (low, high) = close_form(&mut random, m, n, 4);
-        check_form(m, n, 4, &low, &high);
-    }
+fn random_forms_with_row_0_near_the_other_rows() {
+    check_close_forms(9, 3000, 3, 5, 100);
+}
+
+#[test]
+fn random_forms_of_all_shapes_with_few_grids() {
+    check_close_forms(12, 1500, 8, 16, 20);
 }
 
 /// The value of the lowest rank.

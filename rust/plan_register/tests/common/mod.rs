@@ -4,7 +4,7 @@
 mod lent;
 
 pub use lent::Lent;
-use plan_register::{represent, same, Orders};
+use plan_register::{prune, represent, same, Orders, Pruned};
 use reference::grid::{arrangement, identity, is_permutation, least};
 use reference::random::Random;
 
@@ -55,6 +55,40 @@ fn unchanging_same(m: usize, n: usize, top: u8, a: &[u8], b: &[u8]) -> Orders {
     lent_a.check(a);
     lent_b.check(b);
     orders
+}
+
+/// Calls prune on bounds that pass. Checks its answer and what it wrote against the reference,
+/// that no other byte changed, and that prune finds nothing to remove from what it wrote.
+pub fn check_prune(m: usize, n: usize, top: u8, low: &[u8], high: &[u8]) -> Pruned {
+    let (mut new_low, mut new_high) = (low.to_vec(), high.to_vec());
+    let expected =
+        reference::bounds::prune(m as u64, n as u64, top.into(), &mut new_low, &mut new_high);
+    let pruned = Pruned {
+        number: expected.number,
+        count: expected.count as u32,
+    };
+    let new = (&new_low[..], &new_high[..]);
+    check_pruned(m, n, top.into(), (low, high), pruned, new);
+    let again = Pruned { count: 0, ..pruned };
+    check_pruned(m, n, top.into(), new, again, new);
+    pruned
+}
+
+/// Calls prune. Checks that it answers this and leaves these new lows and highs, and that no
+/// other byte changed.
+pub fn check_pruned(
+    m: usize,
+    n: usize,
+    top: usize,
+    (low, high): (&[u8], &[u8]),
+    pruned: Pruned,
+    (new_low, new_high): (&[u8], &[u8]),
+) {
+    let (mut lent_low, mut lent_high) = (Lent::holding(low), Lent::holding(high));
+    let found = prune(m, n, top, lent_low.slice_mut(), lent_high.slice_mut());
+    assert_eq!(found, pruned, "{m}x{n} top {top}: {low:?} {high:?}");
+    lent_low.check(new_low);
+    lent_high.check(new_high);
 }
 
 fn check_orders(m: usize, n: usize, orders: &Orders) {

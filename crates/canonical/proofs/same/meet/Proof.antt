@@ -1,7 +1,8 @@
 -- `meet` meets its contract: the two arrangements are written side by side, each at its array's beginning, and compared.
 use native.Mathlib.Omega.{arith}
 use borrow.Author.Needs.{needs}
-use Rattle.canonical.proofs.CallSteps.{size-fits, written-within, meet-equals}
+use Rattle.grids.proofs.QuestionLaws.{size-fits}
+use Rattle.canonical.proofs.CallSteps.{written-within, meet-equals}
 use Rattle.canonical.proofs.same.meet.Statement.{statement}
 use Rattle.canonical.proofs.same.meet.Tie as tie
 

@@ -2,11 +2,14 @@
 -- and where they meet, a's orders followed by the inverses of b's carry a to b.
 use mathlib.Core.Path.{_≡_, sym, _∙_}
 use mathlib.Core.List.{[], _∷_}
+use Prim.Native.Nat.{_*_}
 use native.Mathlib.Omega.{arith}
+use lib.ListN.{length}
 use borrow.Author.Tests.{not-true, not-false}
 use borrow.Author.Needs.{needs}
-use Rattle.grids.specs.Questions.{firstNo}
-use Rattle.canonical.proofs.CallSteps.{asked, shape-refuses, cells-refuse, none-refuses, shape-fits, two-capped, first-cells-no, second-cells-no, same-refuses, same-differs, same-gives}
+use Rattle.grids.specs.Questions.{firstNo, Limits}
+use Rattle.grids.proofs.QuestionLaws.{shape-refuses, shape-fits, cells-refuse, two-capped, first-cells-no, second-cells-no}
+use Rattle.canonical.proofs.CallSteps.{asked, none-refuses, same-refuses, same-differs, same-gives}
 use Rattle.canonical.proofs.same.same.Statement.{statement}
 use Rattle.canonical.proofs.same.same.Tie as tie
 
@@ -19,7 +22,7 @@ refused-requires c κs = search needs
 returns : tie.Need-returns
 returns c =
     let h = c .before .if1 .taken in
-    same-refuses _ _ _ _ _ _ _ (shape-refuses _ _ _ _ _ _ _ (c .before .before .shape-no .ensures) h) h (c .refused .ensures)
+    same-refuses _ _ _ _ _ _ _ (shape-refuses _ _ _ _ _ _ (c .before .before .shape-no .ensures) _ h) h (c .refused .ensures)
 
 is-capped-requires : tie.Need-is-capped-requires
 is-capped-requires c κs = search needs
@@ -31,7 +34,7 @@ returns-2 : tie.Need-returns-2
 returns-2 c =
     let d = c .before .before in
     let t = sym (d .is-capped .ensures) ∙ not-true _ (c .before .if2 .taken) in
-    let z = cells-refuse _ _ _ _ _ _ _ (d .before .before .shape-no .ensures) (d .before .if1 .left) (first-cells-no _ _ _ t) in
+    let z = cells-refuse _ _ _ _ _ _ (d .before .before .shape-no .ensures) (d .before .if1 .left) _ _ (first-cells-no _ _ _ t) in
     same-refuses _ _ _ _ _ _ _ z (omega arith) (c .refused2 .ensures)
 
 is-capped-requires-2 : tie.Need-is-capped-requires-2
@@ -45,7 +48,7 @@ returns-3 c =
     let d = c .before .before in
     let ta = sym (d .before .before .is-capped .ensures) ∙ not-false _ (d .before .if2 .left) in
     let tb = sym (d .is-capped2 .ensures) ∙ not-true _ (c .before .if3 .taken) in
-    let z = cells-refuse _ _ _ _ _ _ _ (d .before .before .before .before .shape-no .ensures) (d .before .before .before .if1 .left) (second-cells-no _ _ _ _ ta tb) in
+    let z = cells-refuse _ _ _ _ _ _ (d .before .before .before .before .shape-no .ensures) (d .before .before .before .if1 .left) _ _ (second-cells-no _ _ _ _ ta tb) in
     same-refuses _ _ _ _ _ _ _ z (omega arith) (c .refused3 .ensures)
 
 -- past the questions
@@ -58,14 +61,22 @@ passed c =
     let tb = sym (d .is-capped2 .ensures) ∙ not-false _ (c .if3 .left) in
     none-refuses _ _ _ _ _ _ _ (d .before .before .before .before .shape-no .ensures) (d .before .before .before .if1 .left) (two-capped _ _ _ ta tb)
 
+fits : (c : tie.Else3) →
+    let a = c .before .before .before .before .before .before .before .before .args in
+    Limits (a .m) (a .n) (a .top) × (length (a .a .now) ≡ a .m * a .n) × (length (a .b .now) ≡ a .m * a .n)
+fits c =
+    let d = c .before .before .before .before in
+    let a = d .before .before .before .before .args in
+    shape-fits _ _ _ (a .a .now) (a .b .now) _ (d .before .shape-no .ensures) (d .if1 .left)
+
 least-orders-requires : tie.Need-least-orders-requires
-least-orders-requires c κs = let f = shape-fits _ _ _ _ _ _ (passed c) in (f .0, f .1, f .2)
+least-orders-requires c κs = let f = fits c in (f .0 .rows-limits .1, f .0 .column-limits .1, f .1)
 
 least-orders-requires-2 : tie.Need-least-orders-requires-2
-least-orders-requires-2 c κs = let f = shape-fits _ _ _ _ _ _ (passed (c .before)) in (f .0, f .1, f .3)
+least-orders-requires-2 c κs = let f = fits (c .before) in (f .0 .rows-limits .1, f .0 .column-limits .1, f .2)
 
 meet-requires : tie.Need-meet-requires
-meet-requires c κs = let f = shape-fits _ _ _ _ _ _ (passed (c .before .before)) in (f .0, f .1)
+meet-requires c κs = let f = fits (c .before .before) in (f .0 .rows-limits .1, f .0 .column-limits .1)
 
 refused-requires-4 : tie.Need-refused-requires-4
 refused-requires-4 c κs = search needs

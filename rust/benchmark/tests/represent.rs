@@ -1,7 +1,9 @@
-//! The implementations that the library is compared with do what it does.
+//! The implementations of represent that the library is compared with do what it does.
 
 use benchmark::call::Represent;
-use benchmark::inputs::inputs;
+use benchmark::grids::inputs;
+use benchmark::implementations::REPRESENT;
+use benchmark::inputs::Input;
 use benchmark::{branch_and_bound, packed_theorem_1, same_search, theorem_1};
 use reference::designs::all;
 use reference::examples::{every_grid, shapes_up_to};
@@ -129,6 +131,6 @@ fn the_inputs_have_equal_outputs() {
     let inputs = inputs();
     assert_eq!(inputs.len(), 11);
     for input in inputs {
-        input.check_equal_outputs();
+        input.check_equal_outputs(&REPRESENT.calls());
     }
 }

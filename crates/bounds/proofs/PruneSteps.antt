@@ -1,0 +1,289 @@
+-- What the code of prune finds, and what it answers from it.
+--
+--   ordered-no           ==  a high ranks below its low, and question 8 gets a no
+--   Spans a b s          ==  s is the number of values that rank within a to b
+--   span-counts          ==  it is counted by the numbers a and b
+--   removed-at-first     ==  no cell, no value removed
+--   span-falls, cell-removed  ==  of the spans of a cell, the old and the new: the difference, and the values removed with one cell more
+-- The answers of prune:
+--   prune-shape-no, prune-cells-no, prune-order-no  ==  a question gets a no: one of the shape, 7, 8
+--   prune-lengths        ==  past the shape: low is no longer than high
+--   prune-asked          ==  no question gets a no
+--   prune-size           ==  past the questions: there are at most 128 cells
+--   narrow-ready         ==  the arguments fit narrow
+--   prune-none           ==  narrow says no: 102
+--   Wrote m n top low high low′ high′, narrow-wrote  ==  narrow says yes, and has written low′ and high′
+--   parts-within, parts-fit, removed-ready  ==  what it wrote, at the beginning of two arrays, fits the calls after it
+--   prune-some           ==  with the values removed and the new bounds: 0
+use mathlib.Core.Path.{_≡_, refl, sym, ap, _∙_}
+use mathlib.Core.List.{List, [], _∷_, _++_, foldr, append-nil}
+use mathlib.Core.Bool.{Bool, true, false}
+use mathlib.Core.Logic.{_↔_}
+use Prim.Native.Nat.{ℕ, zero, suc, _+_, _*_, _-_, _≤_, _<_}
+use native.Mathlib.Decide.{decLt}
+use native.Mathlib.Nat.{add-zero, zero-add}
+use native.Mathlib.Numerals.{add-one}
+use native.Mathlib.Omega.{arith}
+use lib.ListN.{length, getD, take, drop, length-take}
+use lib.Seq.{take-length, drop-length}
+use Rattle.permutations.specs.Lists.{tabulate, numbers, select}
+use Rattle.permutations.proofs.BoolLaws.{refuted}
+use Rattle.permutations.proofs.ListLaws.{part-within, part-is, select-yes, select-no, length-select, length-numbers}
+use Rattle.grids.specs.Order.{rank}
+use Rattle.grids.specs.Questions.{firstNo, Limits, question7, shapeNo}
+use Rattle.grids.proofs.QuestionLaws.{firstNo-pass, firstNo-stop, size-fits, shape-refuses, shape-fits, cells-refuse, cells-pass}
+use Rattle.bounds.specs.Bounds.{IsBounds, ranksWithin, between}
+use Rattle.bounds.specs.Kept.{Obeyed, keptLow, keptHigh, removed}
+use Rattle.bounds.specs.Allperm.{Allperm, allperm}
+use Rattle.bounds.specs.Rows.{cells, Values}
+use Rattle.bounds.specs.Narrowed.{rowOf, AllLead, Narrowed, NarrowOutcome, NarrowSizes, Inside, removedBy}
+use Rattle.bounds.specs.Prune.{question8, boundsQuestions, pruneQuestions, outcome, pruned}
+use Rattle.bounds.proofs.BoundsLaws.{bounds-wider, ranks-within, between-fewer, order-asked}
+use Rattle.bounds.proofs.PruneLaws.{prune-pass, pruned-refused, pruned-some, pruned-none}
+use Rattle.bounds.proofs.NarrowedLaws.{narrowed-obeyed, narrowed-low, narrowed-high, narrowed-inside, narrowed-removed}
+
+-- ---- question 8
+
+pub ordered-no : (size : ℕ) (low high : List ℕ) (k : ℕ) → k < size → rank (getD high k 0) < rank (getD low k 0) → false ≡ question8 size low high .answer
+ordered-no size low high k b h =
+    sym (refuted (question8 size low high .answer) (order-asked size low high) (λ o. let w : rank (getD low k 0) ≤ rank (getD high k 0) = o k b in omega arith))
+
+-- ---- the values between two bounds
+
+-- values rank by their numbers; only the span says so
+rank-number : (a b : ℕ) → (rank a ≤ rank b) ↔ (a ≤ b)
+unfolding rank
+rank-number a b = (λ h. h, λ h. h)
+
+module _ (a b : ℕ) where
+  number-within : (v : ℕ) → (ranksWithin a b v ≡ true) ↔ ((a ≤ v) × (v ≤ b))
+  number-within v = (
+    λ t. let w = ranks-within a b v .0 t in (rank-number a v .0 (w .0), rank-number v b .0 (w .1)),
+    λ h. ranks-within a b v .1 (rank-number a v .1 (h .0), rank-number v b .1 (h .1)),
+  )
+
+  -- of the n numbers from s on, those that rank within a to b
+  abbrev Count : ℕ → ℕ → ℕ → Type 0
+  Count s n c = length (select (ranksWithin a b) (tabulate s n (λ i. i))) ≡ c
+
+  count-yes : (s n c : ℕ) → a ≤ s → s ≤ b → Count (suc s) n c → Count s (suc n) (suc c)
+  unfolding tabulate
+  count-yes s n c h k e = ap length (select-yes (ranksWithin a b) s (tabulate (suc s) n (λ i. i)) (number-within s .1 (h, k))) ∙ ap suc e
+
+  count-no : (s n c : ℕ) → ((a ≤ s) × (s ≤ b) → ⊥) → Count (suc s) n c → Count s (suc n) c
+  unfolding tabulate
+  count-no s n c h e =
+      ap length (select-no (ranksWithin a b) s (tabulate (suc s) n (λ i. i)) (refuted (ranksWithin a b s) (number-within s) h)) ∙ e
+
+  -- from a on, and from before a on
+  count-rest : (s n : ℕ) → a ≤ s → b < s + n → Count s n (b + 1 - s)
+  unfolding tabulate select
+  count-rest s zero h k = omega arith
+  count-rest s (suc n) h k = go (decLt b s) (count-rest (suc s) n (omega arith) (omega arith))
+    where
+      go : Dec (b < s) → Count (suc s) n (b + 1 - suc s) → Count s (suc n) (b + 1 - s)
+      go (yes l) e = let z : b + 1 - suc s ≡ b + 1 - s = omega arith in count-no s n (b + 1 - s) (λ w. omega arith) (e ∙ z)
+      go (no l) e = let z : suc (b + 1 - suc s) ≡ b + 1 - s = omega arith in count-yes s n (b + 1 - suc s) h (omega arith) e ∙ z
+
+  count-all : (s n : ℕ) → s ≤ a → a ≤ b → b < s + n → Count s n (b + 1 - a)
+  count-all s zero h ab k = absurd (omega arith)
+  count-all s (suc n) h ab k = go (decLt s a) (count-all (suc s) n)
+    where
+      go : Dec (s < a) → (suc s ≤ a → a ≤ b → b < suc s + n → Count (suc s) n (b + 1 - a)) → Count s (suc n) (b + 1 - a)
+      go (yes l) ih = count-no s n (b + 1 - a) (λ w. omega arith) (ih l ab (omega arith))
+      go (no l) ih = let z : b + 1 - s ≡ b + 1 - a = omega arith in count-rest s (suc n) (omega arith) k ∙ z
+
+-- s is the number of values that rank within a to b
+abbrev pub Spans : ℕ → ℕ → ℕ → Type 0
+Spans a b s = (top : ℕ) → a ≤ top → b ≤ top → s ≡ length (between top a b)
+
+pub span-counts : (a b : ℕ) → rank a ≤ rank b → (a ≤ b) × Spans a b (b - a + 1)
+unfolding between numbers
+span-counts a b h =
+    let ab = rank-number a b .0 h in
+    (ab, λ top at bt. let e = count-all a b 0 (suc top) (omega arith) ab (omega arith) in omega arith)
+
+-- ---- the values removed
+
+sum-more : (s n : ℕ) (f : ℕ → ℕ) → foldr _+_ 0 (tabulate s (suc n) f) ≡ foldr _+_ 0 (tabulate s n f) + f (s + n)
+unfolding tabulate
+sum-more s zero f = rw (add-zero s) (omega arith)
+sum-more s (suc n) f = let e : s + suc n ≡ suc s + n = omega arith in rw e (omega (arith, sum-more (suc s) n f))
+
+pub removed-at-first : (top : ℕ) (low high lows highs : List ℕ) → 0 ≡ removedBy 0 top low high lows highs
+unfolding removedBy tabulate
+removed-at-first top low high lows highs = refl
+
+removed-more : (k top : ℕ) (low high lows highs : List ℕ) → removedBy (k + 1) top low high lows highs
+    ≡ removedBy k top low high lows highs + (length (between top (getD low k 0) (getD high k 0)) - length (between top (getD lows k 0) (getD highs k 0)))
+unfolding removedBy
+removed-more k top low high lows highs = rw (add-one k) (sum-more 0 k _ ∙ rw (zero-add k))
+
+-- s and t are the spans of the old and of the new bounds of cell k
+module _ (size top : ℕ) (low high lows highs : List ℕ) (i : Inside size top low high lows highs) (k s t : ℕ) (b : k < size)
+    (old : Spans (getD low k 0) (getD high k 0) s) (new : Spans (getD lows k 0) (getD highs k 0) t) where
+  old-span : s ≡ length (between top (getD low k 0) (getD high k 0))
+  old-span = old top (i .old .low-cap k b) (i .old .high-cap k b)
+
+  new-span : t ≡ length (between top (getD lows k 0) (getD highs k 0))
+  new-span = new top (i .new .low-cap k b) (i .new .high-cap k b)
+
+  pub span-falls : (t ≤ s) × (s ≤ top + 1)
+  unfolding between
+  span-falls =
+      let f = between-fewer top (getD low k 0) (getD high k 0) (getD lows k 0) (getD highs k 0) (i .above k b) (i .below k b) in
+      let m = length-select (ranksWithin (getD low k 0) (getD high k 0)) (numbers (suc top)) in
+      (omega (arith, old-span, new-span), omega (arith, old-span, length-numbers (suc top)))
+
+  pub cell-removed : (count : ℕ) → count ≡ removedBy k top low high lows highs → count + (s - t) ≡ removedBy (k + 1) top low high lows highs
+  cell-removed count e = rw (old-span, new-span, e, removed-more k top low high lows highs)
+
+-- ---- the call
+
+-- what is copied over a slice of its own length
+copied-is : (part slice copied : List ℕ) → length part ≡ length slice → copied ≡ take (length part) part ++ drop (length part) slice → copied ≡ part
+copied-is part slice copied e c = c ∙ rw (take-length part, e, drop-length slice) (append-nil part)
+
+-- no question gets a no, and narrow wrote low′ and high′
+pub record Wrote (m n top : ℕ) (low high low′ high′ : List ℕ) : Type 0 where
+  pub asked : firstNo (pruneQuestions m n top low high) ≡ 0
+  pub narrowed : NarrowOutcome true m n low high low′ high′
+
+module _ (m n top : ℕ) (low high : List ℕ) where
+  refused : (k : ℕ) → firstNo (pruneQuestions m n top low high) ≡ k → (k ≡ 0 → ⊥) → outcome k 0 low high ≡ pruned m n top low high
+  refused zero e h = absurd (h refl)
+  refused (suc k) e h = sym (pruned-refused m n top low high k e)
+
+  -- k is the first no of the shape
+  module _ (k : ℕ) (found : k ≡ shapeNo m n top (length low) (length high)) where
+    pub prune-shape-no : (k ≡ 0 → ⊥) → outcome k 0 low high ≡ pruned m n top low high
+    unfolding boundsQuestions
+    prune-shape-no h = refused k (shape-refuses m n top low high k found _ h) h
+
+    module _ (z : k ≡ 0) where
+      pub prune-cells-no : question7 top (low ∷ high ∷ []) .answer ≡ false → outcome 7 0 low high ≡ pruned m n top low high
+      unfolding boundsQuestions
+      prune-cells-no e = refused 7 (cells-refuse m n top low high k found z (low ∷ high ∷ []) _ e) (omega arith)
+
+      pub prune-lengths : length low ≤ length high
+      prune-lengths = let f = shape-fits m n top low high k found z in omega (arith, f .1, f .2)
+
+      -- t is the answer to question 8
+      module _ (e : question7 top (low ∷ high ∷ []) .answer ≡ true) (t : Bool) (ordered : t ≡ question8 (length low) low high .answer) where
+        order-first : firstNo (pruneQuestions m n top low high) ≡ firstNo (question8 (m * n) low high ∷ [])
+        unfolding boundsQuestions
+        order-first = cells-pass m n top low high k found z (low ∷ high ∷ []) _ e
+
+        order-answer : question8 (m * n) low high .answer ≡ t
+        order-answer = sym (rw (shape-fits m n top low high k found z .1) at ordered)
+
+        pub prune-order-no : t ≡ false → outcome 8 0 low high ≡ pruned m n top low high
+        unfolding question8
+        prune-order-no f = refused 8 (order-first ∙ firstNo-stop (question8 (m * n) low high) [] (order-answer ∙ f)) (omega arith)
+
+        pub prune-asked : t ≡ true → firstNo (pruneQuestions m n top low high) ≡ 0
+        unfolding firstNo
+        prune-asked f = order-first ∙ firstNo-pass (question8 (m * n) low high) [] (order-answer ∙ f)
+
+  -- past the questions
+  module _ (e : firstNo (pruneQuestions m n top low high) ≡ 0) where
+    limits : Limits m n top
+    limits = prune-pass m n top low high .0 e .0
+
+    bounds : IsBounds (m * n) top low high
+    bounds = prune-pass m n top low high .0 e .1
+
+    pub prune-size : m * n ≤ 128
+    prune-size = size-fits m n (limits .rows-limits .1) (limits .column-limits .1)
+
+    part-size : (x : List ℕ) → length x ≡ 128 → length (take (m * n - 0) x) ≡ m * n
+    part-size x h = simp length-take (omega (arith, prune-size))
+
+    pub narrow-ready : (x y : List ℕ) → length x ≡ 128 → length y ≡ 128 →
+        NarrowSizes m n low high (take (m * n - 0) x) (take (m * n - 0) y) × Values (m * n) 15 (cells high)
+    narrow-ready x y hx hy = (
+      record {
+        rows-limits = limits .rows-limits;
+        column-limits = limits .column-limits;
+        low-size = bounds .low-size;
+        high-size = bounds .high-size;
+        new-low-size = part-size x hx;
+        new-high-size = part-size y hy;
+      },
+      bounds-wider (limits .top-limit) bounds .high-cap,
+    )
+
+    -- narrow says no
+    pub prune-none : (t : Bool) (low′ high′ : List ℕ) → NarrowOutcome t m n low high low′ high′ → t ≡ false → outcome 102 0 low high ≡ pruned m n top low high
+    prune-none t low′ high′ w f =
+        let no : AllLead m n (rowOf n low 0) high → ⊥ = rw f at w in
+        sym (pruned-none m n top low high e (λ o. no (narrowed-obeyed m n top low high (limits .rows-limits .0) bounds .1 o)))
+
+    -- narrow says yes
+    pub narrow-wrote : (t : Bool) (low′ high′ : List ℕ) → NarrowOutcome t m n low high low′ high′ → t ≡ true → Wrote m n top low high low′ high′
+    narrow-wrote t low′ high′ w f = record { asked = e; narrowed = rw f at w }
+
+-- what narrow wrote stands at the beginning of two arrays, before x′ and before y′
+module _ (m n top : ℕ) (low high low′ high′ : List ℕ) (w : Wrote m n top low high low′ high′) (x′ y′ : List ℕ) where
+  some-row : 1 ≤ m
+  some-row = limits m n top low high (w .asked) .rows-limits .0
+
+  old-bounds : IsBounds (m * n) top low high
+  old-bounds = bounds m n top low high (w .asked)
+
+  result : Narrowed m n top low high low′ high′
+  result = w .narrowed top old-bounds
+
+  new-sizes : (length low′ ≡ m * n) × (length high′ ≡ m * n)
+  new-sizes = (result .low-size ∙ old-bounds .low-size, result .high-size ∙ old-bounds .high-size)
+
+  abbrev lowPart : List ℕ
+  lowPart = take (m * n - 0) (low′ ++ x′)
+
+  abbrev highPart : List ℕ
+  highPart = take (m * n - 0) (high′ ++ y′)
+
+  low-part-is : lowPart ≡ low′
+  low-part-is = part-is low′ x′ (m * n) (new-sizes .0)
+
+  high-part-is : highPart ≡ high′
+  high-part-is = part-is high′ y′ (m * n) (new-sizes .1)
+
+  pub parts-within : (m * n ≤ length (low′ ++ x′)) × (m * n ≤ length (high′ ++ y′))
+  parts-within = (part-within low′ x′ (m * n) (new-sizes .0), part-within high′ y′ (m * n) (new-sizes .1))
+
+  low-part-size : length lowPart ≡ length low
+  low-part-size = ap length low-part-is ∙ result .low-size
+
+  high-part-size : length highPart ≡ length high
+  high-part-size = ap length high-part-is ∙ result .high-size
+
+  pub parts-fit : (length lowPart ≤ length low) × (length highPart ≤ length high)
+  parts-fit = (omega (arith, low-part-size), omega (arith, high-part-size))
+
+  parts-inside : (cap : ℕ) → top ≤ cap → Inside (length low) cap low high lowPart highPart
+  parts-inside cap h =
+      let b = bounds-wider h old-bounds in
+      rw (old-bounds .low-size, low-part-is, high-part-is) (narrowed-inside m n cap low high some-row b low′ high′ (w .narrowed cap b))
+
+  pub removed-ready : (length low ≤ 128) × Inside (length low) 15 low high lowPart highPart
+  removed-ready = (omega (arith, old-bounds .low-size, prune-size m n top low high (w .asked)), parts-inside 15 (limits m n top low high (w .asked) .top-limit))
+
+  pub prune-some : (count : ℕ) (lows highs : List ℕ) →
+      ((cap : ℕ) → Inside (length low) cap low high lowPart highPart → count ≡ removedBy (length low) cap low high lowPart highPart) →
+      lows ≡ take (length lowPart) lowPart ++ drop (length lowPart) low → highs ≡ take (length highPart) highPart ++ drop (length highPart) high →
+      outcome 0 count lows highs ≡ pruned m n top low high
+  prune-some count lows highs counted cl ch = rw (ec, el, eh) (sym (pruned-some m n top low high (w .asked) obeyed))
+    where
+      obeyed : Obeyed (Allperm m n) (m * n) top low high
+      obeyed = narrowed-obeyed m n top low high some-row old-bounds .0 (result .leads)
+
+      ec : count ≡ removed (allperm m n) (m * n) top low high
+      ec = counted top (parts-inside top (omega arith)) ∙ rw (old-bounds .low-size, low-part-is, high-part-is)
+          (sym (narrowed-removed m n top low high some-row old-bounds low′ high′ result))
+
+      el : lows ≡ keptLow (allperm m n) (m * n) top low high
+      el = copied-is lowPart low lows low-part-size cl ∙ low-part-is ∙ sym (narrowed-low m n top low high some-row old-bounds low′ high′ result)
+
+      eh : highs ≡ keptHigh (allperm m n) (m * n) top low high
+      eh = copied-is highPart high highs high-part-size ch ∙ high-part-is ∙ sym (narrowed-high m n top low high some-row old-bounds low′ high′ result)

@@ -1,0 +1,236 @@
+-- `prune` meets its contract: a refusal has the number of the first no; past the questions the rows are narrowed in copies,
+-- and where some grid has allperm the copies are the new bounds.
+use mathlib.Core.Path.{_≡_, refl, sym, _∙_}
+use mathlib.Core.List.{[], _∷_}
+use mathlib.Core.Bool.{true}
+use native.Mathlib.Omega.{arith}
+use borrow.Author.Tests.{not-true, not-false}
+use borrow.Author.Needs.{needs}
+use Rattle.grids.specs.Questions.{firstNo, question7}
+use Rattle.grids.proofs.QuestionLaws.{two-capped, first-cells-no, second-cells-no}
+use Rattle.bounds.specs.Prune.{pruneQuestions}
+use Rattle.bounds.proofs.PruneSteps.{prune-shape-no, prune-cells-no, prune-lengths, prune-order-no, prune-asked, prune-size, narrow-ready, prune-none, Wrote, narrow-wrote, parts-within, removed-ready, parts-fit, prune-some}
+use Rattle.bounds.proofs.prune.prune.Statement.{statement}
+use Rattle.bounds.proofs.prune.prune.Tie as tie
+
+shape-no-requires : tie.Need-shape-no-requires
+shape-no-requires c κs = search needs
+
+returns : tie.Need-returns
+returns c = prune-shape-no _ _ _ _ _ _ (c .before .shape-no .ensures) (c .if1 .taken)
+
+is-capped-requires : tie.Need-is-capped-requires
+is-capped-requires c κs = search needs
+
+same-length : tie.Need-same-length
+same-length c = search needs
+
+returns-2 : tie.Need-returns-2
+returns-2 c =
+    let t = sym (c .before .is-capped .ensures) ∙ not-true _ (c .if2 .taken) in
+    let d = c .before .before .before in
+    prune-cells-no _ _ _ _ _ _ (d .before .shape-no .ensures) (d .if1 .left) (first-cells-no _ _ _ t)
+
+is-capped-requires-2 : tie.Need-is-capped-requires-2
+is-capped-requires-2 c κs = search needs
+
+same-length-2 : tie.Need-same-length-2
+same-length-2 c = search needs
+
+same-length-3 : tie.Need-same-length-3
+same-length-3 c = search needs
+
+returns-3 : tie.Need-returns-3
+returns-3 c =
+    let e = c .before .before .before in
+    let ta = sym (e .before .is-capped .ensures) ∙ not-false _ (e .if2 .left) in
+    let tb = sym (c .before .is-capped2 .ensures) ∙ not-true _ (c .if3 .taken) in
+    let d = e .before .before .before in
+    prune-cells-no _ _ _ _ _ _ (d .before .shape-no .ensures) (d .if1 .left) (second-cells-no _ _ _ _ ta tb)
+
+-- past question 7: what is known past the shape, and of the cells
+abbrev shaped : tie.Else3 → tie.Else1
+shaped c = c .before .before .before .before .before .before
+
+capped-all : (c : tie.Else3) →
+    let a = shaped c .before .before .before .before .args in
+    question7 (a .top) (a .low .now ∷ a .high .now ∷ []) .answer ≡ true
+capped-all c =
+    let d = c .before .before .before in
+    two-capped _ _ _ (sym (d .before .is-capped .ensures) ∙ not-false _ (d .if2 .left)) (sym (c .before .is-capped2 .ensures) ∙ not-false _ (c .if3 .left))
+
+is-ordered-requires : tie.Need-is-ordered-requires
+is-ordered-requires c κs =
+    let d = shaped (c .before .before) in
+    let a = d .before .before .before .before .args in
+    prune-lengths _ _ _ (a .low .now) (a .high .now) _ (d .before .shape-no .ensures) (d .if1 .left)
+
+same-length-4 : tie.Need-same-length-4
+same-length-4 c = search needs
+
+same-length-5 : tie.Need-same-length-5
+same-length-5 c = search needs
+
+returns-4 : tie.Need-returns-4
+returns-4 c =
+    let e = c .before .before .before .before in
+    let d = shaped e in
+    prune-order-no _ _ _ _ _ _ (d .before .shape-no .ensures) (d .if1 .left) (capped-all e) _ (c .before .is-ordered .ensures) (not-true _ (c .if4 .taken))
+
+-- past the questions
+passed : (c : tie.Else4) →
+    let a = shaped (c .before .before .before .before) .before .before .before .before .args in
+    firstNo (pruneQuestions (a .m) (a .n) (a .top) (a .low .now) (a .high .now)) ≡ 0
+passed c =
+    let e = c .before .before .before .before in
+    let d = shaped e in
+    prune-asked _ _ _ _ _ _ (d .before .shape-no .ensures) (d .if1 .left) (capped-all e) _ (c .before .is-ordered .ensures) (not-false _ (c .if4 .left))
+
+mul-size : tie.Need-mul-size
+mul-size c = omega (arith, prune-size _ _ _ _ _ (passed c))
+
+sub-narrow : tie.Need-sub-narrow
+sub-narrow c = search needs
+
+part-lows-start : tie.Need-part-lows-start
+part-lows-start c = search needs
+
+part-lows-end : tie.Need-part-lows-end
+part-lows-end c = prune-size _ _ _ _ _ (passed (c .before .before))
+
+sub-narrow-2 : tie.Need-sub-narrow-2
+sub-narrow-2 c = search needs
+
+part-highs-start : tie.Need-part-highs-start
+part-highs-start c = search needs
+
+part-highs-end : tie.Need-part-highs-end
+part-highs-end c = prune-size _ _ _ _ _ (passed (c .before .before .before))
+
+narrow-requires : tie.Need-narrow-requires
+narrow-requires c κs = narrow-ready _ _ _ _ _ (passed (c .before .before .before .before)) _ _ refl refl
+
+same-length-6 : tie.Need-same-length-6
+same-length-6 c = search needs
+
+same-length-7 : tie.Need-same-length-7
+same-length-7 c = search needs
+
+returns-5 : tie.Need-returns-5
+returns-5 c =
+    let d = c .before .before .before in
+    prune-none _ _ _ _ _ (passed (d .before .before .before .before .before)) (d .narrow .result) _ _ (d .narrow .ensures) (not-true _ (c .if5 .taken))
+
+-- past narrow: the lists that it leaves
+wrote : (c : tie.Else5) →
+    let d = c .before .before .before in
+    let a = shaped (d .before .before .before .before .before .before .before .before .before) .before .before .before .before .args in
+    let l = d .narrow .last in
+    Wrote (a .m) (a .n) (a .top) (a .low .now) (a .high .now) (l .1 .1 .1 .1 .0) (l .1 .1 .1 .1 .1 .0)
+wrote c =
+    let d = c .before .before .before in
+    narrow-wrote _ _ _ _ _ (passed (d .before .before .before .before .before)) (d .narrow .result) _ _ (d .narrow .ensures) (not-false _ (c .if5 .left))
+
+sub-removed : tie.Need-sub-removed
+sub-removed c = search needs
+
+part-removed-start : tie.Need-part-removed-start
+part-removed-start c = search needs
+
+part-removed-end : tie.Need-part-removed-end
+part-removed-end c = parts-within _ _ _ _ _ _ _ (wrote (c .before .before .before)) _ [] .0
+
+sub-removed-2 : tie.Need-sub-removed-2
+sub-removed-2 c = search needs
+
+part-removed-start-2 : tie.Need-part-removed-start-2
+part-removed-start-2 c = search needs
+
+part-removed-end-2 : tie.Need-part-removed-end-2
+part-removed-end-2 c = parts-within _ _ _ _ _ _ _ (wrote (c .before .before .before .before .before)) [] _ .1
+
+removed-requires : tie.Need-removed-requires
+removed-requires c κs = removed-ready _ _ _ _ _ _ _ (wrote (c .before .before .before .before .before .before)) _ _
+
+sub-copy : tie.Need-sub-copy
+sub-copy c = search needs
+
+part-copy-start : tie.Need-part-copy-start
+part-copy-start c = search needs
+
+part-copy-end : tie.Need-part-copy-end
+part-copy-end c = parts-within _ _ _ _ _ _ _ (wrote (c .before .before .before .before .before .before .before .before)) _ [] .0
+
+copy-requires : tie.Need-copy-requires
+copy-requires c κs = parts-fit _ _ _ _ _ _ _ (wrote (c .before .before .before .before .before .before .before .before .before .before)) _ [] .0
+
+sub-copy-2 : tie.Need-sub-copy-2
+sub-copy-2 c = search needs
+
+part-copy-start-2 : tie.Need-part-copy-start-2
+part-copy-start-2 c = search needs
+
+part-copy-end-2 : tie.Need-part-copy-end-2
+part-copy-end-2 c = parts-within _ _ _ _ _ _ _ (wrote (c .before .before .before .before .before .before .before .before .before .before .before .before .before .before)) [] _ .1
+
+copy-requires-2 : tie.Need-copy-requires-2
+copy-requires-2 c κs = parts-fit _ _ _ _ _ _ _ (wrote (c .before .before .before .before .before .before .before .before .before .before .before .before .before .before .before .before)) [] _ .1
+
+same-length-8 : tie.Need-same-length-8
+same-length-8 c = search needs
+
+same-length-9 : tie.Need-same-length-9
+same-length-9 c = search needs
+
+returns-6 : tie.Need-returns-6
+returns-6 c =
+    let d = c .before .before .before .before .before .before .before .before in
+    let e = d .before .before .before .before in
+    prune-some _ _ _ _ _ _ _ (wrote (e .before .before .before .before .before .before .before)) _ _ _ _ _ (e .removed .ensures) (d .copy .ensures .1) (c .before .before .copy2 .ensures .1)
+
+pub prune-spec : {M : Type 1} → statement M
+prune-spec =
+    tie.close
+    (tie.spec
+    shape-no-requires
+    returns
+    is-capped-requires
+    same-length
+    returns-2
+    is-capped-requires-2
+    same-length-2
+    same-length-3
+    returns-3
+    is-ordered-requires
+    same-length-4
+    same-length-5
+    returns-4
+    mul-size
+    sub-narrow
+    part-lows-start
+    part-lows-end
+    sub-narrow-2
+    part-highs-start
+    part-highs-end
+    narrow-requires
+    same-length-6
+    same-length-7
+    returns-5
+    sub-removed
+    part-removed-start
+    part-removed-end
+    sub-removed-2
+    part-removed-start-2
+    part-removed-end-2
+    removed-requires
+    sub-copy
+    part-copy-start
+    part-copy-end
+    copy-requires
+    sub-copy-2
+    part-copy-start-2
+    part-copy-end-2
+    copy-requires-2
+    same-length-8
+    same-length-9
+    returns-6)

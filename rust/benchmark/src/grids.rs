@@ -1,0 +1,89 @@
+//! The grids on which represent is timed.
+
+use crate::call::Represent;
+use crate::inputs::{check_equal, Input};
+use reference::designs::{
+    cyclic_latin, efpa, fano, half_hadamard, identity, near_identity, two_rows, zero, Design,
+};
+use reference::random::Random;
+use std::hint::black_box;
+
+/// Grids that are timed together.
+pub struct Grids {
+    pub name: String,
+    pub grids: Vec<Design>,
+}
+
+/// The random grids of one input.
+const RANDOM_GRIDS: usize = 20;
+
+/// All inputs, the same in every run.
+pub fn inputs() -> Vec<Grids> {
+    let mut inputs = vec![
+        random_grids(1, 8, 16, 15),
+        random_grids(2, 8, 16, 1),
+        random_grids(3, 5, 16, 15),
+    ];
+    let designs = [
+        zero(8, 16),
+        two_rows(8, 16),
+        half_hadamard(),
+        cyclic_latin(8),
+        identity(8),
+        near_identity(8),
+        fano(),
+        efpa(),
+    ];
+    inputs.extend(designs.map(|design| Grids {
+        name: design.name.clone(),
+        grids: vec![design],
+    }));
+    inputs
+}
+
+fn random_grids(seed: u64, m: usize, n: usize, top: u8) -> Grids {
+    let mut random = Random::new(seed);
+    let name = format!("random {m}x{n}, top {top}");
+    let grid = |_| Design {
+        name: name.clone(),
+        m,
+        n,
+        top,
+        cells: random.cells(m * n, top),
+    };
+    Grids {
+        grids: (0..RANDOM_GRIDS).map(grid).collect(),
+        name,
+    }
+}
+
+impl Input for Grids {
+    type Call = Represent;
+
+    fn name(&self) -> &str {
+        &self.name
+    }
+
+    /// The answer is number 0 and a grid.
+    fn check_equal_outputs(&self, calls: &[Represent]) {
+        for grid in &self.grids {
+            let outputs = calls.iter().map(|represent| {
+                let mut out = vec![255; grid.m * grid.n];
+                let orders = represent(grid.m, grid.n, grid.top.into(), &grid.cells, &mut out);
+                assert_eq!(orders.number, 0, "{}", grid.name);
+                out
+            });
+            check_equal(&grid.name, outputs);
+        }
+    }
+
+    fn pass(&self, represent: Represent) {
+        let mut out = [0; 128];
+        for grid in &self.grids {
+            let (m, n, top) = black_box((grid.m, grid.n, grid.top.into()));
+            let out = &mut out[..grid.cells.len()];
+            black_box(represent(m, n, top, black_box(&grid.cells), out));
+            black_box(out);
+        }
+    }
+}
