@@ -3,33 +3,28 @@
 --   allperm-decides    ==  the test decides it
 --   allperm-directed   ==  it survives when row 0 falls and the other rows rise
 --   allperm-one-row    ==  a grid of one row has it
---   Sorts n g i q      ==  the permutation q sorts row i by rank
---   allperm-sorted     ==  a grid has it exactly if row 0 is at most every other row sorted
---   allperm-next       ==  the same, one row more
 --   least-allperm      ==  the least grid of a class has it
 use mathlib.Core.Path.{_≡_, refl, _∙_}
 use mathlib.Core.List.{List, List·Memᴰ}
 use mathlib.Core.Bool.{true}
 use mathlib.Core.Logic.{_↔_}
-use Prim.Native.Nat.{ℕ, suc, _+_, _-_, _*_, _≤_, _<_}
+use Prim.Native.Nat.{ℕ, _+_, _-_, _*_, _≤_, _<_}
 use native.Mathlib.Nat.{zero-mul}
-use native.Mathlib.Decide.{ℕ-discrete}
 use native.Mathlib.Omega.{arith}
 use lib.ListN.{length, getD}
 use lib.Arith.{digits-lt}
 use lib.Dec.{ltb}
 use borrow.Author.Tests.{lt-ltb, le-ltb}
 use Rattle.permutations.specs.Lists.{tabulate}
-use Rattle.permutations.specs.Permutations.{IsPermutation, permutations}
+use Rattle.permutations.specs.Permutations.{permutations}
 use Rattle.permutations.proofs.ListLaws.{in-tabulate, of-tabulate, tabulate-ext, tabulate-getD, every-at, at-every}
 use Rattle.permutations.proofs.PermutationTest.{permutation-listed, listed-permutation}
 use Rattle.permutations.proofs.Transpositions.{exchange-first, transposition, transposition-permutation, at-transposition}
 use Rattle.grids.specs.Order.{rank, _≼_}
-use Rattle.grids.specs.Grids.{cell, row, permutedRow, arrangement, OneClass}
+use Rattle.grids.specs.Grids.{row, permutedRow, arrangement, OneClass}
 use Rattle.grids.specs.Least.{IsLeast}
 use Rattle.grids.proofs.OrderLaws.{leq-yes, ≼-leq, ≼-trans, ≼-pointwise, ≼-prefix}
 use Rattle.grids.proofs.GridLaws.{row-zero, rows-size, beneath, length-arrangement, cell-arrangement, class-trans, class-length}
-use Rattle.grids.proofs.SortedColumns.{sorted-suffices}
 use Rattle.bounds.specs.Allperm.{Allperm, allperm}
 use Rattle.bounds.proofs.Extremal.{Directed}
 
@@ -68,31 +63,6 @@ allperm-directed m n g e lg le t h i i0 im q o =
 pub allperm-one-row : (n : ℕ) (g : List ℕ) → Allperm 1 n g
 unfolding Allperm
 allperm-one-row n g i i0 i1 q o = absurd (omega arith)
-
--- ---- by sorted rows
-
-pub record Sorts (n : ℕ) (g : List ℕ) (i : ℕ) (q : List ℕ) : Type 0 where
-  pub permutation : IsPermutation n q
-  pub ascend : (a b : ℕ) → a ≤ b → b < n → rank (cell n g i (getD q a 0)) ≤ rank (cell n g i (getD q b 0))
-
-pub allperm-sorted : (m n : ℕ) (g : List ℕ) (q : ℕ → List ℕ) → ((i : ℕ) → 0 < i → i < m → Sorts n g i (q i)) →
-    Allperm m n g ↔ ((i : ℕ) → 0 < i → i < m → row n g 0 ≼ permutedRow n g i (q i))
-unfolding Allperm
-allperm-sorted m n g q sorts = (
-  λ h i i0 im. h i i0 im (q i) (sorts i i0 im .permutation),
-  λ h i i0 im. let s = sorts i i0 im in sorted-suffices n g (row n g 0) i (q i) (s .permutation) (s .ascend) .0 (h i i0 im),
-)
-
-pub allperm-next : (m n : ℕ) (g q : List ℕ) → 0 < m → Sorts n g m q → Allperm (suc m) n g ↔ (Allperm m n g × (row n g 0 ≼ permutedRow n g m q))
-unfolding Allperm
-allperm-next m n g q m0 s = (λ h. (λ i i0 im. h i i0 (omega arith), h m m0 (omega arith) q (s .permutation)), back)
-  where
-    back : Allperm m n g × (row n g 0 ≼ permutedRow n g m q) → Allperm (suc m) n g
-    back h i i0 im = go (ℕ-discrete i m)
-      where
-        go : Dec (i ≡ m) → (q : List ℕ) → IsPermutation n q → row n g 0 ≼ permutedRow n g i q
-        go (yes e) = rw e (sorted-suffices n g (row n g 0) m q (s .permutation) (s .ascend) .0 (h .1))
-        go (no ne) = h .0 i i0 (omega arith)
 
 -- ---- least grids
 

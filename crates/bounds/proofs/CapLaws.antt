@@ -1,6 +1,6 @@
 -- The highest value that row 0 may have in a column, by its lows x and the other row's sorted highs s; and the lower and higher of two values.
 --
---   lower-first, lower-second, higher-first, higher-second  ==  which of the two it is
+--   lower-all, higher-all  ==  what holds of either holds of the lower, of the higher
 --   lower-exact, higher-exact  ==  what ranks no higher than the lower of two, no lower than the higher of two
 --   lower-within, higher-within  ==  the lower and the higher of two values 0 to top are such values
 --   lead-ceiling     ==  up to where x and s part, x with v in a column leads only if v ranks no higher than s's value there
@@ -9,50 +9,37 @@
 --   highs-capped     ==  highs that are x's values before x and s part, and at most the cap there, are those that let x lead
 --   lows-raised      ==  lows that are at least the thresholds are those that let x lead
 use mathlib.Core.Path.{_≡_, refl, sym, ap, _∙_}
+use mathlib.Core.Bool.{true, false}
 use mathlib.Core.Logic.{_↔_}
 use Prim.Native.Nat.{ℕ, _+_, _≤_, _<_}
 use native.Mathlib.Decide.{ℕ-discrete, decLt}
 use native.Mathlib.Omega.{arith}
+use lib.Dec.{ltb}
 use borrow.Author.Tests.{lt-ltb, le-ltb}
 use Rattle.grids.specs.Order.{rank, IsPrevious}
 use Rattle.grids.proofs.OrderLaws.{rank-antisymm}
 use Rattle.bounds.specs.declared.rows.RowLows.{RowLows}
-use Rattle.bounds.specs.Rows.{put, Values, Ordered, Leads, IsSorted, NoLater, Parted, higher, lower, lowFor, IsLows, RaisedTo, Raised, Cap, IsCap, Capped, IsHighs}
+use Rattle.bounds.specs.Rows.{put, Values, Leads, IsSorted, NoLater, Parted, higher, lower, lowFor, IsLows, RaisedTo, Raised, IsCap, IsHighs}
 use Rattle.bounds.proofs.LeadsLaws.{put-same, put-other, put-self, leads-ext, leads-sorted}
 use Rattle.bounds.proofs.ThresholdLaws.{agreed, parted-leads}
 
 -- ---- the lower and the higher of two values
 
+by-rank : (P : ℕ → Type 0) (x y u v : ℕ) → (rank x < rank y → P u) → (rank y ≤ rank x → P v) → P (elim (ltb (rank x) (rank y)) [ true ↦ u | false ↦ v ])
+by-rank P x y u v f g = go (decLt (rank x) (rank y))
+  where
+    go : Dec (rank x < rank y) → P (elim (ltb (rank x) (rank y)) [ true ↦ u | false ↦ v ])
+    go (yes h) = rw (lt-ltb (rank x) (rank y) h) (f h)
+    go (no h) = rw (le-ltb (rank x) (rank y) (omega arith)) (g (omega arith))
+
 module _ (a b : ℕ) where
-  pub lower-second : rank b < rank a → lower a b ≡ b
+  pub lower-all : (P : ℕ → Type 0) → (rank b < rank a → P b) → (rank a ≤ rank b → P a) → P (lower a b)
   unfolding lower
-  lower-second h = rw (lt-ltb (rank b) (rank a) h, lower)
+  lower-all P f g = by-rank P b a b a f g
 
-  pub lower-first : rank a ≤ rank b → lower a b ≡ a
-  unfolding lower
-  lower-first h = rw (le-ltb (rank b) (rank a) h, lower)
-
-  pub higher-second : rank a < rank b → higher a b ≡ b
+  pub higher-all : (P : ℕ → Type 0) → (rank a < rank b → P b) → (rank b ≤ rank a → P a) → P (higher a b)
   unfolding higher
-  higher-second h = rw (lt-ltb (rank a) (rank b) h, higher)
-
-  pub higher-first : rank b ≤ rank a → higher a b ≡ a
-  unfolding higher
-  higher-first h = rw (le-ltb (rank a) (rank b) h, higher)
-
-  lower-all : (P : ℕ → Type 0) → (rank b < rank a → P b) → (rank a ≤ rank b → P a) → P (lower a b)
-  lower-all P f g = go (decLt (rank b) (rank a))
-    where
-      go : Dec (rank b < rank a) → P (lower a b)
-      go (yes h) = rw (lower-second h) (f h)
-      go (no h) = rw (lower-first (omega arith)) (g (omega arith))
-
-  higher-all : (P : ℕ → Type 0) → (rank a < rank b → P b) → (rank b ≤ rank a → P a) → P (higher a b)
-  higher-all P f g = go (decLt (rank a) (rank b))
-    where
-      go : Dec (rank a < rank b) → P (higher a b)
-      go (yes h) = rw (higher-second h) (f h)
-      go (no h) = rw (higher-first (omega arith)) (g (omega arith))
+  higher-all P f g = by-rank P a b b a f g
 
   pub lower-exact : (v : ℕ) → ((rank v ≤ rank a) × (rank v ≤ rank b)) ↔ (rank v ≤ rank (lower a b))
   lower-exact v =

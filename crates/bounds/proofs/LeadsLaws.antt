@@ -8,8 +8,7 @@
 --   NoLater-≼, ≼-NoLater  ==  comparing from column 0 on
 --   leads-sorted       ==  a row leads another exactly if it comes no later than the other sorted
 --   sorted-value       ==  each value of a row stands in its sorted row
-use mathlib.Core.Path.{_≡_, refl, sym, ap, _∙_}
-use mathlib.Core.List.{List}
+use mathlib.Core.Path.{_≡_, refl, sym, ap}
 use mathlib.Core.Bool.{true, false}
 use mathlib.Core.Logic.{_↔_}
 use Prim.Native.Nat.{ℕ, _≤_, _<_}
@@ -19,7 +18,6 @@ use lib.ListN.{getD}
 use lib.Dec.{eqb}
 use borrow.Author.Tests.{eq-eqb, ne-eqb}
 use Rattle.permutations.specs.Lists.{tabulate}
-use Rattle.permutations.specs.Permutations.{IsPermutation}
 use Rattle.permutations.proofs.ListLaws.{tabulate-ext}
 use Rattle.permutations.proofs.PermutationLaws.{listed}
 use Rattle.grids.specs.Order.{rank, _≼_}

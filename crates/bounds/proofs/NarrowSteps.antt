@@ -14,10 +14,9 @@ use mathlib.Core.Path.{_≡_, refl, sym, ap, _∙_}
 use mathlib.Core.List.{List, _++_, append-nil}
 use mathlib.Core.Bool.{true, false}
 use mathlib.Core.Logic.{_↔_}
-use Prim.Native.Nat.{ℕ, suc, _+_, _*_, _-_, _≤_, _<_}
+use Prim.Native.Nat.{ℕ, _+_, _*_, _-_, _≤_, _<_}
 use native.Mathlib.Nat.{zero-mul, one-mul, suc-mul, mul-le-mul, mul-le-mul-right}
-use native.Mathlib.Numerals.{add-one}
-use native.Mathlib.Decide.{ℕ-discrete, decLt}
+use native.Mathlib.Decide.{ℕ-discrete}
 use native.Mathlib.Omega.{arith}
 use lib.ListN.{length, getD, take, drop, List·getD-append}
 use lib.Seq.{take-length, drop-length, length-take-le, getD-take, getD-drop, getD-append-add}
@@ -26,7 +25,7 @@ use borrow.Rule.Slice.PartMut.{same-len-mid, mid-len}
 use Rattle.grids.specs.Order.{rank}
 use Rattle.bounds.specs.Bounds.{IsBounds}
 use Rattle.bounds.specs.Rows.{cells, put, Values, Leads, Raised, Capped, RowSizes, RowPruned, RowOutcome}
-use Rattle.bounds.specs.Narrowed.{rowOf, AllLead, Narrowed, NarrowSizes, NarrowOutcome}
+use Rattle.bounds.specs.Narrowed.{rowOf, AllLead, Narrowed, NarrowSizes}
 use Rattle.bounds.proofs.LeadsLaws.{put-self, put-ext, leads-ext}
 
 -- ---- parts of lists

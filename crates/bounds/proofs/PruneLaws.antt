@@ -5,6 +5,7 @@
 --   pruned-some        ==  where some grid in the bounds has allperm: 0, the values removed, and the new bounds
 --   pruned-none        ==  where none has it: 102, count 0, and the slices as sent
 --   prune-exact        ==  demand 2's sentence on prune
+--   prunes             ==  the outcome determined meets prune's contract
 --   prune-one-row      ==  with one row nothing is removed
 --   least-same-bounds  ==  a least grid lies in the new bounds exactly if it lies in the old
 --   none-in-bounds     ==  where no grid in the bounds has allperm, no grid with allperm lies in them
@@ -22,8 +23,8 @@ use Rattle.grids.proofs.QuestionLaws.{Numbered, first-no-zero, limits-asked}
 use Rattle.bounds.specs.Bounds.{IsBounds, inBounds}
 use Rattle.bounds.specs.Kept.{Obeyed, obeyed, keptLow, keptHigh, removed}
 use Rattle.bounds.specs.Allperm.{Allperm, allperm}
-use Rattle.bounds.specs.Prune.{boundsQuestions, pruneQuestions, prunedYes, pruned}
-use Rattle.bounds.specs.Demand2.{Exact, PruneExact}
+use Rattle.bounds.specs.Prune.{Pruned, boundsQuestions, pruneQuestions, prunedYes, pruned}
+use Rattle.bounds.specs.Demand2.{Exact, PruneExact, Prunes}
 use Rattle.bounds.proofs.BoundsLaws.{inBounds-decides, bounds-asked, bounds-numbered}
 use Rattle.bounds.proofs.KeptLaws.{length-keptLow, length-keptHigh, obeyed-decides, obeyed-ends, pruned-same, all-kept}
 use Rattle.bounds.proofs.Extremal.{obeyed-extremal, kept-extremal, kept-exactly}
@@ -116,6 +117,10 @@ module _ (m n top : ℕ) (low high : List ℕ) where
 pub prune-exact : PruneExact
 unfolding PruneExact
 prune-exact m n top low high l b = exactly m n top low high (prune-pass m n top low high .1 (l, b))
+
+pub prunes : (m n top : ℕ) (low high : List ℕ) (r : Pruned) → r ≡ pruned m n top low high → Prunes m n top low high r
+unfolding PruneExact
+prunes m n top low high r e = record { determined = e; exactly = λ l b. rw e (prune-exact m n top low high l b) }
 
 pub prune-one-row : (n top : ℕ) (low high : List ℕ) → firstNo (pruneQuestions 1 n top low high) ≡ 0 →
     pruned 1 n top low high ≡ record { number = 0; count = 0; low = low; high = high }

@@ -16,7 +16,7 @@
 --   parts-within, parts-fit, removed-ready  ==  what it wrote, at the beginning of two arrays, fits the calls after it
 --   prune-some           ==  with the values removed and the new bounds: 0
 use mathlib.Core.Path.{_≡_, refl, sym, ap, _∙_}
-use mathlib.Core.List.{List, [], _∷_, _++_, foldr, append-nil}
+use mathlib.Core.List.{List, [], _∷_, _++_, foldr}
 use mathlib.Core.Bool.{Bool, true, false}
 use mathlib.Core.Logic.{_↔_}
 use Prim.Native.Nat.{ℕ, zero, suc, _+_, _*_, _-_, _≤_, _<_}
@@ -25,7 +25,6 @@ use native.Mathlib.Nat.{add-zero, zero-add}
 use native.Mathlib.Numerals.{add-one}
 use native.Mathlib.Omega.{arith}
 use lib.ListN.{length, getD, take, drop, length-take}
-use lib.Seq.{take-length, drop-length}
 use Rattle.permutations.specs.Lists.{tabulate, numbers, select}
 use Rattle.permutations.proofs.BoolLaws.{refuted}
 use Rattle.permutations.proofs.ListLaws.{part-within, part-is, select-yes, select-no, length-select, length-numbers}
@@ -37,9 +36,11 @@ use Rattle.bounds.specs.Kept.{Obeyed, keptLow, keptHigh, removed}
 use Rattle.bounds.specs.Allperm.{Allperm, allperm}
 use Rattle.bounds.specs.Rows.{cells, Values}
 use Rattle.bounds.specs.Narrowed.{rowOf, AllLead, Narrowed, NarrowOutcome, NarrowSizes, Inside, removedBy}
-use Rattle.bounds.specs.Prune.{question8, boundsQuestions, pruneQuestions, outcome, pruned}
+use Rattle.bounds.specs.Prune.{question8, boundsQuestions, pruneQuestions, outcome}
+use Rattle.bounds.specs.Demand2.{Prunes}
 use Rattle.bounds.proofs.BoundsLaws.{bounds-wider, ranks-within, between-fewer, order-asked}
-use Rattle.bounds.proofs.PruneLaws.{prune-pass, pruned-refused, pruned-some, pruned-none}
+use Rattle.bounds.proofs.PruneLaws.{prune-pass, pruned-refused, pruned-some, pruned-none, prunes}
+use Rattle.bounds.proofs.NarrowSteps.{copied}
 use Rattle.bounds.proofs.NarrowedLaws.{narrowed-obeyed, narrowed-low, narrowed-high, narrowed-inside, narrowed-removed}
 
 -- ---- question 8
@@ -140,28 +141,24 @@ module _ (size top : ℕ) (low high lows highs : List ℕ) (i : Inside size top 
 
 -- ---- the call
 
--- what is copied over a slice of its own length
-copied-is : (part slice copied : List ℕ) → length part ≡ length slice → copied ≡ take (length part) part ++ drop (length part) slice → copied ≡ part
-copied-is part slice copied e c = c ∙ rw (take-length part, e, drop-length slice) (append-nil part)
-
 -- no question gets a no, and narrow wrote low′ and high′
 pub record Wrote (m n top : ℕ) (low high low′ high′ : List ℕ) : Type 0 where
   pub asked : firstNo (pruneQuestions m n top low high) ≡ 0
   pub narrowed : NarrowOutcome true m n low high low′ high′
 
 module _ (m n top : ℕ) (low high : List ℕ) where
-  refused : (k : ℕ) → firstNo (pruneQuestions m n top low high) ≡ k → (k ≡ 0 → ⊥) → outcome k 0 low high ≡ pruned m n top low high
+  refused : (k : ℕ) → firstNo (pruneQuestions m n top low high) ≡ k → (k ≡ 0 → ⊥) → Prunes m n top low high (outcome k 0 low high)
   refused zero e h = absurd (h refl)
-  refused (suc k) e h = sym (pruned-refused m n top low high k e)
+  refused (suc k) e h = prunes m n top low high _ (sym (pruned-refused m n top low high k e))
 
   -- k is the first no of the shape
   module _ (k : ℕ) (found : k ≡ shapeNo m n top (length low) (length high)) where
-    pub prune-shape-no : (k ≡ 0 → ⊥) → outcome k 0 low high ≡ pruned m n top low high
+    pub prune-shape-no : (k ≡ 0 → ⊥) → Prunes m n top low high (outcome k 0 low high)
     unfolding boundsQuestions
     prune-shape-no h = refused k (shape-refuses m n top low high k found _ h) h
 
     module _ (z : k ≡ 0) where
-      pub prune-cells-no : question7 top (low ∷ high ∷ []) .answer ≡ false → outcome 7 0 low high ≡ pruned m n top low high
+      pub prune-cells-no : question7 top (low ∷ high ∷ []) .answer ≡ false → Prunes m n top low high (outcome 7 0 low high)
       unfolding boundsQuestions
       prune-cells-no e = refused 7 (cells-refuse m n top low high k found z (low ∷ high ∷ []) _ e) (omega arith)
 
@@ -177,7 +174,7 @@ module _ (m n top : ℕ) (low high : List ℕ) where
         order-answer : question8 (m * n) low high .answer ≡ t
         order-answer = sym (rw (shape-fits m n top low high k found z .1) at ordered)
 
-        pub prune-order-no : t ≡ false → outcome 8 0 low high ≡ pruned m n top low high
+        pub prune-order-no : t ≡ false → Prunes m n top low high (outcome 8 0 low high)
         unfolding question8
         prune-order-no f = refused 8 (order-first ∙ firstNo-stop (question8 (m * n) low high) [] (order-answer ∙ f)) (omega arith)
 
@@ -214,10 +211,10 @@ module _ (m n top : ℕ) (low high : List ℕ) where
     )
 
     -- narrow says no
-    pub prune-none : (t : Bool) (low′ high′ : List ℕ) → NarrowOutcome t m n low high low′ high′ → t ≡ false → outcome 102 0 low high ≡ pruned m n top low high
+    pub prune-none : (t : Bool) (low′ high′ : List ℕ) → NarrowOutcome t m n low high low′ high′ → t ≡ false → Prunes m n top low high (outcome 102 0 low high)
     prune-none t low′ high′ w f =
         let no : AllLead m n (rowOf n low 0) high → ⊥ = rw f at w in
-        sym (pruned-none m n top low high e (λ o. no (narrowed-obeyed m n top low high (limits .rows-limits .0) bounds .1 o)))
+        prunes m n top low high _ (sym (pruned-none m n top low high e (λ o. no (narrowed-obeyed m n top low high (limits .rows-limits .0) bounds .1 o))))
 
     -- narrow says yes
     pub narrow-wrote : (t : Bool) (low′ high′ : List ℕ) → NarrowOutcome t m n low high low′ high′ → t ≡ true → Wrote m n top low high low′ high′
@@ -272,8 +269,8 @@ module _ (m n top : ℕ) (low high low′ high′ : List ℕ) (w : Wrote m n top
   pub prune-some : (count : ℕ) (lows highs : List ℕ) →
       ((cap : ℕ) → Inside (length low) cap low high lowPart highPart → count ≡ removedBy (length low) cap low high lowPart highPart) →
       lows ≡ take (length lowPart) lowPart ++ drop (length lowPart) low → highs ≡ take (length highPart) highPart ++ drop (length highPart) high →
-      outcome 0 count lows highs ≡ pruned m n top low high
-  prune-some count lows highs counted cl ch = rw (ec, el, eh) (sym (pruned-some m n top low high (w .asked) obeyed))
+      Prunes m n top low high (outcome 0 count lows highs)
+  prune-some count lows highs counted cl ch = prunes m n top low high _ (rw (ec, el, eh) (sym (pruned-some m n top low high (w .asked) obeyed)))
     where
       obeyed : Obeyed (Allperm m n) (m * n) top low high
       obeyed = narrowed-obeyed m n top low high some-row old-bounds .0 (result .leads)
@@ -283,7 +280,7 @@ module _ (m n top : ℕ) (low high low′ high′ : List ℕ) (w : Wrote m n top
           (sym (narrowed-removed m n top low high some-row old-bounds low′ high′ result))
 
       el : lows ≡ keptLow (allperm m n) (m * n) top low high
-      el = copied-is lowPart low lows low-part-size cl ∙ low-part-is ∙ sym (narrowed-low m n top low high some-row old-bounds low′ high′ result)
+      el = cl ∙ copied lowPart low (sym low-part-size) ∙ low-part-is ∙ sym (narrowed-low m n top low high some-row old-bounds low′ high′ result)
 
       eh : highs ≡ keptHigh (allperm m n) (m * n) top low high
-      eh = copied-is highPart high highs high-part-size ch ∙ high-part-is ∙ sym (narrowed-high m n top low high some-row old-bounds low′ high′ result)
+      eh = ch ∙ copied highPart high (sym high-part-size) ∙ high-part-is ∙ sym (narrowed-high m n top low high some-row old-bounds low′ high′ result)

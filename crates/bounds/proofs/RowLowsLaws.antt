@@ -4,7 +4,7 @@
 --   lows-last    ==  they do not part, or x has less than the value just before: that value is the least
 --   lows-equal   ==  x's value where they part is the least, since what follows lets x lead
 --   lows-reached, lows-passed  ==  else it depends on the high
-use mathlib.Core.Path.{_≡_, refl, sym, ap, _∙_}
+use mathlib.Core.Path.{_≡_, ap, _∙_}
 use Prim.Native.Nat.{ℕ, _+_, _-_, _≤_, _<_}
 use native.Mathlib.Decide.{decLt}
 use native.Mathlib.Omega.{arith}

@@ -11,14 +11,13 @@
 --   passes-if-below, passes-if-no-later, passes-if-smaller, fails-past, passes-no-later  ==  whether x passes, by the column `end` up to which x repeats s one
 --                        column later
 use mathlib.Core.Path.{_≡_, refl, sym, ap, _∙_}
-use mathlib.Core.Logic.{_↔_}
 use Prim.Native.Nat.{ℕ, zero, suc, _+_, _-_, _≤_, _<_}
 use native.Mathlib.Decide.{ℕ-discrete, decLt}
 use native.Mathlib.Omega.{arith}
 use Rattle.grids.specs.Order.{rank}
 use Rattle.grids.proofs.OrderLaws.{rank-antisymm}
 use Rattle.bounds.specs.Rows.{put, Leads, IsSorted, AgreeTo, NoLater, Parted, Threshold}
-use Rattle.bounds.proofs.LeadsLaws.{put-all, put-same, put-other, leads-self, leads-toward, leads-sorted}
+use Rattle.bounds.proofs.LeadsLaws.{put-same, put-other, leads-self, leads-toward, leads-sorted}
 use Rattle.bounds.proofs.InsertedLaws.{inserted, inserted-at, inserted-before, inserted-between, inserted-after, Spot, spot-value, spot-inserted, lead-floor, inserted-up, inserted-leads}
 
 module _ {n : ℕ} {x s : ℕ → ℕ} {a : ℕ} (d : Parted n x s a) where

@@ -3,6 +3,7 @@
 --
 --   Exact m n top low high r  ==  what the outcome r says of the bounds
 --   PruneExact                ==  the statement, of all bounds within the limits
+--   Prunes m n top low high r ==  prune's contract: its outcome r is the one determined, and of bounds within the limits it says the above
 use mathlib.Core.Path.{_≡_}
 use mathlib.Core.List.{List}
 use mathlib.Core.Logic.{_↔_}
@@ -31,3 +32,7 @@ pub record Exact (m n top : ℕ) (low high : List ℕ) (r : Pruned) : Type 0 whe
 unfoldable pub PruneExact : Type 0
 PruneExact =
     (m n top : ℕ) (low high : List ℕ) → Limits m n top → IsBounds (m * n) top low high → Exact m n top low high (pruned m n top low high)
+
+pub record Prunes (m n top : ℕ) (low high : List ℕ) (r : Pruned) : Type 0 where
+  pub determined : r ≡ pruned m n top low high
+  pub exactly : Limits m n top → IsBounds (m * n) top low high → Exact m n top low high r

@@ -1,5 +1,5 @@
--- Two rows: what the lows of row 0 and the highs of another row leave to each other. A row of n columns is given by a value for
--- each column number: x for the lows of row 0, y for the highs of the other row, s for these sorted.
+-- Two rows: what the functions say to each other of the lows of row 0 and the highs of another row. No answer of a call is defined by these.
+-- A row of n columns is given by a value for each column number: x for the lows of row 0, y for the highs of the other row, s for these sorted.
 --
 --   cells l                       ==  the row whose values are the entries of l
 --   put x c v                     ==  the row x with the value v in column c

@@ -1,58 +1,19 @@
 // The call prune.
+use crate::order;
 use crate::rows;
-use grids::cells;
+use crate::values;
 use grids::questions;
-ghost use mathlib.Core.Path.{_≡_};
-ghost use Prim.Native.Nat.{ℕ, _*_, _≤_};
-ghost use lib.ListN.{length};
-ghost use Rattle.bounds.specs.Bounds.{between};
+ghost use Prim.Native.Nat.{_*_};
 ghost use Rattle.bounds.specs.Rows.{cells, Values};
-ghost use Rattle.bounds.specs.Narrowed.{NarrowSizes, NarrowOutcome, Inside, removedBy};
-ghost use Rattle.grids.specs.Order.{rank};
-ghost use Rattle.bounds.specs.Prune.{question8, outcome, pruned};
+ghost use Rattle.bounds.specs.Narrowed.{NarrowSizes, NarrowOutcome};
+ghost use Rattle.bounds.specs.Prune.{outcome};
+ghost use Rattle.bounds.specs.Demand2.{Prunes};
 
-// A number, and a count.
+// The number, and the count of values removed.
 #[repr(C)]
 pub struct Counted {
     pub number: u32,
     pub count: u32,
-}
-
-// Question 8: whether every low is at most its high.
-fn is_ordered(low: &[u8], high: &[u8]) -> bool
-    requires { ⌜ length (now low) ≤ length (now high) ⌝ }
-    ensures { λ r. ⌜ r ≡ question8 (length (now (low .entry))) (now (low .entry)) (now (high .entry)) .answer ⌝ }
-{
-    let mut k = 0;
-    while k < low.len() {
-        if cells::rank(high[k]) < cells::rank(low[k]) {
-            return false;
-        }
-        k += 1;
-    }
-    true
-}
-
-// How many values rank within low to high.
-fn span(low: u8, high: u8) -> u32
-    requires { ⌜ rank low ≤ rank high ⌝ }
-    ensures { λ r. ⌜ ((top : ℕ) → low ≤ top → high ≤ top → r ≡ length (between top low high)) ⌝ }
-{
-    (high - low) as u32 + 1
-}
-
-// How many values new bounds within the old ones leave out, summed over the cells.
-fn removed(low: &[u8], high: &[u8], lows: &[u8], highs: &[u8]) -> u32
-    requires { ⌜ (length (now low) ≤ 128) × Inside (length (now low)) 15 (now low) (now high) (now lows) (now highs) ⌝ }
-    ensures { λ r. ⌜ ((top : ℕ) → Inside (length (now (low .entry))) top (now (low .entry)) (now (high .entry)) (now (lows .entry)) (now (highs .entry)) → r ≡ removedBy (length (now (low .entry))) top (now (low .entry)) (now (high .entry)) (now (lows .entry)) (now (highs .entry))) ⌝ }
-{
-    let mut count = 0;
-    let mut k = 0;
-    while k < low.len() {
-        count += span(low[k], high[k]) - span(lows[k], highs[k]);
-        k += 1;
-    }
-    count
 }
 
 // Prunes row 0 with each other row in turn: low and high are copied to lows and highs, which are narrowed. False where no
@@ -85,7 +46,7 @@ fn narrow(m: usize, n: usize, low: &[u8], high: &[u8], lows: &mut [u8], highs: &
 // true, and counts the values removed. 102 where there is no such grid, and where a question gets a no its number: then the count
 // is 0, and the bounds are as they were.
 pub fn prune(m: usize, n: usize, top: usize, low: &mut [u8], high: &mut [u8]) -> Counted
-    ensures { λ r. ⌜ outcome (r .number) (r .count) (now (low .exit)) (now (high .exit)) ≡ pruned m n top (now (low .entry)) (now (high .entry)) ⌝ }
+    ensures { λ r. ⌜ Prunes m n top (now (low .entry)) (now (high .entry)) (outcome (r .number) (r .count) (now (low .exit)) (now (high .exit))) ⌝ }
 {
     let number = questions::shape_no(m, n, top, low.len(), high.len());
     if number != 0 {
@@ -103,7 +64,7 @@ pub fn prune(m: usize, n: usize, top: usize, low: &mut [u8], high: &mut [u8]) ->
             count: 0,
         };
     }
-    if !is_ordered(low, high) {
+    if !order::is_ordered(low, high) {
         return Counted {
             number: 8,
             count: 0,
@@ -118,7 +79,7 @@ pub fn prune(m: usize, n: usize, top: usize, low: &mut [u8], high: &mut [u8]) ->
             count: 0,
         };
     }
-    let count = removed(low, high, &lows[0..size], &highs[0..size]);
+    let count = values::removed(low, high, &lows[0..size], &highs[0..size]);
     bytes::copy(&lows[0..size], low);
     bytes::copy(&highs[0..size], high);
     Counted { number: 0, count }

@@ -1,8 +1,7 @@
 -- Laws of the order of lists by rank.
 --
---   rank-injective                       ==  equal ranks, equal values: the one law of rank that others rest on
+--   rank-injective, rank-cap             ==  equal ranks, equal values; the values 0 to 15 rank 0 to 15: all that is used of rank itself here
 --   rank-antisymm                        ==  values that rank no higher than each other are equal
---   rank-cap                             ==  the values 0 to 15 rank 0 to 15
 --   trichotomy                           ==  of two values one ranks lower, or they are equal
 --   ≼-refl, ≼-trans, ≼-antisymm, ≼-total, ≼-dec  ==  the order is a decidable total order
 --   leq-spec, leq-yes, ≼-leq, leq-decides  ==  the test decides it

@@ -4,10 +4,10 @@ use bounds::prune::Counted;
 use canonical::answers::Answer;
 use canonical::represent;
 use canonical::same;
-ghost use mathlib.Core.Path.{_≡_};
 ghost use Rattle.canonical.specs.Represent.{Represented};
 ghost use Rattle.canonical.specs.Same.{Compared};
-ghost use Rattle.bounds.specs.Prune.{outcome, pruned};
+ghost use Rattle.bounds.specs.Prune.{outcome};
+ghost use Rattle.bounds.specs.Demand2.{Prunes};
 ghost use Rattle.plan_register.specs.Exported.{Exported};
 
 // The number, the row order and the column order.
@@ -57,7 +57,7 @@ pub extern "C" fn plan_register_prune(
     low: &mut [u8],
     high: &mut [u8],
 ) -> Counted
-    ensures { λ r. ⌜ outcome (r .number) (r .count) (now (low .exit)) (now (high .exit)) ≡ pruned m n top (now (low .entry)) (now (high .entry)) ⌝ }
+    ensures { λ r. ⌜ Prunes m n top (now (low .entry)) (now (high .entry)) (outcome (r .number) (r .count) (now (low .exit)) (now (high .exit))) ⌝ }
 {
     prune::prune(m, n, top, low, high)
 }

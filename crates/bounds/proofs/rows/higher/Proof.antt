@@ -1,8 +1,8 @@
 -- `higher` meets its contract: the ranks decide.
-use mathlib.Core.Path.{sym}
+use mathlib.Core.Path.{_≡_, refl}
 use native.Mathlib.Omega.{arith}
 use borrow.Author.Needs.{needs}
-use Rattle.bounds.proofs.CapLaws.{higher-first, higher-second}
+use Rattle.bounds.proofs.CapLaws.{higher-all}
 use Rattle.bounds.proofs.rows.higher.Statement.{statement}
 use Rattle.bounds.proofs.rows.higher.Tie as tie
 
@@ -13,10 +13,10 @@ rank-requires-2 : tie.Need-rank-requires-2
 rank-requires-2 c κs = search needs
 
 returns : tie.Need-returns
-returns c = sym (higher-second _ _ (omega arith))
+returns c = let a = c .before .before .before .args in higher-all (a .a) (a .b) (λ z. a .b ≡ z) (λ h. refl) (λ h. absurd (omega arith))
 
 returns-2 : tie.Need-returns-2
-returns-2 c = sym (higher-first _ _ (omega arith))
+returns-2 c = let a = c .before .before .before .args in higher-all (a .a) (a .b) (λ z. a .a ≡ z) (λ h. absurd (omega arith)) (λ h. refl)
 
 pub higher-spec : {M : Type 1} → statement M
 higher-spec = tie.close (tie.spec rank-requires rank-requires-2 returns returns-2)

@@ -1,8 +1,8 @@
 -- `span` meets its contract: by number, the values from low to high are one more than their difference.
 use borrow.Author.Needs.{needs}
 use Rattle.bounds.proofs.PruneSteps.{span-counts}
-use Rattle.bounds.proofs.prune.span.Statement.{statement}
-use Rattle.bounds.proofs.prune.span.Tie as tie
+use Rattle.bounds.proofs.values.span.Statement.{statement}
+use Rattle.bounds.proofs.values.span.Tie as tie
 
 sub-result : tie.Need-sub-result
 sub-result c = span-counts _ _ (c .pre) .0

@@ -9,8 +9,8 @@ use lib.ListN.{length, getD}
 use Rattle.grids.specs.Order.{rank}
 use Rattle.bounds.proofs.BoundsLaws.{order-asked}
 use Rattle.bounds.proofs.PruneSteps.{ordered-no}
-use Rattle.bounds.proofs.prune.is_ordered.Statement.{statement}
-use Rattle.bounds.proofs.prune.is_ordered.Tie as tie
+use Rattle.bounds.proofs.order.is_ordered.Statement.{statement}
+use Rattle.bounds.proofs.order.is_ordered.Tie as tie
 
 abbrev Inv-loop : tie.InvT-loop
 Inv-loop low high k₀ k = (k ≤ length low) × ((j : ℕ) → j < k → rank (getD low j 0) ≤ rank (getD high j 0))

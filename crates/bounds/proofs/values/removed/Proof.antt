@@ -7,8 +7,8 @@ use native.Mathlib.Omega.{arith}
 use lib.ListN.{length}
 use Rattle.bounds.specs.Narrowed.{Inside, removedBy}
 use Rattle.bounds.proofs.PruneSteps.{removed-at-first, span-falls, cell-removed}
-use Rattle.bounds.proofs.prune.removed.Statement.{statement}
-use Rattle.bounds.proofs.prune.removed.Tie as tie
+use Rattle.bounds.proofs.values.removed.Statement.{statement}
+use Rattle.bounds.proofs.values.removed.Tie as tie
 
 record SoFar (low high lows highs : List ℕ) (count k : ℕ) : Type 0 where
   within : k ≤ length low
