@@ -1,6 +1,7 @@
 -- What the code of prune finds, and what it answers from it.
 --
---   ordered-no           ==  a high ranks below its low, and question 8 gets a no
+--   order-fails, order-holds  ==  a further low and high are not in order, or are
+--   ordered-none, ordered-next  ==  question 8 of no cell, and of a cell more
 --   Spans a b s          ==  s is the number of values that rank within a to b
 --   span-counts          ==  it is counted by the numbers a and b
 --   removed-at-first     ==  no cell, no value removed
@@ -17,7 +18,7 @@
 --   prune-some           ==  with the values removed and the new bounds: 0
 use mathlib.Core.Path.{_≡_, refl, sym, ap, _∙_}
 use mathlib.Core.List.{List, [], _∷_, _++_, foldr}
-use mathlib.Core.Bool.{Bool, true, false}
+use mathlib.Core.Bool.{Bool, true, false, _&&_, and-true}
 use mathlib.Core.Logic.{_↔_}
 use Prim.Native.Nat.{ℕ, zero, suc, _+_, _*_, _-_, _≤_, _<_}
 use native.Mathlib.Decide.{decLt}
@@ -25,9 +26,11 @@ use native.Mathlib.Nat.{add-zero, zero-add}
 use native.Mathlib.Numerals.{add-one}
 use native.Mathlib.Omega.{arith}
 use lib.ListN.{length, getD, take, drop, length-take}
-use Rattle.permutations.specs.Lists.{tabulate, numbers, select}
-use Rattle.permutations.proofs.BoolLaws.{refuted}
-use Rattle.permutations.proofs.ListLaws.{part-within, part-is, select-yes, select-no, length-select, length-numbers}
+use lib.Dec.{leb}
+use borrow.Author.Tests.{leb-true, le-leb}
+use Rattle.permutations.specs.Lists.{tabulate, numbers, select, every}
+use Rattle.permutations.proofs.BoolLaws.{and-yes, refuted}
+use Rattle.permutations.proofs.ListLaws.{every-next, part-within, part-is, select-yes, select-no, length-select, length-numbers}
 use Rattle.grids.specs.Order.{rank}
 use Rattle.grids.specs.Questions.{firstNo, Limits, question7, shapeNo}
 use Rattle.grids.proofs.QuestionLaws.{firstNo-pass, firstNo-stop, size-fits, shape-refuses, shape-fits, cells-refuse, cells-pass}
@@ -38,16 +41,26 @@ use Rattle.bounds.specs.Rows.{cells, Values}
 use Rattle.bounds.specs.Narrowed.{rowOf, AllLead, Narrowed, NarrowOutcome, NarrowSizes, Inside, removedBy}
 use Rattle.bounds.specs.Prune.{question8, boundsQuestions, pruneQuestions, outcome}
 use Rattle.bounds.specs.Demand2.{Prunes}
-use Rattle.bounds.proofs.BoundsLaws.{bounds-wider, ranks-within, between-fewer, order-asked}
+use Rattle.bounds.proofs.BoundsLaws.{bounds-wider, ranks-within, between-fewer}
 use Rattle.bounds.proofs.PruneLaws.{prune-pass, pruned-refused, pruned-some, pruned-none, prunes}
 use Rattle.bounds.proofs.NarrowSteps.{copied}
 use Rattle.bounds.proofs.NarrowedLaws.{narrowed-obeyed, narrowed-low, narrowed-high, narrowed-inside, narrowed-removed}
 
 -- ---- question 8
 
-pub ordered-no : (size : ℕ) (low high : List ℕ) (k : ℕ) → k < size → rank (getD high k 0) < rank (getD low k 0) → false ≡ question8 size low high .answer
-ordered-no size low high k b h =
-    sym (refuted (question8 size low high .answer) (order-asked size low high) (λ o. let w : rank (getD low k 0) ≤ rank (getD high k 0) = o k b in omega arith))
+pub order-fails : (b : Bool) (x y : ℕ) → y < x → false ≡ (b && leb x y)
+order-fails b x y h = sym (refuted (b && leb x y) (λ e. leb-true x y (and-yes b (leb x y) e .1), λ k. absurd (omega arith)) (λ k. omega arith))
+
+pub order-holds : (b : Bool) (x y : ℕ) → x ≤ y → b ≡ (b && leb x y)
+order-holds b x y h = rw (le-leb x y h) (sym (and-true b))
+
+pub ordered-none : (low high : List ℕ) → true ≡ question8 0 low high .answer
+unfolding question8 numbers tabulate every
+ordered-none low high = refl
+
+pub ordered-next : (k : ℕ) (low high : List ℕ) → question8 (k + 1) low high .answer ≡ (question8 k low high .answer && leb (rank (getD low k 0)) (rank (getD high k 0)))
+unfolding question8
+ordered-next k low high = every-next (λ k. leb (rank (getD low k 0)) (rank (getD high k 0))) k
 
 -- ---- the values between two bounds
 

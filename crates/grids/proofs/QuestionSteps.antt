@@ -1,18 +1,20 @@
--- The first no of a shape's questions, and the no of the test of cells, as the code finds them.
+-- The first no of a shape's questions, and the test of cells, as the code finds them.
 --
 --   rows-no, columns-no, top-no, lengths-no  ==  the questions before get a yes, this one a no
 --   shape-yes   ==  every question gets a yes
---   capped-no   ==  a cell is above top, and the test of cells says no
+--   Greatest g i x  ==  x is the greatest of the first i cells of g, or 0
+--   greatest-none, greatest-next, greatest-capped  ==  at first, a cell further, and what it says of the test of cells
 use mathlib.Core.Path.{_≡_, sym, _∙_}
 use mathlib.Core.List.{List, [], _∷_}
 use mathlib.Core.Bool.{true, false, _&&_}
-use mathlib.Core.Logic.{_↔_}
-use Prim.Native.Nat.{ℕ, _*_, _≤_, _<_}
+use mathlib.Core.Logic.{_↔_, _⊎_, inl, inr}
+use Prim.Native.Nat.{ℕ, _+_, _*_, _≤_, _<_}
+use native.Mathlib.Decide.{ℕ-discrete, decLt}
 use native.Mathlib.Omega.{arith}
 use lib.ListN.{length, getD}
-use lib.Dec.{eqb}
-use borrow.Author.Tests.{eqb-true, eq-eqb}
-use Rattle.permutations.proofs.BoolLaws.{and-yes, yes-and, refuted}
+use lib.Dec.{eqb, leb}
+use borrow.Author.Tests.{eqb-true, eq-eqb, leb-true, le-leb}
+use Rattle.permutations.proofs.BoolLaws.{and-yes, yes-and, bool-ext, refuted}
 use Rattle.grids.specs.Grids.{capped}
 use Rattle.grids.specs.Questions.{Question, firstNo, inRange, question1, question2, question3, shapeNo}
 use Rattle.grids.proofs.QuestionLaws.{firstNo-pass, firstNo-stop, range-yes, yes-range, capped-at, at-capped}
@@ -63,5 +65,30 @@ module _ (m n top x y : ℕ) where
   unfolding firstNo
   shape-yes h k l d e = sym (past-top h k l ∙ firstNo-pass (two-lengths (m * n) x y) [] (two-lengths-asked (m * n) x y .1 (d, e)))
 
-pub capped-no : (top : ℕ) (g : List ℕ) (k : ℕ) → k < length g → top < getD g k 0 → false ≡ capped top g
-capped-no top g k h l = sym (refuted (capped top g) (capped-at top g, at-capped top g) (λ c. let b : getD g k 0 ≤ top = c k h in omega arith))
+-- ---- question 7
+
+-- x is the greatest of the first i cells of g, or 0
+pub record Greatest (g : List ℕ) (i x : ℕ) : Type 0 where
+  pub bound : (k : ℕ) → k < i → getD g k 0 ≤ x
+  pub reached : (t : ℕ) → t < x → (k : ℕ) × (k < i) × (t < getD g k 0)
+
+pub greatest-none : (g : List ℕ) → Greatest g 0 0
+greatest-none g = record { bound = λ k h. absurd (omega arith); reached = λ t h. absurd (omega arith) }
+
+pub greatest-next : {g : List ℕ} {i x : ℕ} (r : ℕ) → Greatest g i x → (x ≤ r) × (getD g i 0 ≤ r) × ((r ≡ x) ⊎ (r ≡ getD g i 0)) → Greatest g (i + 1) r
+greatest-next {g} {i} {x} r h m = record { bound = λ k b. below k b (ℕ-discrete k i); reached = λ t b. found t b (m .2) }
+  where
+    below : (k : ℕ) → k < i + 1 → Dec (k ≡ i) → getD g k 0 ≤ r
+    below k b (yes e) = rw e (m .1)
+    below k b (no ne) = omega (arith, h .bound k (omega arith), m .0)
+
+    found : (t : ℕ) → t < r → (r ≡ x) ⊎ (r ≡ getD g i 0) → (k : ℕ) × (k < i + 1) × (t < getD g k 0)
+    found t b (inl e) = let w = h .reached t (omega arith) in (w .0, omega (arith, w .1), w .2)
+    found t b (inr e) = (i, omega arith, omega arith)
+
+pub greatest-capped : (top : ℕ) (g : List ℕ) (x : ℕ) → Greatest g (length g) x → leb x top ≡ capped top g
+greatest-capped top g x h = bool-ext (leb x top) (capped top g) (λ e. at-capped top g (λ k b. omega (arith, leb-true x top e, h .bound k b))) λ e. le-leb x top (go (decLt top x) e)
+  where
+    go : Dec (top < x) → capped top g ≡ true → x ≤ top
+    go (yes b) e = let w = h .reached top b in absurd (omega (arith, w .2, capped-at top g e (w .0) (w .1)))
+    go (no b) e = omega arith

@@ -1,5 +1,7 @@
 // The questions that the calls share.
 ghost use mathlib.Core.Path.{_≡_};
+ghost use mathlib.Core.Logic.{_⊎_};
+ghost use Prim.Native.Nat.{_≤_};
 ghost use Rattle.grids.specs.Grids.{capped};
 ghost use Rattle.grids.specs.Questions.{shapeNo};
 
@@ -31,16 +33,22 @@ pub fn shape_no(m: usize, n: usize, top: usize, first: usize, second: usize) -> 
     0
 }
 
+// The greater of two numbers.
+fn greater(a: u8, b: u8) -> u8
+    ensures { λ r. ⌜ (a ≤ r) × (b ≤ r) × ((r ≡ a) ⊎ (r ≡ b)) ⌝ }
+{
+    if a < b { b } else { a }
+}
+
 // Question 7 of one slice: whether every cell is at most top.
 pub fn is_capped(cells: &[u8], top: usize) -> bool
     ensures { λ r. ⌜ r ≡ capped top (now (cells .entry)) ⌝ }
 {
+    let mut greatest = 0;
     let mut i = 0;
     while i < cells.len() {
-        if top < cells[i] as usize {
-            return false;
-        }
+        greatest = greater(greatest, cells[i]);
         i += 1;
     }
-    true
+    greatest as usize <= top
 }

@@ -4,6 +4,7 @@
 --   tabulate-is, tabulate-ext, tabulate-getD     ==  when a tabulated list is a given list, and when two are equal
 --   in-tabulate, of-tabulate, mem-at, of-mem, no-member  ==  membership, and the index of a member
 --   length-numbers, at-numbers, in-numbers, of-numbers, every-number, number-every  ==  the same of the numbers below n
+--   every-next                                   ==  a test of the numbers below n, one number further
 --   part-within, part-is                         ==  the part from 0 on of a list that begins with a given list
 --   at-map                                       ==  an entry of a mapped list
 --   in-flatMap, of-flatMap                       ==  membership in lists put one after another
@@ -13,17 +14,18 @@
 --   occurs-at, once-occurs                       ==  a number that occurs stands somewhere; one that stands at one index alone occurs once
 use mathlib.Core.Path.{_≡_, refl, sym, ap, _∙_}
 use mathlib.Core.List.{List, [], _∷_, _++_, map, flatMap, List·Memᴰ, List·Memᴰ·head, List·Memᴰ·tail, List·Memᴰ·not-nil, List·Memᴰ·cases-cons, List·Memᴰ·append-cases, Memᴰ·append-left, Memᴰ·append-right, Memᴰ·cast}
-use mathlib.Core.Bool.{Bool, true, false, true≢false, not, _||_}
+use mathlib.Core.Bool.{Bool, true, false, true≢false, not, _&&_, _||_}
 use mathlib.Core.Logic.{_⊎_, inl, inr}
 use Prim.Native.Nat.{ℕ, zero, suc, _+_, _-_, _≤_, _<_}
 use native.Mathlib.Nat.{add-zero, zero-add, not-suc-le-zero}
+use native.Mathlib.Decide.{ℕ-discrete}
 use native.Mathlib.Omega.{arith}
 use lib.ListN.{length, getD, take, length-append}
 use lib.Seq.{ext-getD, take-at}
 use lib.Dec.{eqb}
 use borrow.Author.Tests.{eq-eqb, ne-eqb, eqb-true}
 use Rattle.permutations.specs.Lists.{tabulate, numbers, select, every, some, occurrences}
-use Rattle.permutations.proofs.BoolLaws.{and-yes, or-yes}
+use Rattle.permutations.proofs.BoolLaws.{and-yes, yes-and, or-yes, bool-ext}
 
 module _ {ℓ} {A : Type ℓ} where
   pub length-tabulate : (s n : ℕ) (f : ℕ → A) → length (tabulate s n f) ≡ n
@@ -260,6 +262,16 @@ pub number-every : (t : ℕ → Bool) (n : ℕ) → ((i : ℕ) → i < n → t i
 number-every t n h = at-every t (numbers n) λ i m. h i (of-numbers n i m)
 
 -- ---- how often a number occurs
+
+pub every-next : (t : ℕ → Bool) (n : ℕ) → every t (numbers (n + 1)) ≡ (every t (numbers n) && t n)
+every-next t n =
+    bool-ext (every t (numbers (n + 1))) (every t (numbers n) && t n)
+    (λ e. yes-and _ _ (number-every t n (λ i b. every-number t (n + 1) e i (omega arith))) (every-number t (n + 1) e n (omega arith)))
+    λ e. let p = and-yes (every t (numbers n)) (t n) e in number-every t (n + 1) (λ i b. go i b (every-number t n (p .0)) (p .1) (ℕ-discrete i n))
+  where
+    go : (i : ℕ) → i < n + 1 → ((i : ℕ) → i < n → t i ≡ true) → t n ≡ true → Dec (i ≡ n) → t i ≡ true
+    go i b f e (yes d) = rw d e
+    go i b f e (no ne) = f i (omega arith)
 
 pub occurs-at : (k : ℕ) (l : List ℕ) → 0 < occurrences k l → (i : ℕ) × (i < length l) × (getD l i 0 ≡ k)
 unfolding occurrences

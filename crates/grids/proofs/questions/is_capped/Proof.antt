@@ -1,32 +1,28 @@
--- `is_capped` meets its contract. The loop's invariant: every cell before `i` is at most `top`.
+-- `is_capped` meets its contract. The loop's invariant: `greatest` is the greatest of the cells before `i`.
 -- The measure is what is left of the length.
-use mathlib.Core.Path.{sym}
-use Prim.Native.Nat.{ℕ, _≤_, _<_, _-_}
+use mathlib.Core.Path.{_≡_}
+use Prim.Native.Nat.{_≤_, _<_, _-_}
 use native.Mathlib.Omega.{arith}
-use borrow.Author.Count.{below-more}
-use lib.ListN.{length, getD}
-use Rattle.grids.proofs.QuestionLaws.{at-capped}
-use Rattle.grids.proofs.QuestionSteps.{capped-no}
+use borrow.Author.Needs.{needs}
+use lib.ListN.{length}
+use Rattle.grids.proofs.QuestionSteps.{Greatest, greatest-none, greatest-next, greatest-capped}
 use Rattle.grids.proofs.questions.is_capped.Statement.{statement}
 use Rattle.grids.proofs.questions.is_capped.Tie as tie
 
 abbrev Inv-loop : tie.InvT-loop
-Inv-loop cells top i₀ i = (i ≤ length cells) × ((k : ℕ) → k < i → getD cells k 0 ≤ top)
+Inv-loop cells top greatest₀ i₀ greatest i = (i ≤ length cells) × (greatest < 256) × Greatest cells i greatest
 
 abbrev μ-loop : tie.MeasureT-loop
-μ-loop cells top i₀ i = length cells - i
+μ-loop cells top greatest₀ i₀ greatest i = length cells - i
 
 loop-holds : tie.Need-loop-holds Inv-loop μ-loop
-loop-holds c = (omega arith, λ k h. absurd (omega arith))
+loop-holds c = (omega arith, omega arith, greatest-none _)
 
-shared-slice-read-if1 : tie.Need-shared-slice-read-if1 Inv-loop μ-loop
-shared-slice-read-if1 c = omega arith
+shared-slice-read-greater : tie.Need-shared-slice-read-greater Inv-loop μ-loop
+shared-slice-read-greater c = omega arith
 
-cast-if1 : tie.Need-cast-if1 Inv-loop μ-loop
-cast-if1 c = omega (arith, c .shared-slice-known .given (c .before .before .loop .i))
-
-returns : tie.Need-returns Inv-loop μ-loop
-returns c = capped-no _ _ (c .before .before .before .loop .i) (omega arith) (omega arith)
+greater-requires : tie.Need-greater-requires Inv-loop μ-loop
+greater-requires c κs = search needs
 
 add-i : tie.Need-add-i Inv-loop μ-loop
 add-i c = omega arith
@@ -35,22 +31,16 @@ loop-less : tie.Need-loop-less Inv-loop μ-loop
 loop-less c = omega arith
 
 loop-again : tie.Need-loop-again Inv-loop μ-loop
-loop-again c = (omega arith, below-more _ _ (c .before .before .before .loop .inv .1) (omega arith))
+loop-again c = (omega arith, omega (arith, c .greater .ok), greatest-next _ (c .before .before .before .loop .inv .2) (c .greater .ensures))
 
-returns-2 : tie.Need-returns-2 Inv-loop μ-loop
-returns-2 c = sym (at-capped _ _ λ k h. c .before .loop .inv .1 k (omega arith))
+cast-result : tie.Need-cast-result Inv-loop μ-loop
+cast-result c = omega arith
+
+returns : tie.Need-returns Inv-loop μ-loop
+returns c =
+    let l = c .before .loop in
+    let e : l .i ≡ length (c .before .before .before .args .cells .now) = omega arith in
+    greatest-capped _ _ _ (rw e at (l .inv .2))
 
 pub is-capped-spec : {M : Type 1} → statement M
-is-capped-spec =
-    tie.close
-    (tie.spec
-    Inv-loop
-    μ-loop
-    loop-holds
-    shared-slice-read-if1
-    cast-if1
-    returns
-    add-i
-    loop-less
-    loop-again
-    returns-2)
+is-capped-spec = tie.close (tie.spec Inv-loop μ-loop loop-holds shared-slice-read-greater greater-requires add-i loop-less loop-again cast-result returns)
