@@ -29,7 +29,7 @@ use Rattle.bounds.specs.Narrowed.{rowOf, AllLead, Narrowed, Inside, remo
 use Rattle.bounds.proofs.KeptLaws.{exact-low, exact-high, exact-removed, exact-inside}
 use Rattle.bounds.proofs.Extremal.{extremal, length-extremal, extremal-low, extremal-high, obeyed-extremal, kept-extremal}
 use Rattle.bounds.proofs.AllpermLaws.{allperm-decides, allperm-directed}
-use Rattle.bounds.proofs.LeadsLaws.{put-same, put-other, put-self, put-ext, leads-ext}
+use Rattle.bounds.proofs.LeadsLaws.{put-same, put-other, put-self, put-ext, leads-ext, leads-self}
 
 -- ---- the rows of a grid
 
@@ -201,7 +201,7 @@ module _ (m n top : ℕ) (low high : List ℕ) (some : 1 ≤ m) (ok : IsBounds (
         lead v = lead-with-other m n low high some i c v i0 im cn (w .leads)
 
         lead-self : Leads n (rowOf n low 0) (put (rowOf n high i) c (rowOf n high i c))
-        lead-self = leads-ext n (rowOf n low 0) (rowOf n low 0) (rowOf n high i) _ (λ j b. refl) (λ j b. sym (put-self (rowOf n high i) c j)) (w .leads i i0 im)
+        lead-self = leads-self n (rowOf n low 0) (rowOf n high i) c (rowOf n high i c) refl (w .leads i i0 im)
 
     each-cell : (k : ℕ) → k < m * n → CellExact m n top low high low′ high′ k
     each-cell k b = let r = row-column m n k b in rw (r .2) at (go (r .0) (r .1) (eq-zero-or-pos (k / n)))
