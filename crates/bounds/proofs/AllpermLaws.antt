@@ -21,12 +21,14 @@ use Rattle.permutations.proofs.ListLaws.{in-tabulate, of-tabulate, tabulate-ext
 use Rattle.permutations.proofs.PermutationTest.{permutation-listed, listed-permutation}
 use Rattle.permutations.proofs.Transpositions.{exchange-first, transposition, transposition-permutation, at-transposition}
 use Rattle.grids.specs.Order.{rank, _≼_}
-use Rattle.grids.specs.Grids.{row, permutedRow, arrangement, OneClass}
+use Rattle.grids.specs.Grids.{cell, row, permutedRow, arrangement, OneClass}
 use Rattle.grids.specs.Least.{IsLeast}
-use Rattle.grids.proofs.OrderLaws.{leq-yes, ≼-leq, ≼-trans, ≼-pointwise, ≼-prefix}
+use Rattle.grids.proofs.OrderLaws.{leq-yes, ≼-leq, ≼-prefix}
 use Rattle.grids.proofs.GridLaws.{row-zero, rows-size, beneath, length-arrangement, cell-arrangement, class-trans, class-length}
 use Rattle.bounds.specs.Allperm.{Allperm, allperm}
+use Rattle.bounds.specs.Rows.{Leads}
 use Rattle.bounds.proofs.Extremal.{Directed}
+use Rattle.bounds.proofs.LeadsLaws.{leads-toward}
 
 pub allperm-decides : (m n : ℕ) (g : List ℕ) → (allperm m n g ≡ true) ↔ Allperm m n g
 unfolding allperm Allperm
@@ -48,11 +50,10 @@ allperm-decides m n g = (to, back)
         ≼-leq (row n g 0) (permutedRow n g i q) (h i (omega (arith, r .2)) (omega (arith, r .1, r .2)) q (listed-permutation n q l))
 
 pub allperm-directed : (m n : ℕ) → Directed (λ k. ltb k n) (m * n) (Allperm m n)
-unfolding Allperm row permutedRow
-allperm-directed m n g e lg le t h i i0 im q o =
-    ≼-trans (row n e 0) (row n g 0) (permutedRow n e i q) (≼-pointwise n _ _ λ j b. first (0 * n + j) (omega (arith, zero-mul n)))
-    (≼-trans (row n g 0) (permutedRow n g i q) (permutedRow n e i q) (h i i0 im q o)
-    (≼-pointwise n _ _ λ j b. other (i * n + getD q j 0) (beneath n i (getD q j 0) i0) (digits-lt im (o .within j b))))
+unfolding Allperm row permutedRow Leads
+allperm-directed m n g e lg le t h i i0 im =
+    leads-toward n (λ j. cell n g 0 j) (λ j. cell n e 0 j) (λ j. cell n g i j) (λ j. cell n e i j) (λ j b. first (0 * n + j) (omega (arith, zero-mul n)))
+    (λ j b. other (i * n + j) (beneath n i j i0) (digits-lt im b)) (h i i0 im)
   where
     first : (k : ℕ) → k < n → rank (getD e k 0) ≤ rank (getD g k 0)
     first k b = rw (lt-ltb k n b) at (t k (omega (arith, rows-size m n (omega arith))))

@@ -6,7 +6,7 @@
 --   lead-ceiling     ==  up to where x and s part, x with v in a column leads only if v ranks no higher than s's value there
 --   cap-equal        ==  where what follows lets x lead, s's value is the cap
 --   cap-below        ==  else it is the value next below
---   highs-capped     ==  highs that are x's values before x and s part, and at most the cap there, are those that let x lead
+--   highs-lowered     ==  highs that are x's values before x and s part, and at most the cap there, are those that let x lead
 --   lows-raised      ==  lows that are at least the thresholds are those that let x lead
 use mathlib.Core.Path.{_≡_, refl, sym, ap, _∙_}
 use mathlib.Core.Bool.{true, false}
@@ -134,10 +134,10 @@ cap-below {n} {x} {s} {a} r d an previous fails top y sv o =
 
 -- ---- new bounds
 
-pub highs-capped : {n : ℕ} {x s : ℕ → ℕ} {a : ℕ} → Parted n x s a → (h h′ : ℕ → ℕ) → ((c : ℕ) → c < a → h′ c ≡ x c) →
+pub highs-lowered : {n : ℕ} {x s : ℕ → ℕ} {a : ℕ} → Parted n x s a → (h h′ : ℕ → ℕ) → ((c : ℕ) → c < a → h′ c ≡ x c) →
     (a < n → (t : ℕ) × IsCap n x s a t × (h′ a ≡ lower (h a) t)) → ((c : ℕ) → a < c → c < n → h′ c ≡ h c) → IsHighs n x s h h′
 unfolding IsHighs IsCap
-highs-capped {n} {x} {s} {a} d h h′ before at after top y xv sv hv ordered o = record {
+highs-lowered {n} {x} {s} {a} d h h′ before at after top y xv sv hv ordered o = record {
   within = λ c cn. within c cn (decLt c a) (ℕ-discrete c a);
   exact = λ c v cn vt xc. exact c v cn vt xc (decLt c a) (ℕ-discrete c a);
 }

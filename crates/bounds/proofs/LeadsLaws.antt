@@ -7,12 +7,14 @@
 --   leads-toward       ==  a row still leads when its values fall and the other's rise
 --   NoLater-≼, ≼-NoLater  ==  comparing from column 0 on
 --   leads-sorted       ==  a row leads another exactly if it comes no later than the other sorted
+--   agree-same, agree-differ  ==  rows that agree up to a column are equal before it, and differ at it
+--   agree-no-later     ==  that column decides whether the one comes no later than the other
 --   sorted-value       ==  each value of a row stands in its sorted row
-use mathlib.Core.Path.{_≡_, refl, sym, ap}
+use mathlib.Core.Path.{_≡_, refl, sym, ap, _∙_}
 use mathlib.Core.Bool.{true, false}
 use mathlib.Core.Logic.{_↔_}
-use Prim.Native.Nat.{ℕ, _≤_, _<_}
-use native.Mathlib.Decide.{ℕ-discrete}
+use Prim.Native.Nat.{ℕ, _-_, _≤_, _<_}
+use native.Mathlib.Decide.{ℕ-discrete, decLt}
 use native.Mathlib.Omega.{arith}
 use lib.ListN.{getD}
 use lib.Dec.{eqb}
@@ -23,7 +25,7 @@ use Rattle.permutations.proofs.PermutationLaws.{listed}
 use Rattle.grids.specs.Order.{rank, _≼_}
 use Rattle.grids.proofs.OrderLaws.{≼-trans, ≼-pointwise, tabulate-at, tabulate-by-index}
 use Rattle.grids.proofs.SortedColumns.{values-suffice}
-use Rattle.bounds.specs.Rows.{put, Leads, IsSorted, NoLater}
+use Rattle.bounds.specs.Rows.{put, Leads, IsSorted, AgreeTo, NoLater}
 
 -- ---- one value replaced
 
@@ -90,3 +92,22 @@ leads-sorted {n} {y} {s} x o = (
 
 pub sorted-value : {n : ℕ} {y s : ℕ → ℕ} (o : IsSorted n y s) (c : ℕ) → c < n → (p : ℕ) × (p < n) × (getD (o .order) p 0 ≡ c)
 sorted-value {n} o c b = listed n (o .order) (o .permutation) c b
+
+-- ---- where two rows part
+
+module _ {n : ℕ} {x s : ℕ → ℕ} {from at : ℕ} (g : AgreeTo n x s 0 from at) where
+  pub agree-same : (t : ℕ) → from ≤ t → t < at → x t ≡ s t
+  agree-same t ft ta = let e : t - 0 ≡ t = omega arith in g .equal t ft ta ∙ ap s e
+
+  pub agree-differ : at < n → x at ≡ s at → ⊥
+  agree-differ h e = let z : at - 0 ≡ at = omega arith in g .unequal h (e ∙ ap s (sym z))
+
+  -- what is said from the column where they part
+  pub agree-no-later : (at < n → rank (x at) ≤ rank (s at)) → NoLater n x s from
+  unfolding NoLater
+  agree-no-later h t ft tn eq = go (decLt t at) (ℕ-discrete t at)
+    where
+      go : Dec (t < at) → Dec (t ≡ at) → rank (x t) ≤ rank (s t)
+      go (yes k) e = rw (agree-same t ft k) (omega arith)
+      go (no k) (yes e) = rw e (h (omega arith))
+      go (no k) (no e) = absurd (agree-differ (omega arith) (eq at (g .from-on) (omega arith)))

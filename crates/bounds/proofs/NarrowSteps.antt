@@ -5,7 +5,7 @@
 --   row-part, first-part  ==  a row of bounds, as a part of the list
 --   part-size        ==  the length of such a part
 --   row-pruned-ext   ==  only the values in the columns count
---   capped-both, capped-rule  ==  the highs by one rule and then by another; and by an equal rule
+--   lowered-both     ==  highs lowered by one rule and then by another
 --   Progress i m n low high low′ high′  ==  the rows before row i are pruned with row 0
 --   narrow-none, narrow-next, narrow-all  ==  at first, a row further, and at the end
 --   RowFits i n low high low′ high′, row-fits, row-sizes, row-values  ==  row 0 and row i are within the lists, and their parts fit the call
@@ -15,7 +15,7 @@ use mathlib.Core.List.{List, _++_, append-nil}
 use mathlib.Core.Bool.{true, false}
 use mathlib.Core.Logic.{_↔_}
 use Prim.Native.Nat.{ℕ, _+_, _*_, _-_, _≤_, _<_}
-use native.Mathlib.Nat.{zero-mul, one-mul, suc-mul, mul-le-mul, mul-le-mul-right}
+use native.Mathlib.Nat.{zero-mul, one-mul, suc-mul, mul-le-mul-right}
 use native.Mathlib.Decide.{ℕ-discrete}
 use native.Mathlib.Omega.{arith}
 use lib.ListN.{length, getD, take, drop, List·getD-append}
@@ -23,8 +23,9 @@ use lib.Seq.{take-length, drop-length, length-take-le, getD-take, getD-drop, get
 use lib.Arith.{digits-lt}
 use borrow.Rule.Slice.PartMut.{same-len-mid, mid-len}
 use Rattle.grids.specs.Order.{rank}
+use Rattle.grids.proofs.QuestionLaws.{size-fits}
 use Rattle.bounds.specs.Bounds.{IsBounds}
-use Rattle.bounds.specs.Rows.{cells, put, Values, Leads, Raised, Capped, RowSizes, RowPruned, RowOutcome}
+use Rattle.bounds.specs.Rows.{cells, put, Values, Leads, Raised, Lowered, RowSizes, RowPruned, RowOutcome}
 use Rattle.bounds.specs.Narrowed.{rowOf, AllLead, Narrowed, NarrowSizes}
 use Rattle.bounds.proofs.LeadsLaws.{put-self, put-ext, leads-ext}
 
@@ -96,10 +97,10 @@ row-pruned-ext n top x l y h h′ l′ u m w g g′ m′ ex el ey eh eh′ el′
           λ q. let r = f .1 q in (r .0, leads-ext n x u (put y c v) (put w c v) ex (λ j b. put-ext y w c v j (ey j b)) (r .1)),
         );
   };
-  capped = record {
-    within = λ c cn. rw (← (eh′ c cn)) (p .capped .within c cn);
+  lowered = record {
+    within = λ c cn. rw (← (eh′ c cn)) (p .lowered .within c cn);
     exact = λ c v cn vt vx.
-        let f = p .capped .exact c v cn vt (rw (ex c cn) vx) in
+        let f = p .lowered .exact c v cn vt (rw (ex c cn) vx) in
         rw (← (eh c cn), ← (eh′ c cn)) (
           λ q. f .0 (q .0, leads-ext n (put u c v) (put x c v) w y (λ j b. put-ext u x c v j (sym (ex j b))) (λ j b. sym (ey j b)) (q .1)),
           λ q. let r = f .1 q in (r .0, leads-ext n (put x c v) (put u c v) y w (λ j b. put-ext x u c v j (ex j b)) ey (r .1)),
@@ -107,8 +108,8 @@ row-pruned-ext n top x l y h h′ l′ u m w g g′ m′ ex el ey eh eh′ el′
   };
 }
 
-pub capped-both : (R S T : (ℕ → ℕ) → Type 0) (n top : ℕ) (x h h′ h″ : ℕ → ℕ) → ((z : ℕ → ℕ) → T z ↔ (R z × S z)) → Capped R n top x h h′ → Capped S n top x h′ h″ → Capped T n top x h h″
-capped-both R S T n top x h h′ h″ both r s = record {
+pub lowered-both : (R S T : (ℕ → ℕ) → Type 0) (n top : ℕ) (x h h′ h″ : ℕ → ℕ) → ((z : ℕ → ℕ) → T z ↔ (R z × S z)) → Lowered R n top x h h′ → Lowered S n top x h′ h″ → Lowered T n top x h h″
+lowered-both R S T n top x h h′ h″ both r s = record {
   within = s .within;
   exact = λ c v cn vt vx.
       let f = r .exact c v cn vt vx in
@@ -135,10 +136,6 @@ pub record RowFits (i n : ℕ) (low high low′ high′ : List ℕ) : Type 0 whe
   pub new-low : i * n + n ≤ length low′
   pub small : i * n + n ≤ 128
 
--- row 0 of bounds
-first-cell : (m n c : ℕ) → 1 ≤ m → c < n → 0 * n + c < m * n
-first-cell m n c m1 cn = digits-lt (omega arith) cn
-
 pub narrow-none : (m n : ℕ) (low high low′ high′ : List ℕ) → NarrowSizes m n low high low′ high′ → Progress 1 m n low high low high
 narrow-none m n low high low′ high′ s = record {
   from = omega arith;
@@ -148,8 +145,8 @@ narrow-none m n low high low′ high′ s = record {
   narrowed = λ top b. record {
     leads = λ i i0 im. absurd (omega arith);
     raised = λ i i0 im. absurd (omega arith);
-    capped = record {
-      within = λ c cn. b .high-cap (0 * n + c) (first-cell m n c (s .rows-limits .0) cn);
+    lowered = record {
+      within = λ c cn. b .high-cap (0 * n + c) (digits-lt (s .rows-limits .0) cn);
       exact = λ c v cn vt vx. (λ q. q .0, λ q. (q, λ i i0 im. absurd (omega arith)));
     };
     low-size = refl;
@@ -173,7 +170,7 @@ module _ {i m n : ℕ} {low high low′ high′ old-low old-high : List ℕ} (s 
     old-low = omega (arith, s .low-size, row-within);
     old-high = omega (arith, s .high-size, row-within);
     new-low = omega (arith, p .low-size, row-within);
-    small = omega (arith, row-within, mul-le-mul {n₁ = m} {m₁ = n} {n₂ = 8} {m₂ = 16} (s .rows-limits .1) (s .column-limits .1));
+    small = omega (arith, row-within, size-fits m n (s .rows-limits .1) (s .column-limits .1));
   }
 
   pub row-sizes : RowSizes (length (take (n - 0) low)) (take (i * n + n - i * n) (drop (i * n) low)) (take (i * n + n - i * n) (drop (i * n) high)) (take (n - 0) high′)
@@ -223,13 +220,10 @@ module _ {i m n : ℕ} {low high low′ high′ old-low old-high : List ℕ} (s 
       old : Narrowed i n top low high low′ high′
       old = p .narrowed top b
 
-      cell-within : (r j : ℕ) → r < m → j < n → r * n + j < m * n
-      cell-within r j rm jn = digits-lt rm jn
-
       ordered : (j : ℕ) → j < n → rank (rowOf n low 0 j) ≤ rank (rowOf n high′ 0 j)
       ordered j jn =
-          old .capped .exact j (rowOf n low 0 j) jn (b .low-cap (0 * n + j) (cell-within 0 j (omega arith) jn)) (omega arith) .0 (
-            b .in-order (0 * n + j) (cell-within 0 j (omega arith) jn),
+          old .lowered .exact j (rowOf n low 0 j) jn (b .low-cap (0 * n + j) (digits-lt (omega arith) jn)) (omega arith) .0 (
+            b .in-order (0 * n + j) (digits-lt (omega arith) jn),
             λ r r0 ri. leads-ext n (rowOf n low 0) _ (rowOf n high r) (rowOf n high r) (λ k c. sym (put-self (rowOf n low 0) j k)) (λ k c. refl) (old .leads r r0 ri),
           )
 
@@ -240,10 +234,10 @@ module _ {i m n : ℕ} {low high low′ high′ old-low old-high : List ℕ} (s 
           row-pruned-ext n top (cells (take (n - 0) low)) (cells (take (i * n + n - i * n) (drop (i * n) low))) (cells (take (i * n + n - i * n) (drop (i * n) high)))
           (cells (take (n - 0) high′)) (cells highs) (cells lows) _ _ _ _ _ _ (first-part n low) (row-part i n low) (row-part i n high) (first-part n high′)
           (λ j jn. let q : 0 * n + j ≡ 0 + j = omega (arith, zero-mul n) in rw q (sym (high-replaced .inside j jn))) (λ j jn. sym (low-replaced .inside j jn))
-          (g top (λ j jn. rw (first-part n low j jn) (b .low-cap (0 * n + j) (cell-within 0 j (omega arith) jn)))
-          (λ j jn. rw (row-part i n low j jn) (b .low-cap (i * n + j) (cell-within i j im jn)))
-          (λ j jn. rw (row-part i n high j jn) (b .high-cap (i * n + j) (cell-within i j im jn)))
-          (λ j jn. rw (first-part n high′ j jn) (old .capped .within j jn)) (λ j jn. rw (first-part n low j jn, first-part n high′ j jn) (ordered j jn)))
+          (g top (λ j jn. rw (first-part n low j jn) (b .low-cap (0 * n + j) (digits-lt (omega arith) jn)))
+          (λ j jn. rw (row-part i n low j jn) (b .low-cap (i * n + j) (digits-lt im jn)))
+          (λ j jn. rw (row-part i n high j jn) (b .high-cap (i * n + j) (digits-lt im jn)))
+          (λ j jn. rw (first-part n high′ j jn) (old .lowered .within j jn)) (λ j jn. rw (first-part n low j jn, first-part n high′ j jn) (ordered j jn)))
 
       -- a row is one of those before, or row i
       before-or-here : (P : ℕ → Type 0) → ((r : ℕ) → 0 < r → r < i → P r) → P i → (r : ℕ) → 0 < r → r < i + 1 → P r
@@ -257,8 +251,8 @@ module _ {i m n : ℕ} {low high low′ high′ old-low old-high : List ℕ} (s 
       narrowed-next = record {
         leads = before-or-here (λ r. Leads n (rowOf n low 0) (rowOf n high r)) (old .leads) (row .leads);
         raised = before-or-here (λ r. Raised (Leads n (rowOf n low 0)) n top (rowOf n high r) (rowOf n low r) (rowOf n new-low r)) earlier (row .raised);
-        capped = capped-both (λ z. AllLead i n z high) (λ z. Leads n z (rowOf n high i)) (λ z. AllLead (i + 1) n z high) n top (rowOf n low 0) (rowOf n high 0) (rowOf n high′ 0)
-            (rowOf n new-high 0) both (old .capped) (row .capped);
+        lowered = lowered-both (λ z. AllLead i n z high) (λ z. Leads n z (rowOf n high i)) (λ z. AllLead (i + 1) n z high) n top (rowOf n low 0) (rowOf n high 0) (rowOf n high′ 0)
+            (rowOf n new-high 0) both (old .lowered) (row .lowered);
         low-size = low-replaced .size ∙ old .low-size;
         high-size = high-replaced .size ∙ old .high-size;
         low-kept = λ k kn. low-replaced .before k (omega (arith, first-within)) ∙ old .low-kept k kn;

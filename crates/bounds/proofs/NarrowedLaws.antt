@@ -148,13 +148,13 @@ module _ (m n top : ℕ) (low high : List ℕ) (some : 1 ≤ m) (ok : IsBounds (
     first-cell : (c : ℕ) → c < n → CellExact m n top low high low′ high′ (0 * n + c)
     first-cell c cn = record {
       low-cap = rw same (ok .low-cap k kb);
-      high-cap = w .capped .within c cn;
-      in-order = rw same (w .capped .exact c (getD low k 0) cn (ok .low-cap k kb) (omega arith) .0 (ok .in-order k kb, lead-self));
+      high-cap = w .lowered .within c cn;
+      in-order = rw same (w .lowered .exact c (getD low k 0) cn (ok .low-cap k kb) (omega arith) .0 (ok .in-order k kb, lead-self));
       exact = λ v vt. (
-        λ h. let p = kept-with k v kb .0 h in (rw same (p .1), w .capped .exact c v cn vt (p .1) .0 (p .2, lead-with-first m n low high some c v cn .0 (p .3))),
+        λ h. let p = kept-with k v kb .0 h in (rw same (p .1), w .lowered .exact c v cn vt (p .1) .0 (p .2, lead-with-first m n low high some c v cn .0 (p .3))),
         λ h.
             let a : rank (getD low k 0) ≤ rank v = rw same at (h .0) in
-            let q = w .capped .exact c v cn vt a .1 (h .1) in
+            let q = w .lowered .exact c v cn vt a .1 (h .1) in
             kept-with k v kb .1 (vt, a, q .0, lead-with-first m n low high some c v cn .1 (q .1)),
       );
     }

@@ -1,7 +1,7 @@
 -- The steps of the code that prunes row 0 with another row.
 --
 --   agree-more       ==  two rows that agree up to a column, and at it, agree up to the next
---   Lowered c x h h′  ==  the highs h of row 0 have become its lows x before column c, and are as they were from there on
+--   LoweredTo c x h h′  ==  the highs h of row 0 have become its lows x before column c, and are as they were from there on
 --   lowered-none, lowered-next  ==  at first, and a column further
 --   lowered-all, lowered-capped  ==  the highs where the rows do not part, and where they do
 --   raised-next      ==  the new lows, a column further
@@ -10,7 +10,7 @@
 --   agree-decided    ==  whether a row comes no later than another, by the column up to which they agree
 --   below-decided, under-later  ==  what the code finds at a column
 --   parted-at, above-at  ==  where two rows part, and which of them is above
-use mathlib.Core.Path.{_≡_, refl, sym, ap, _∙_}
+use mathlib.Core.Path.{_≡_, refl, ap, _∙_}
 use mathlib.Core.List.{List}
 use mathlib.Core.Bool.{Bool, true, false}
 use Prim.Native.Nat.{ℕ, _+_, _-_, _≤_, _<_}
@@ -24,9 +24,9 @@ use Rattle.grids.specs.Order.{rank}
 use Rattle.grids.proofs.OrderLaws.{rank-antisymm}
 use Rattle.bounds.specs.declared.rows.RowLows.{RowLows}
 use Rattle.bounds.specs.Rows.{cells, Values, IsSorted, AgreeTo, SaysBelow, SaysUnder, NoLater, SaysNoLater, Parted, higher, lower, lowFor, IsLows, RaisedTo, IsCap, IsHighs, RowOutcome}
-use Rattle.bounds.proofs.LeadsLaws.{leads-sorted}
+use Rattle.bounds.proofs.LeadsLaws.{leads-sorted, agree-same, agree-differ, agree-no-later}
 use Rattle.bounds.proofs.ThresholdLaws.{parted-leads}
-use Rattle.bounds.proofs.CapLaws.{highs-capped, lows-raised}
+use Rattle.bounds.proofs.CapLaws.{highs-lowered, lows-raised}
 
 pub agree-more : (u v : ℕ → ℕ) (from t : ℕ) → ((j : ℕ) → from ≤ j → j < t → u j ≡ v j) → u t ≡ v t → (j : ℕ) → from ≤ j → j < t + 1 → u j ≡ v j
 agree-more u v from t h e j fj jt = go (ℕ-discrete j t)
@@ -36,28 +36,12 @@ agree-more u v from t h e j fj jt = go (ℕ-discrete j t)
     go (no ne) = h j fj (omega arith)
 
 module _ {n : ℕ} {x s : ℕ → ℕ} {from at : ℕ} (g : AgreeTo n x s 0 from at) where
-  same : (t : ℕ) → from ≤ t → t < at → x t ≡ s t
-  same t ft ta = let e : t - 0 ≡ t = omega arith in g .equal t ft ta ∙ ap s e
-
-  differ : at < n → x at ≡ s at → ⊥
-  differ h e = let z : at - 0 ≡ at = omega arith in g .unequal h (e ∙ ap s (sym z))
-
-  -- what is said from the column where they part
-  no-later-from : (at < n → rank (x at) ≤ rank (s at)) → NoLater n x s from
-  unfolding NoLater
-  no-later-from h t ft tn eq = go (decLt t at) (ℕ-discrete t at)
-    where
-      go : Dec (t < at) → Dec (t ≡ at) → rank (x t) ≤ rank (s t)
-      go (yes k) e = rw (same t ft k) (omega arith)
-      go (no k) (yes e) = rw e (h (omega arith))
-      go (no k) (no e) = absurd (differ (omega arith) (eq at (g .from-on) (omega arith)))
-
   pub agree-decided : (b : Bool) → SaysBelow b n x s 0 at → SaysNoLater b n x s from
   unfolding NoLater SaysBelow SaysNoLater
-  agree-decided true h = no-later-from (λ k. let e : at - 0 ≡ at = omega arith in omega (arith, rw e at (h k)))
+  agree-decided true h = agree-no-later g (λ k. let e : at - 0 ≡ at = omega arith in omega (arith, rw e at (h k)))
   agree-decided false h =
       let e : at - 0 ≡ at = omega arith in
-      λ k. differ (h .0) (rank-antisymm _ _ (k at (g .from-on) (h .0) (λ j fj ja. same j fj ja)) (rw e at (h .1)))
+      λ k. agree-differ g (h .0) (rank-antisymm _ _ (k at (g .from-on) (h .0) (agree-same g)) (rw e at (h .1)))
 
 pub below-decided : (n : ℕ) (x s : ℕ → ℕ) (shift at : ℕ) → at < n → SaysBelow (ltb (rank (x at)) (rank (s (at - shift)))) n x s shift at
 unfolding SaysBelow
@@ -86,16 +70,16 @@ parted-at {at = at} g h = record { agree = g; before = λ k. let e : at - 0 ≡ 
 
 -- ---- the highs of row 0
 
-pub record Lowered (c : ℕ) (x h h′ : List ℕ) : Type 0 where
+pub record LoweredTo (c : ℕ) (x h h′ : List ℕ) : Type 0 where
   pub size : length h′ ≡ length h
   pub done : (j : ℕ) → j < c → cells h′ j ≡ cells x j
   pub rest : (j : ℕ) → c ≤ j → cells h′ j ≡ cells h j
 
-pub lowered-none : (x h : List ℕ) → Lowered 0 x h h
+pub lowered-none : (x h : List ℕ) → LoweredTo 0 x h h
 lowered-none x h = record { size = refl; done = λ j b. absurd (omega arith); rest = λ j b. refl }
 
-module _ {c : ℕ} {x h h′ : List ℕ} (l : Lowered c x h h′) where
-  pub lowered-next : c < length h → Lowered (c + 1) x h (set h′ c (cells x c))
+module _ {c : ℕ} {x h h′ : List ℕ} (l : LoweredTo c x h h′) where
+  pub lowered-next : c < length h → LoweredTo (c + 1) x h (set h′ c (cells x c))
   lowered-next b = record {
     size = length-set h′ c _ ∙ l .size;
     done = λ j k. go j k (ℕ-discrete j c);
@@ -108,11 +92,11 @@ module _ {c : ℕ} {x h h′ : List ℕ} (l : Lowered c x h h′) where
 
   module _ {n : ℕ} {s : ℕ → ℕ} (d : Parted n (cells x) s c) where
     pub lowered-all : n ≤ c → IsHighs n (cells x) s (cells h) (cells h′)
-    lowered-all nc = highs-capped d (cells h) (cells h′) (l .done) (λ cn. absurd (omega arith)) (λ j cj jn. absurd (omega arith))
+    lowered-all nc = highs-lowered d (cells h) (cells h′) (l .done) (λ cn. absurd (omega arith)) (λ j cj jn. absurd (omega arith))
 
     pub lowered-capped : (t : ℕ) → c < length h → IsCap n (cells x) s c t → IsHighs n (cells x) s (cells h) (cells (set h′ c (lower (cells h′ c) t)))
     lowered-capped t b k =
-        highs-capped d (cells h) (cells (set h′ c (lower (cells h′ c) t))) (λ j jc. getD-set-other h′ c j _ 0 (omega arith) ∙ l .done j jc)
+        highs-lowered d (cells h) (cells (set h′ c (lower (cells h′ c) t))) (λ j jc. getD-set-other h′ c j _ 0 (omega arith) ∙ l .done j jc)
         (λ cn. (t, k, getD-set-same h′ c _ 0 (omega (arith, l .size)) ∙ ap (λ (z : ℕ). lower z t) (l .rest c (omega arith))))
         (λ j cj jn. getD-set-other h′ c j _ 0 (omega arith) ∙ l .rest j (omega arith))
 
@@ -140,5 +124,5 @@ module _ {n : ℕ} {x y s : ℕ → ℕ} {at : ℕ} (o : IsSorted n y s) (g : Ag
   row-pruned z l h h′ l′ b lows raised highs top xv lv yv hv ordered = record {
     leads = parted-leads (parted-at g b) o;
     raised = lows-raised z lows top y l l′ raised xv (sorted-within top o yv) lv o;
-    capped = highs top y xv (sorted-within top o yv) hv ordered o;
+    lowered = highs top y xv (sorted-within top o yv) hv ordered o;
   }

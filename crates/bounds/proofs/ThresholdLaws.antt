@@ -1,7 +1,7 @@
 -- The lowest value that the lows x of row 0 allow in a column of another row, by the highs y of that row, sorted as s.
 --
 --   agreed           ==  before the column where they part, x and s are equal
---   parted-no-later, parted-leads  ==  x comes no later than s, and leads y
+--   parted-leads     ==  x leads y
 --   threshold-of     ==  a value is the threshold if x leads with it, and with no lower value
 --   threshold-fixed  ==  where the column stands before x and s part, only its high lets x lead
 --   floor-before     ==  past it, no value is allowed that ranks lower than x's where they part,
@@ -17,24 +17,15 @@ use native.Mathlib.Omega.{arith}
 use Rattle.grids.specs.Order.{rank}
 use Rattle.grids.proofs.OrderLaws.{rank-antisymm}
 use Rattle.bounds.specs.Rows.{put, Leads, IsSorted, AgreeTo, NoLater, Parted, Threshold}
-use Rattle.bounds.proofs.LeadsLaws.{put-same, put-other, leads-self, leads-toward, leads-sorted}
+use Rattle.bounds.proofs.LeadsLaws.{put-same, put-other, leads-self, leads-toward, leads-sorted, agree-same, agree-no-later}
 use Rattle.bounds.proofs.InsertedLaws.{inserted, inserted-at, inserted-before, inserted-between, inserted-after, Spot, spot-value, spot-inserted, lead-floor, inserted-up, inserted-leads}
 
 module _ {n : ℕ} {x s : ℕ → ℕ} {a : ℕ} (d : Parted n x s a) where
   pub agreed : (j : ℕ) → j < a → x j ≡ s j
-  agreed j h = let e : j - 0 ≡ j = omega arith in d .agree .equal j (omega arith) h ∙ ap s e
-
-  pub parted-no-later : NoLater n x s 0
-  unfolding NoLater
-  parted-no-later t t0 tn same = go (decLt t a) (ℕ-discrete t a)
-    where
-      go : Dec (t < a) → Dec (t ≡ a) → rank (x t) ≤ rank (s t)
-      go (yes h) e = rw (agreed t h) (omega arith)
-      go (no h) (yes e) = rw e (omega (arith, d .before (omega arith)))
-      go (no h) (no e) = let q : rank (x a) ≡ rank (s a) = ap rank (same a (omega arith) (omega arith)) in absurd (omega (arith, d .before (omega arith)))
+  agreed j h = agree-same (d .agree) j (omega arith) h
 
   pub parted-leads : {y : ℕ → ℕ} → IsSorted n y s → Leads n x y
-  parted-leads o = leads-sorted x o .1 parted-no-later
+  parted-leads o = leads-sorted x o .1 (agree-no-later (d .agree) (λ h. omega (arith, d .before h)))
 
 pub threshold-of : (n top : ℕ) (x y : ℕ → ℕ) (c t : ℕ) → t ≤ top → Leads n x (put y c t) → ((v : ℕ) → v ≤ top → Leads n x (put y c v) → rank t ≤ rank v) → Threshold n top x y c t
 threshold-of n top x y c t tt h low = record {

@@ -16,7 +16,7 @@ use Rattle.permutations.specs.Lists.{tabulate}
 use Rattle.grids.specs.Order.{rank}
 use Rattle.grids.specs.Grids.{cell}
 use Rattle.bounds.specs.Bounds.{IsBounds, between}
-use Rattle.bounds.specs.Rows.{Leads, Raised, Capped}
+use Rattle.bounds.specs.Rows.{Leads, Raised, Lowered}
 
 abbrev pub rowOf : ℕ → List ℕ → ℕ → ℕ → ℕ
 rowOf n l i j = cell n l i j
@@ -27,7 +27,7 @@ AllLead m n x high = (i : ℕ) → 0 < i → i < m → Leads n x (rowOf n high i
 pub record Narrowed (m n top : ℕ) (low high low′ high′ : List ℕ) : Type 0 where
   pub leads : AllLead m n (rowOf n low 0) high
   pub raised : (i : ℕ) → 0 < i → i < m → Raised (Leads n (rowOf n low 0)) n top (rowOf n high i) (rowOf n low i) (rowOf n low′ i)
-  pub capped : Capped (λ x. AllLead m n x high) n top (rowOf n low 0) (rowOf n high 0) (rowOf n high′ 0)
+  pub lowered : Lowered (λ x. AllLead m n x high) n top (rowOf n low 0) (rowOf n high 0) (rowOf n high′ 0)
   -- the lows of row 0 and the highs of the others are as they were
   pub low-size : length low′ ≡ length low
   pub high-size : length high′ ≡ length high

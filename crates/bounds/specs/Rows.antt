@@ -21,7 +21,7 @@
 --   IsCap n x s c t               ==  where s is y sorted, t is the cap of column c
 --   RaisedTo n z l y l′           ==  l′ has in each column the low l, or the lowest value that z allows where the high is y, whichever is higher
 --   Raised Rule n top y l l′      ==  of the values from l up to y's in a column, the rule allows exactly those that rank no lower than l′
---   Capped Rule n top x h h′      ==  of the values from x's up to h in a column, the rule allows exactly those that rank no higher than h′
+--   Lowered Rule n top x h h′      ==  of the values from x's up to h in a column, the rule allows exactly those that rank no higher than h′
 --   IsHighs n x s h h′            ==  where s is y sorted, x leads y with the values up to h in a column exactly if they rank no higher than h′
 --   RowSizes n low high highs lows  ==  the slices of a row have its length, 1 to 16
 --   RowPruned n top x l y h h′ l′ ==  x leads y; the lows l of y's row become l′, and the highs h of x's row become h′
@@ -124,13 +124,13 @@ pub record Cap (n top : ℕ) (x y : ℕ → ℕ) (c t : ℕ) : Type 0 where
 unfoldable pub IsCap : ℕ → (ℕ → ℕ) → (ℕ → ℕ) → ℕ → ℕ → Type 0
 IsCap n x s c t = (top : ℕ) (y : ℕ → ℕ) → Values n top s → IsSorted n y s → Cap n top x y c t
 
-pub record Capped (Rule : (ℕ → ℕ) → Type 0) (n top : ℕ) (x h h′ : ℕ → ℕ) : Type 0 where
+pub record Lowered (Rule : (ℕ → ℕ) → Type 0) (n top : ℕ) (x h h′ : ℕ → ℕ) : Type 0 where
   pub within : Values n top h′
   pub exact : (c v : ℕ) → c < n → v ≤ top → rank (x c) ≤ rank v → ((rank v ≤ rank (h c)) × Rule (put x c v)) ↔ (rank v ≤ rank (h′ c))
 
 unfoldable pub IsHighs : ℕ → (ℕ → ℕ) → (ℕ → ℕ) → (ℕ → ℕ) → (ℕ → ℕ) → Type 0
 IsHighs n x s h h′ =
-    (top : ℕ) (y : ℕ → ℕ) → Values n top x → Values n top s → Values n top h → Ordered n x h → IsSorted n y s → Capped (λ z. Leads n z y) n top x h h′
+    (top : ℕ) (y : ℕ → ℕ) → Values n top x → Values n top s → Values n top h → Ordered n x h → IsSorted n y s → Lowered (λ z. Leads n z y) n top x h h′
 
 -- ---- both
 
@@ -145,7 +145,7 @@ pub record RowSizes (n : ℕ) (low high highs lows : List ℕ) : Type 0 where
 pub record RowPruned (n top : ℕ) (x l y h h′ l′ : ℕ → ℕ) : Type 0 where
   pub leads : Leads n x y
   pub raised : Raised (λ z. Leads n x z) n top y l l′
-  pub capped : Capped (λ z. Leads n z y) n top x h h′
+  pub lowered : Lowered (λ z. Leads n z y) n top x h h′
 
 unfoldable pub RowOutcome : Bool → ℕ → (ℕ → ℕ) → (ℕ → ℕ) → (ℕ → ℕ) → (ℕ → ℕ) → (ℕ → ℕ) → (ℕ → ℕ) → Type 0
 RowOutcome true n x l y h h′ l′ =

@@ -1,6 +1,6 @@
 // Bounds on the cells of a grid, document 01's form: a slice of lows and a slice of highs.
-pub mod order;
+mod order;
 pub mod prune;
-pub mod rows;
-pub mod sorting;
-pub mod values;
+mod rows;
+mod sorting;
+mod values;

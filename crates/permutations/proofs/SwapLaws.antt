@@ -15,7 +15,7 @@ use native.Mathlib.Omega.{arith}
 use lib.ListN.{length, getD, set, take, length-set}
 use lib.Seq.{getD-set-same, getD-set-other, set-set, set-getD, getD-take, length-take-le}
 use Rattle.permutations.specs.Permutations.{identity, swapped}
-use Rattle.permutations.specs.Padded.{padded, IsPadded}
+use Rattle.permutations.specs.Padded.{IsPadded}
 use Rattle.permutations.proofs.PermutationLaws.{identity-permutation}
 use Rattle.permutations.proofs.PaddedLaws.{length-padded, padded-from, padded-is, padded-identity, take-identity}
 use Rattle.permutations.proofs.Transpositions.{exchange, exchange-first, exchange-second, exchange-other, exchange-within, exchange-once}

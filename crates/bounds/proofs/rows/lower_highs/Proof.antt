@@ -4,12 +4,12 @@ use Prim.Native.Nat.{_-_, _≤_}
 use native.Mathlib.Omega.{arith}
 use lib.ListN.{length-set}
 use borrow.Author.Needs.{needs}
-use Rattle.bounds.proofs.RowSteps.{Lowered, lowered-none, lowered-next, lowered-all, lowered-capped}
+use Rattle.bounds.proofs.RowSteps.{LoweredTo, lowered-none, lowered-next, lowered-all, lowered-capped}
 use Rattle.bounds.proofs.rows.lower_highs.Statement.{statement}
 use Rattle.bounds.proofs.rows.lower_highs.Tie as tie
 
 abbrev Inv-loop : tie.InvT-loop
-Inv-loop x sorted at highs₀ c₀ highs c = (c ≤ at) × Lowered c x highs₀ highs
+Inv-loop x sorted at highs₀ c₀ highs c = (c ≤ at) × LoweredTo c x highs₀ highs
 
 abbrev μ-loop : tie.MeasureT-loop
 μ-loop x sorted at highs₀ c₀ highs c = at - c
