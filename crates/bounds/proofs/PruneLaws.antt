@@ -4,8 +4,9 @@
 --   pruned-refused     ==  where one gets a no: its number, count 0, and the slices as sent
 --   pruned-some        ==  where some grid in the bounds has allperm: 0, the values removed, and the new bounds
 --   pruned-none        ==  where none has it: 102, count 0, and the slices as sent
---   prune-exact        ==  demand 2's sentence on prune
 --   prunes             ==  the outcome determined meets prune's contract
+--   prune-exact        ==  demand 2's sentence on prune, of every program that meets its contract
+--   prunes-refused     ==  what meets it refuses so
 --   prune-one-row      ==  with one row nothing is removed
 --   least-same-bounds  ==  a least grid lies in the new bounds exactly if it lies in the old
 --   none-in-bounds     ==  where no grid in the bounds has allperm, no grid with allperm lies in them
@@ -23,8 +24,8 @@ use Rattle.grids.proofs.QuestionLaws.{Numbered, first-no-zero, limits-asked}
 use Rattle.bounds.specs.Bounds.{IsBounds, inBounds}
 use Rattle.bounds.specs.Kept.{Obeyed, obeyed, keptLow, keptHigh, removed}
 use Rattle.bounds.specs.Allperm.{Allperm, allperm}
-use Rattle.bounds.specs.Prune.{Pruned, boundsQuestions, pruneQuestions, prunedYes, pruned}
-use Rattle.bounds.specs.Demand2.{Exact, PruneExact, Prunes}
+use Rattle.bounds.specs.Prune.{Pruned, outcome, boundsQuestions, pruneQuestions, prunedYes, pruned}
+use Rattle.bounds.specs.Demand2.{Exact, Pruning, PruneExact, Prunes, MeetsPrune}
 use Rattle.bounds.proofs.BoundsLaws.{inBounds-decides, bounds-asked, bounds-numbered}
 use Rattle.bounds.proofs.KeptLaws.{length-keptLow, length-keptHigh, obeyed-decides, obeyed-ends, pruned-same, all-kept}
 use Rattle.bounds.proofs.Extremal.{obeyed-extremal, kept-extremal, kept-exactly}
@@ -114,13 +115,12 @@ module _ (m n top : ℕ) (low high : List ℕ) where
   pub none-in-bounds : (Obeyed (Allperm m n) (m * n) top low high → ⊥) → (r : List ℕ) → Allperm m n r → inBounds (m * n) top low high r ≡ true → ⊥
   none-in-bounds h r a t = h (record { example = r; inside = inBounds-decides (m * n) top low high r .0 t; obeys = a })
 
-pub prune-exact : PruneExact
-unfolding PruneExact
-prune-exact m n top low high l b = exactly m n top low high (prune-pass m n top low high .1 (l, b))
-
 pub prunes : (m n top : ℕ) (low high : List ℕ) (r : Pruned) → r ≡ pruned m n top low high → Prunes m n top low high r
-unfolding PruneExact
-prunes m n top low high r e = record { determined = e; exactly = λ l b. rw e (prune-exact m n top low high l b) }
+prunes m n top low high r e = record { determined = e; exactly = λ l b. rw e (exactly m n top low high (prune-pass m n top low high .1 (l, b))) }
+
+pub prune-exact : (f : Pruning) → MeetsPrune f → PruneExact f
+unfolding PruneExact MeetsPrune
+prune-exact f c m n top low high l b = c m n top low high .exactly l b
 
 pub prune-one-row : (n top : ℕ) (low high : List ℕ) → firstNo (pruneQuestions 1 n top low high) ≡ 0 →
     pruned 1 n top low high ≡ record { number = 0; count = 0; low = low; high = high }
@@ -130,3 +130,7 @@ prune-one-row n top low high e =
     let same = all-kept (Allperm 1 n) (allperm 1 n) (allperm-decides 1 n) (1 * n) top low high ok λ k v b f.
     kept-extremal (Allperm 1 n) (λ k. ltb k n) (1 * n) (allperm-directed 1 n) top low high ok k v b .1 (f .0, f .1, f .2, allperm-one-row n _) in
     pruned-some 1 n top low high e some ∙ rw (same .0, same .1, same .2)
+
+pub prunes-refused : (m n top : ℕ) (low high : List ℕ) (r : Pruned) → Prunes m n top low high r → (k : ℕ) → firstNo (pruneQuestions m n top low high) ≡ suc k →
+    r ≡ outcome (suc k) 0 low high
+prunes-refused m n top low high r p k e = p .determined ∙ pruned-refused m n top low high k e

@@ -2,8 +2,10 @@
 -- if none does, prune answers 102.
 --
 --   Exact m n top low high r  ==  what the outcome r says of the bounds
---   PruneExact                ==  the statement, of all bounds within the limits
+--   Pruning                   ==  programs for prune, as functions of the numbers and slices that they are lent
+--   PruneExact f              ==  the sentence, of a program: for all bounds within the limits
 --   Prunes m n top low high r ==  prune's contract: its outcome r is the one determined, and of bounds within the limits it says the above
+--   MeetsPrune f              ==  f meets it, on all arguments
 use mathlib.Core.Path.{_≡_}
 use mathlib.Core.List.{List}
 use mathlib.Core.Logic.{_↔_}
@@ -29,10 +31,15 @@ pub record Exact (m n top : ℕ) (low high : List ℕ) (r : Pruned) : Type 0 whe
   -- none has it: 102, count 0, and the bounds as sent
   pub none : (Obeyed (Allperm m n) (m * n) top low high → ⊥) → (r .number ≡ 102) × (r .count ≡ 0) × (r .low ≡ low) × (r .high ≡ high)
 
-unfoldable pub PruneExact : Type 0
-PruneExact =
-    (m n top : ℕ) (low high : List ℕ) → Limits m n top → IsBounds (m * n) top low high → Exact m n top low high (pruned m n top low high)
+abbrev pub Pruning : Type 0
+Pruning = (m n top : ℕ) → (low high : List ℕ) → Pruned
+
+unfoldable pub PruneExact : Pruning → Type 0
+PruneExact f = (m n top : ℕ) (low high : List ℕ) → Limits m n top → IsBounds (m * n) top low high → Exact m n top low high (f m n top low high)
 
 pub record Prunes (m n top : ℕ) (low high : List ℕ) (r : Pruned) : Type 0 where
   pub determined : r ≡ pruned m n top low high
   pub exactly : Limits m n top → IsBounds (m * n) top low high → Exact m n top low high r
+
+unfoldable pub MeetsPrune : Pruning → Type 0
+MeetsPrune f = (m n top : ℕ) (low high : List ℕ) → Prunes m n top low high (f m n top low high)

@@ -1,25 +1,27 @@
 -- What the answers of represent and same mean.
 --
 --   represent-pass, same-pass  ==  what the questions get a yes for, exactly
---   represent-least      ==  demand 2's sentence on represent
+--   represent-least      ==  demand 2's sentence on represent, of every program that meets its contract
 --   represent-determined ==  two answers to the same arguments have one number and one output slice
 --   produces-class       ==  orders that produce b from a show the two in one class
 --   same-zero, same-103  ==  where every question gets a yes: 0 exactly for grids in one class, 103 exactly for grids in two
 --   same-leasts          ==  and 0 exactly for grids with one least grid
 --   represent-answers, same-answers  ==  on all arguments there is an answer
+--   represent-refused, same-refused  ==  in a refusal and with 103: the number, orders that move nothing, and the slice as it was
+--   produces-past        ==  orders that produce a grid have 8 and 16 positions, and those past the rows and columns hold their own number
 --   same-orders          ==  orders by which B is the arrangement of A, from those that produce the least grid from each
 use mathlib.Core.Path.{_≡_, refl, sym, ap, _∙_}
 use mathlib.Core.List.{List, [], _∷_, List·Memᴰ, List·Memᴰ·head, List·Memᴰ·tail}
 use mathlib.Core.Bool.{Bool, true, false}
 use mathlib.Core.Logic.{_↔_}
-use Prim.Native.Nat.{ℕ, zero, suc, _*_, _≤_}
+use Prim.Native.Nat.{ℕ, zero, suc, _*_, _≤_, _<_}
 use native.Mathlib.Decide.{ℕ-discrete}
 use native.Mathlib.Omega.{arith}
-use lib.ListN.{length, take}
+use lib.ListN.{length, take, getD}
 use Rattle.permutations.specs.Permutations.{IsPermutation, identity, composed, inverse}
 use Rattle.permutations.specs.Padded.{padded}
 use Rattle.permutations.proofs.PermutationLaws.{inverse-permutation, composed-inverse}
-use Rattle.permutations.proofs.PaddedLaws.{padded-own}
+use Rattle.permutations.proofs.PaddedLaws.{length-padded, padded-from, padded-own}
 use Rattle.grids.specs.Grids.{IsGrid, capped, arrangement, OneClass, oneClass}
 use Rattle.grids.specs.Least.{least}
 use Rattle.grids.specs.Questions.{firstNo, Limits}
@@ -28,6 +30,7 @@ use Rattle.grids.proofs.LeastLaws.{least-is, least-in-class, one-class-one-leas
 use Rattle.grids.proofs.QuestionLaws.{grid-of, grid-capped, all-one, all-two, slices-pass}
 use Rattle.canonical.specs.Represent.{Produces, representQuestions, Represented}
 use Rattle.canonical.specs.Same.{sameQuestions, sameNumber, Compared}
+use Rattle.canonical.specs.Programs.{Representing, MeetsRepresent}
 use Rattle.canonical.specs.Demand2.{RepresentLeast}
 
 -- ---- what the questions ask
@@ -66,9 +69,10 @@ same-pass m n top a b = (to, back)
 
 -- ---- represent
 
-pub represent-least : RepresentLeast
-unfolding RepresentLeast
-represent-least m n top g out l i e number rows columns out′ r =
+pub represent-least : (f : Representing) → MeetsRepresent f → RepresentLeast f
+unfolding RepresentLeast MeetsRepresent
+represent-least f c m n top g out l i e =
+    let r = c m n top g out in
     let z = r .number-is ∙ represent-pass m n top g out .1 (l, i, e) in
     (z, rw (r .written z) (least-is m n g (i .cells)), rw (r .written z) (r .produced z))
 
@@ -221,3 +225,30 @@ same-answers m n top a b = go (ℕ-discrete (sameNumber m n top a b) 0)
         starting = λ ne. record { row-identity = refl; column-identity = refl };
       },
     )
+
+-- ---- what a caller reads off an answer
+
+pub represent-refused : (m n top : ℕ) (g out : List ℕ) (k : ℕ) → firstNo (representQuestions m n top g out) ≡ suc k →
+    (number : ℕ) (rows columns out′ : List ℕ) → Represented m n top g out number rows columns out′ →
+    (number ≡ suc k) × (rows ≡ identity 8) × (columns ≡ identity 16) × (out′ ≡ out)
+represent-refused m n top g out k e number rows columns out′ r =
+    let z = r .number-is ∙ e in
+    let s = r .starting (λ h. omega arith) in
+    (z, s .row-identity, s .column-identity, r .unchanged (λ h. omega arith))
+
+pub same-refused : (m n top : ℕ) (a b : List ℕ) (k : ℕ) → sameNumber m n top a b ≡ suc k →
+    (number : ℕ) (rows columns : List ℕ) → Compared m n top a b number rows columns →
+    (number ≡ suc k) × (rows ≡ identity 8) × (columns ≡ identity 16)
+same-refused m n top a b k e number rows columns r =
+    let z = r .number-is ∙ e in
+    let s = r .starting (λ h. omega arith) in
+    (z, s .row-identity, s .column-identity)
+
+pub produces-past : (m n : ℕ) (a b rows columns : List ℕ) → Produces m n a b rows columns →
+    (length rows ≡ 8) × (length columns ≡ 16) × ((i : ℕ) → i < 8 → m ≤ i → getD rows i 0 ≡ i) × ((j : ℕ) → j < 16 → n ≤ j → getD columns j 0 ≡ j)
+produces-past m n a b rows columns p = (
+  ap length (p .row-rest) ∙ length-padded 8 m (take m rows),
+  ap length (p .column-rest) ∙ length-padded 16 n (take n columns),
+  λ i h k. ap (λ (l : List ℕ). getD l i 0) (p .row-rest) ∙ padded-from 8 m (take m rows) i h k,
+  λ j h k. ap (λ (l : List ℕ). getD l j 0) (p .column-rest) ∙ padded-from 16 n (take n columns) j h k,
+)

@@ -1,6 +1,6 @@
 -- Demand 2's sentence on represent: the representative is the row-wise least of all arrangements, and the two orders returned produce it.
 --
---   RepresentLeast  ==  the statement, of every answer that represent may give to a grid within the limits and an output slice of its length
+--   RepresentLeast f  ==  the sentence, of a program for represent: for every grid within the limits and every output slice of its length
 use mathlib.Core.Path.{_≡_}
 use mathlib.Core.List.{List}
 use Prim.Native.Nat.{ℕ, _*_}
@@ -8,10 +8,12 @@ use lib.ListN.{length}
 use Rattle.grids.specs.Grids.{IsGrid}
 use Rattle.grids.specs.Least.{IsLeast}
 use Rattle.grids.specs.Questions.{Limits}
-use Rattle.canonical.specs.Represent.{Produces, Represented}
+use Rattle.canonical.specs.Represent.{Produces}
+use Rattle.canonical.specs.Programs.{Representing}
 
-unfoldable pub RepresentLeast : Type 0
-RepresentLeast =
+unfoldable pub RepresentLeast : Representing → Type 0
+RepresentLeast f =
     (m n top : ℕ) (g out : List ℕ) → Limits m n top → IsGrid m n top g → length out ≡ m * n →
-    (number : ℕ) (rows columns out′ : List ℕ) → Represented m n top g out number rows columns out′ →
-    (number ≡ 0) × IsLeast m n g out′ × Produces m n g out′ rows columns
+    (f m n top g out .number ≡ 0)
+    × IsLeast m n g (f m n top g out .out)
+    × Produces m n g (f m n top g out .out) (f m n top g out .rows) (f m n top g out .columns)

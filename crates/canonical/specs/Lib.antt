@@ -1,5 +1,6 @@
 pub mod Represent
 pub mod Same
+pub mod Programs
 pub mod Demand2
 pub mod Search
 pub mod Blocks

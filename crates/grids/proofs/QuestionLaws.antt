@@ -29,19 +29,17 @@ use native.Mathlib.Omega.{arith}
 use lib.ListN.{length, getD}
 use lib.Dec.{leb, eqb}
 use borrow.Author.Tests.{leb-true, le-leb, eqb-true, eq-eqb}
-use Rattle.permutations.specs.Lists.{every}
+use Rattle.permutations.specs.Lists.{every, All}
 use Rattle.permutations.proofs.BoolLaws.{and-yes, yes-and}
 use Rattle.permutations.proofs.ListLaws.{every-at, at-every, mem-at, of-mem}
 use Rattle.grids.specs.Grids.{IsGrid, capped, isGrid}
 use Rattle.grids.specs.Questions.{Question, firstNo, inRange, Limits, question1, question2, question3, question6, question7, shapeNo}
 
 abbrev pub AllYes : List Question → Type 0
-AllYes [] = Unit {0}
-AllYes (q ∷ l) = (q .answer ≡ true) × AllYes l
+AllYes l = All (λ q. q .answer ≡ true) l
 
 abbrev pub EachNumber : (ℕ → Type 0) → List Question → Type 0
-EachNumber P [] = Unit {0}
-EachNumber P (q ∷ l) = P (q .number) × EachNumber P l
+EachNumber P l = All (λ q. P (q .number)) l
 
 abbrev pub Numbered : List Question → Type 0
 Numbered l = EachNumber (λ k. 0 < k) l

@@ -1,2 +1,1 @@
 pub mod MarkedPlans
-pub mod Edges

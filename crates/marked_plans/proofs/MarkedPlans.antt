@@ -15,9 +15,9 @@ use Rattle.bounds.specs.Bounds.{ranksWithin, between, fillings, gridsWithin}
 use Rattle.bounds.specs.Kept.{obeyed, keeps, keptValues, lowestFrom, lowest, highestFrom, highest, keptLow, keptHigh, removedValues, removed}
 use Rattle.bounds.specs.Allperm.{allperm}
 use Rattle.bounds.specs.Prune.{question8, boundsQuestions, prunedYes, pruned}
-use Rattle.marked_plans.specs.MarkedPlans.{Holds, All, table, MarkedPlans}
+use Rattle.marked_plans.specs.MarkedPlans.{Holds, table, MarkedPlans}
 
 pub marked-plans : MarkedPlans
-unfolding MarkedPlans All Holds table tabulate numbers select every some occurrences flatMap isPermutation words permutations rank leq equal gridOf row permutedRow arrangement oneClass arrangements lesser leastOf least firstNo inRange capped question1 question2 question3 question6 question7 representQuestions sameQuestions sameNumber ranksWithin between fillings gridsWithin obeyed keeps keptValues lowestFrom lowest highestFrom highest keptLow keptHigh removedValues removed allperm question8 boundsQuestions prunedYes pruned
+unfolding MarkedPlans Holds table tabulate numbers select every some occurrences flatMap isPermutation words permutations rank leq equal gridOf row permutedRow arrangement oneClass arrangements lesser leastOf least firstNo inRange capped question1 question2 question3 question6 question7 representQuestions sameQuestions sameNumber ranksWithin between fillings gridsWithin obeyed keeps keptValues lowestFrom lowest highestFrom highest keptLow keptHigh removedValues removed allperm question8 boundsQuestions prunedYes pruned
 marked-plans =
     ((refl, refl), ((refl, refl, refl), ((refl, refl), ((refl, refl), ((refl, refl), ((refl, refl), (refl, (refl, (refl, (refl, (refl, tt)))))))))))

@@ -2,13 +2,13 @@
 --
 --   Case         ==  a marked plan's kind, its arguments and what is to come out
 --   Holds c      ==  what the definitions say of the case
---   All P l      ==  P holds of every element of l
 --   table        ==  the marked plans
 --   MarkedPlans  ==  the statement: every case holds
 use mathlib.Core.Path.{_≡_}
 use mathlib.Core.List.{List, [], _∷_}
 use mathlib.Core.Bool.{Bool, true, false}
 use Prim.Native.Nat.{ℕ}
+use Rattle.permutations.specs.Lists.{All}
 use Rattle.permutations.specs.Permutations.{isPermutation}
 use Rattle.grids.specs.Grids.{arrangement}
 use Rattle.grids.specs.Least.{least}
@@ -36,10 +36,6 @@ Holds (produces m n g p q r) = (isPermutation m p ≡ true) × (isPermutation n 
 Holds (compares m n top a b number) = sameNumber m n top a b ≡ number
 Holds (satisfies m n g answer) = allperm m n g ≡ answer
 Holds (prunes m n top low high outcome) = pruned m n top low high ≡ outcome
-
-unfoldable pub All : {A : Type 0} → (A → Type 0) → List A → Type 0
-All P [] = Unit {0}
-All P (c ∷ l) = P c × All P l
 
 unfoldable pub table : List Case
 table =

@@ -10,6 +10,7 @@
 --   in-flatMap, of-flatMap                       ==  membership in lists put one after another
 --   select-yes, select-no, in-select, of-select, select-ext, select-none, length-select, select-split, select-within  ==  the elements that pass a test
 --   every-at, at-every                           ==  a test that every element passes
+--   every-all                                    ==  what a test shows of each element holds of all
 --   some-at, at-some                             ==  a test that some element passes
 --   occurs-at, once-occurs                       ==  a number that occurs stands somewhere; one that stands at one index alone occurs once
 use mathlib.Core.Path.{_≡_, refl, sym, ap, _∙_}
@@ -24,7 +25,7 @@ use lib.ListN.{length, getD, take, length-append}
 use lib.Seq.{ext-getD, take-at}
 use lib.Dec.{eqb}
 use borrow.Author.Tests.{eq-eqb, ne-eqb, eqb-true}
-use Rattle.permutations.specs.Lists.{tabulate, numbers, select, every, some, occurrences}
+use Rattle.permutations.specs.Lists.{tabulate, numbers, select, every, some, All, occurrences}
 use Rattle.permutations.proofs.BoolLaws.{and-yes, yes-and, or-yes, bool-ext}
 
 module _ {ℓ} {A : Type ℓ} where
@@ -193,6 +194,11 @@ module _ {ℓ} {A : Type ℓ} where
   unfolding every
   at-every t [] h = refl
   at-every t (y ∷ l) h = rw (h y (List·Memᴰ·head refl)) (at-every t l (λ x k. h x (List·Memᴰ·tail k)))
+
+  pub every-all : (P : A → Type 0) (t : A → Bool) → ((x : A) → t x ≡ true → P x) → (l : List A) → every t l ≡ true → All P l
+  unfolding every
+  every-all P t h [] e = tt
+  every-all P t h (x ∷ l) e = let p = and-yes (t x) (every t l) e in (h x (p .0), every-all P t h l (p .1))
 
   pub some-at : (t : A → Bool) (l : List A) → some t l ≡ true → (x : A) × List·Memᴰ x l × (t x ≡ true)
   unfolding some

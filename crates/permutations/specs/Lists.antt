@@ -5,6 +5,7 @@
 --   select t l       ==  the elements of l that pass the test t
 --   every t l        ==  every element of l passes the test t
 --   some t l         ==  some element of l passes the test t
+--   All P l          ==  P holds of every element of l
 --   occurrences k l  ==  how often the number k stands in l
 use mathlib.Core.List.{List, [], _∷_}
 use mathlib.Core.Bool.{Bool, true, false, _&&_, _||_}
@@ -28,6 +29,10 @@ module _ {ℓ} {A : Type ℓ} where
   unfoldable pub some : (A → Bool) → List A → Bool
   some t [] = false
   some t (x ∷ l) = t x || some t l
+
+  abbrev pub All : (A → Type 0) → List A → Type 0
+  All P [] = Unit {0}
+  All P (x ∷ l) = P x × All P l
 
 unfoldable pub numbers : ℕ → List ℕ
 numbers n = tabulate 0 n (λ i. i)

@@ -1,0 +1,195 @@
+-- A register's layout reads back as itself.
+--
+--   Wide w ls         ==  every list of ls is w long
+--   piece, length-flatten  ==  one of several pieces of one length, put one after another
+--   length-fields, fields-read  ==  numbers in fields of one width, and each read back
+--   length-entry, length-blank, length-head, length-layout  ==  the lengths of the lines and of the whole
+--   Printable r       ==  the numbers and cells of r fit their fields
+--   decode-layout     ==  what the layout of a printable register states is that register
+--   count-layout      ==  its count
+use mathlib.Core.Path.{_≡_, refl, sym, ap, ap₂, _∙_}
+use mathlib.Core.List.{List, [], _∷_, _++_, map, flatten, append-assoc, List·Memᴰ, List·Memᴰ·head, List·Memᴰ·tail, List·Memᴰ·not-nil, List·Memᴰ·cases-cons, Memᴰ·of-map}
+use mathlib.Core.Logic.{_⊎_, inl, inr}
+use Prim.Native.Nat.{ℕ, zero, suc, _+_, _-_, _*_, _^_, _≤_, _<_}
+use native.Mathlib.Nat.{mul-comm, zero-mul, add-mul}
+use native.Mathlib.Omega.{arith}
+use lib.ListN.{length, getD, take, drop, replicate, length-append, length-map, length-replicate}
+use lib.Seq.{take-at, drop-at, drop-drop, drop-cons}
+use Rattle.permutations.specs.Lists.{tabulate}
+use Rattle.permutations.proofs.ListLaws.{tabulate-is, mem-at, at-map}
+use Rattle.layout.specs.Decimal.{field, value}
+use Rattle.layout.specs.Layout.{Shape, Register, cells, fields, headLength, entryWidth, lineLength, entryLine, blankLine, headLine, layout, layoutLength, numberAt, count, entryAt, decodeShape, decode}
+use Rattle.layout.proofs.DecimalLaws.{value-field, length-field}
+
+-- ---- pieces of one length
+
+abbrev pub Wide : {A : Type 0} → ℕ → List (List A) → Type 0
+Wide {A} w ls = (l : List A) → List·Memᴰ l ls → length l ≡ w
+
+module _ {A : Type 0} where
+  drop-flatten : (w : ℕ) (ls : List (List A)) (t : List A) → Wide w ls → (e : ℕ) → e ≤ length ls → drop (e * w) (flatten ls ++ t) ≡ flatten (drop e ls) ++ t
+  unfolding flatten
+  drop-flatten w ls t h zero le = rw (zero-mul w)
+  drop-flatten w [] t h (suc e) le = absurd (omega arith)
+  drop-flatten w (l ∷ ls) t h (suc e) le =
+      let p : suc e * w ≡ w + e * w = omega arith in
+      rw (p, ← (drop-drop (e * w) w ((l ++ flatten ls) ++ t)), append-assoc, drop-at l (flatten ls ++ t) w (h l (List·Memᴰ·head refl)))
+      (drop-flatten w ls t (λ x k. h x (List·Memᴰ·tail k)) e (omega arith))
+
+  pub piece : (w : ℕ) (ls : List (List A)) (t : List A) → Wide w ls → (e : ℕ) → e < length ls → (u : List A) × (drop (e * w) (flatten ls ++ t) ≡ getD ls e [] ++ u)
+  unfolding flatten
+  piece w ls t h e le = (
+    flatten (drop (suc e) ls) ++ t,
+    drop-flatten w ls t h e (omega arith) ∙ rw (drop-cons ls e [] le) (append-assoc (getD ls e []) (flatten (drop (suc e) ls)) t),
+  )
+
+  pub length-flatten : (w : ℕ) (ls : List (List A)) → Wide w ls → length (flatten ls) ≡ length ls * w
+  unfolding flatten
+  length-flatten w [] h = sym (zero-mul w)
+  length-flatten w (l ∷ ls) h = length-append l (flatten ls) ∙ omega (arith, h l (List·Memᴰ·head refl), length-flatten w ls (λ x k. h x (List·Memᴰ·tail k)))
+
+wide-map : {A B : Type 0} (f : A → List B) (w : ℕ) (l : List A) → ((a : A) → List·Memᴰ a l → length (f a) ≡ w) → Wide w (map f l)
+wide-map f w l h x k = let r = Memᴰ·of-map f l k in ap length (sym (r .2)) ∙ h (r .0) (r .1)
+
+of-replicate : {A : Type 0} (n : ℕ) (a x : A) → List·Memᴰ x (replicate n a) → x ≡ a
+of-replicate zero a x m = absurd (List·Memᴰ·not-nil m)
+of-replicate (suc n) a x m = go (of-replicate n a x) (List·Memᴰ·cases-cons m)
+  where
+    go : (List·Memᴰ x (replicate n a) → x ≡ a) → (x ≡ a) ⊎ List·Memᴰ x (replicate n a) → x ≡ a
+    go ih (inl e) = e
+    go ih (inr k) = ih k
+
+-- ---- fields of one width
+
+wide-fields : (w : ℕ) (l : List ℕ) → Wide w (map (field w) l)
+wide-fields w l = wide-map (field w) w l (λ x m. length-field w x)
+
+pub length-fields : (w : ℕ) (l : List ℕ) → length (fields w l) ≡ length l * w
+unfolding fields
+length-fields w l = length-flatten w (map (field w) l) (wide-fields w l) ∙ ap (λ (k : ℕ). k * w) (length-map l (field w))
+
+pub fields-read : (w : ℕ) (l t : List ℕ) (i : ℕ) → i < length l → getD l i 0 < 10 ^ suc w → value (take (suc w) (drop (i * suc w) (fields (suc w) l ++ t))) ≡ getD l i 0
+unfolding fields
+fields-read w l t i h small =
+    let p = piece (suc w) (map (field (suc w)) l) t (wide-fields (suc w) l) i (omega (arith, length-map l (field (suc w)))) in
+    rw (p .1, at-map (field (suc w)) l i 0 [] h, take-at (field (suc w) (getD l i 0)) (p .0) (suc w) (length-field (suc w) (getD l i 0)))
+    (value-field w (getD l i 0) small)
+
+-- ---- lines
+
+pub length-entry : (g : List ℕ) → length (entryLine g) ≡ lineLength (length g)
+unfolding entryLine lineLength entryWidth
+length-entry g = length-append (fields 3 g) (10 ∷ []) ∙ omega (arith, length-fields 3 g)
+
+pub length-blank : (size : ℕ) → length (blankLine size) ≡ lineLength size
+unfolding blankLine lineLength
+length-blank size = length-append (replicate (entryWidth size) 32) (10 ∷ []) ∙ omega (arith, length-replicate {A = ℕ} (entryWidth size) 32)
+
+pub length-head : (s : Shape) (n : ℕ) → length (headLine s n) ≡ headLength
+unfolding headLine
+length-head s n = length-append (fields 6 (s .rows ∷ s .columns ∷ s .top ∷ s .capacity ∷ n ∷ [])) (10 ∷ []) ∙ omega (arith, length-fields 6 (s .rows ∷ s .columns ∷ s .top ∷ s .capacity ∷ n ∷ []))
+
+cell-read : (g u : List ℕ) (k : ℕ) → k < length g → getD g k 0 < 1000 → value (take 3 (drop (3 * k) (entryLine g ++ u))) ≡ getD g k 0
+unfolding entryLine
+cell-read g u k h small = rw (mul-comm 3 k, append-assoc) (fields-read 2 g ((10 ∷ []) ++ u) k h small)
+
+-- ---- the whole register
+
+pub record Printable (r : Register) : Type 0 where
+  pub rows-small : r .shape .rows < 1000000
+  pub columns-small : r .shape .columns < 1000000
+  pub top-small : r .shape .top < 1000000
+  pub capacity-small : r .shape .capacity < 1000000
+  pub count-small : length (r .entries) < 1000000
+  pub entries-sized : (g : List ℕ) → List·Memᴰ g (r .entries) → length g ≡ cells (r .shape)
+  pub entries-small : (g : List ℕ) → List·Memᴰ g (r .entries) → (k : ℕ) → k < length g → getD g k 0 < 1000
+
+-- the number at place i of line 1
+head-read : (s : Shape) (n : ℕ) (t : List ℕ) (i : ℕ) → i < 5 → getD (s .rows ∷ s .columns ∷ s .top ∷ s .capacity ∷ n ∷ []) i 0 < 1000000 →
+    numberAt 6 (i * 6) (headLine s n ++ t) ≡ getD (s .rows ∷ s .columns ∷ s .top ∷ s .capacity ∷ n ∷ []) i 0
+unfolding numberAt headLine
+head-read s n t i h small = rw append-assoc (fields-read 5 (s .rows ∷ s .columns ∷ s .top ∷ s .capacity ∷ n ∷ []) ((10 ∷ []) ++ t) i h small)
+
+-- entry e of the body is read back
+entry-read : (size : ℕ) (es : List (List ℕ)) (b blanks : List ℕ) → drop headLength b ≡ flatten (map entryLine es) ++ blanks →
+    ((g : List ℕ) → List·Memᴰ g es → length g ≡ size) → ((g : List ℕ) → List·Memᴰ g es → (k : ℕ) → k < length g → getD g k 0 < 1000) →
+    (e : ℕ) → e < length es → entryAt size b e ≡ getD es e []
+unfolding entryAt numberAt
+entry-read size es b blanks p sized small e h =
+    tabulate-is 0 (getD es e []) size _ (sized (getD es e []) (mem-at es [] e h)) λ k c. sym (one k c)
+  where
+    line : ℕ
+    line = lineLength size
+
+    q : (u : List ℕ) × (drop (e * line) (flatten (map entryLine es) ++ blanks) ≡ getD (map entryLine es) e [] ++ u)
+    q = piece line (map entryLine es) blanks (wide-map entryLine line es (λ g m. length-entry g ∙ ap lineLength (sized g m))) e (omega (arith, length-map es entryLine))
+
+    one : (k : ℕ) → k < size → value (take 3 (drop (headLength + e * lineLength size + 3 * k) b)) ≡ getD (getD es e []) k 0
+    one k c =
+        let l = sized (getD es e []) (mem-at es [] e h) in
+        rw (← (drop-drop (3 * k) (headLength + e * lineLength size) b), ← (drop-drop (e * lineLength size) headLength b), p, q .1, at-map entryLine es e [] [] h)
+        (cell-read (getD es e []) (q .0) k (omega arith) (small (getD es e []) (mem-at es [] e h) k (omega arith)))
+
+module _ (r : Register) (p : Printable r) where
+  body : List ℕ
+  body = flatten (map entryLine (r .entries)) ++ flatten (replicate (r .shape .capacity - length (r .entries)) (blankLine (cells (r .shape))))
+
+  shape-read : decodeShape (layout r) ≡ r .shape
+  unfolding decodeShape layout body
+  shape-read = λ i. record {
+    rows = head-read (r .shape) (length (r .entries)) body 0 (omega arith) (p .rows-small) i;
+    columns = head-read (r .shape) (length (r .entries)) body 1 (omega arith) (p .columns-small) i;
+    top = head-read (r .shape) (length (r .entries)) body 2 (omega arith) (p .top-small) i;
+    capacity = head-read (r .shape) (length (r .entries)) body 3 (omega arith) (p .capacity-small) i;
+  }
+
+  pub count-layout : count (layout r) ≡ length (r .entries)
+  unfolding count layout body
+  count-layout = head-read (r .shape) (length (r .entries)) body 4 (omega arith) (p .count-small)
+
+  past-head : drop headLength (layout r) ≡ body
+  unfolding layout body
+  past-head = drop-at (headLine (r .shape) (length (r .entries))) body headLength (length-head (r .shape) (length (r .entries)))
+
+  entries-read : tabulate 0 (count (layout r)) (entryAt (cells (decodeShape (layout r))) (layout r)) ≡ r .entries
+  unfolding body
+  entries-read =
+      rw (count-layout, shape-read)
+      (tabulate-is [] (r .entries) (length (r .entries)) _ refl (λ e h. sym (entry-read (cells (r .shape)) (r .entries) (layout r) _ past-head (p .entries-sized) (p .entries-small) e h)))
+
+  pub decode-layout : decode (layout r) ≡ r
+  unfolding decode
+  decode-layout = λ i. record { shape = shape-read i; entries = entries-read i }
+
+-- as many bytes as the shape says
+pub length-layout : (r : Register) → ((g : List ℕ) → List·Memᴰ g (r .entries) → length g ≡ cells (r .shape)) → length (r .entries) ≤ r .shape .capacity → length (layout r) ≡ layoutLength (r .shape)
+unfolding layout layoutLength
+length-layout r sized fits =
+    length-append (headLine (r .shape) n) (flatten (map entryLine (r .entries)) ++ blanks)
+    ∙ ap₂ _+_ (length-head (r .shape) n)
+    (length-append (flatten (map entryLine (r .entries))) blanks ∙ ap₂ _+_ lines rest ∙ sym (add-mul n (c - n) line) ∙ ap (λ (x : ℕ). x * line) whole)
+  where
+    n : ℕ
+    n = length (r .entries)
+
+    c : ℕ
+    c = r .shape .capacity
+
+    line : ℕ
+    line = lineLength (cells (r .shape))
+
+    blanks : List ℕ
+    blanks = flatten (replicate (c - n) (blankLine (cells (r .shape))))
+
+    whole : n + (c - n) ≡ c
+    whole = omega arith
+
+    lines : length (flatten (map entryLine (r .entries))) ≡ n * line
+    lines =
+        length-flatten line (map entryLine (r .entries)) (wide-map entryLine line (r .entries) (λ g m. length-entry g ∙ ap lineLength (sized g m)))
+        ∙ ap (λ (x : ℕ). x * line) (length-map (r .entries) entryLine)
+
+    rest : length blanks ≡ (c - n) * line
+    rest =
+        length-flatten line (replicate (c - n) (blankLine (cells (r .shape)))) (λ l m. ap length (of-replicate (c - n) (blankLine (cells (r .shape))) l m) ∙ length-blank (cells (r .shape)))
+        ∙ ap (λ (x : ℕ). x * line) (length-replicate (c - n) (blankLine (cells (r .shape))))

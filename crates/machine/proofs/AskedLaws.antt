@@ -1,0 +1,110 @@
+-- What the register's calls ask, exactly: which arguments pass every question.
+--
+--   grid-pass    ==  questions 6 and 7 of a grid: it is one
+--   open-pass    ==  open's: the limits, and a slice of the exact length
+--   enter-pass   ==  enter's: a register, a grid, and its class held or room for it
+--   strike-pass  ==  strike's: a register, a grid, and its class held
+--   fit-pass     ==  fit's: a register, and bounds
+use mathlib.Core.Path.{_≡_, refl}
+use mathlib.Core.List.{List, [], _∷_, _++_, List·Memᴰ·head}
+use mathlib.Core.Bool.{true, _||_}
+use mathlib.Core.Logic.{_↔_}
+use Prim.Native.Nat.{ℕ, _<_}
+use native.Mathlib.Omega.{arith}
+use lib.ListN.{length}
+use lib.Dec.{ltb}
+use Rattle.grids.specs.Grids.{IsGrid, capped}
+use Rattle.grids.specs.Questions.{Question, firstNo, question1, question2, question3, question6, question7}
+use Rattle.grids.proofs.QuestionLaws.{AllYes, Numbered, first-no-zero, range-yes, yes-range, grid-of, grid-capped, all-one, limits-asked, lengths-asked, cells-asked}
+use Rattle.bounds.specs.Bounds.{IsBounds}
+use Rattle.bounds.proofs.BoundsLaws.{bounds-asked, bounds-numbered}
+use Rattle.layout.specs.Layout.{Shape, Register, cells, layoutLength, InLimits, laidOut}
+use Rattle.machine.specs.Calls.{question4, question5, gridQuestions, holds, question9, question10, openQuestions, enterQuestions, strikeQuestions, fitQuestions}
+
+-- ---- a grid's questions
+
+grid-yes : (s : Shape) (g : List ℕ) → (question6 (cells s) (g ∷ []) .answer ≡ true) → (question7 (s .top) (g ∷ []) .answer ≡ true) → IsGrid (s .rows) (s .columns) (s .top) g
+grid-yes s g p q =
+    grid-of (s .rows) (s .columns) (s .top) g (lengths-asked (cells s) (g ∷ []) .0 p g (List·Memᴰ·head refl)) (cells-asked (s .top) (g ∷ []) .0 q g (List·Memᴰ·head refl))
+
+yes-length : (s : Shape) (g : List ℕ) → IsGrid (s .rows) (s .columns) (s .top) g → question6 (cells s) (g ∷ []) .answer ≡ true
+yes-length s g i = lengths-asked (cells s) (g ∷ []) .1 (all-one (λ x. length x ≡ cells s) g (i .cells))
+
+yes-cells : (s : Shape) (g : List ℕ) → IsGrid (s .rows) (s .columns) (s .top) g → question7 (s .top) (g ∷ []) .answer ≡ true
+yes-cells s g i = cells-asked (s .top) (g ∷ []) .1 (all-one (λ x. capped (s .top) x ≡ true) g (grid-capped (s .rows) (s .columns) (s .top) g i))
+
+grid-numbered : (s : Shape) (g : List ℕ) → Numbered (gridQuestions s g)
+unfolding gridQuestions question6 question7
+grid-numbered s g = (omega arith, (omega arith, tt))
+
+pub grid-pass : (s : Shape) (g : List ℕ) → (firstNo (gridQuestions s g) ≡ 0) ↔ IsGrid (s .rows) (s .columns) (s .top) g
+unfolding gridQuestions
+grid-pass s g =
+    let z = first-no-zero (gridQuestions s g) (grid-numbered s g) in
+    (λ e. let h = z .0 e in grid-yes s g (h .0) (h .1 .0), λ i. z .1 (yes-length s g i, (yes-cells s g i, tt)))
+
+-- ---- open
+
+open-numbered : (s : Shape) (b : List ℕ) → Numbered (openQuestions s b)
+unfolding openQuestions question1 question2 question3 question4 question6
+open-numbered s b = (omega arith, (omega arith, (omega arith, (omega arith, (omega arith, tt)))))
+
+pub open-pass : (s : Shape) (b : List ℕ) → (firstNo (openQuestions s b) ≡ 0) ↔ (InLimits s × (length b ≡ layoutLength s))
+unfolding openQuestions question4
+open-pass s b = (to, back)
+  where
+    rest : List Question
+    rest = question4 (s .capacity) ∷ question6 (layoutLength s) (b ∷ []) ∷ []
+
+    zeros : (firstNo (openQuestions s b) ≡ 0) ↔ AllYes (openQuestions s b)
+    zeros = first-no-zero (openQuestions s b) (open-numbered s b)
+
+    to : firstNo (openQuestions s b) ≡ 0 → InLimits s × (length b ≡ layoutLength s)
+    to e =
+        let h = limits-asked (s .rows) (s .columns) (s .top) rest .0 (zeros .0 e) in
+        (record { grid-limits = h .0; capacity-limits = range-yes 1 500 (s .capacity) (h .1 .0) }, lengths-asked (layoutLength s) (b ∷ []) .0 (h .1 .1 .0) b (List·Memᴰ·head refl))
+
+    back : InLimits s × (length b ≡ layoutLength s) → firstNo (openQuestions s b) ≡ 0
+    back h =
+        zeros .1 (limits-asked (s .rows) (s .columns) (s .top) rest .1 (
+          h .0 .grid-limits,
+          (yes-range 1 500 (s .capacity) (h .0 .capacity-limits), (lengths-asked (layoutLength s) (b ∷ []) .1 (all-one (λ x. length x ≡ layoutLength s) b (h .1)), tt)),
+        ))
+
+-- ---- enter, strike and fit
+
+-- question 5, a grid's questions, and one more
+then-numbered : (b : List ℕ) (s : Shape) (g : List ℕ) (q : Question) → 0 < q .number → Numbered (question5 b ∷ (gridQuestions s g ++ (q ∷ [])))
+unfolding gridQuestions question5 question6 question7
+then-numbered b s g q h = (omega arith, (omega arith, (omega arith, (h, tt))))
+
+then-pass : (b : List ℕ) (s : Shape) (g : List ℕ) (q : Question) → 0 < q .number →
+    (firstNo (question5 b ∷ (gridQuestions s g ++ (q ∷ []))) ≡ 0) ↔ ((laidOut b ≡ true) × IsGrid (s .rows) (s .columns) (s .top) g × (q .answer ≡ true))
+unfolding gridQuestions question5
+then-pass b s g q n =
+    let z = first-no-zero (question5 b ∷ (gridQuestions s g ++ (q ∷ []))) (then-numbered b s g q n) in (
+      λ e. let h = z .0 e in (h .0, grid-yes s g (h .1 .0) (h .1 .1 .0), h .1 .1 .1 .0),
+      λ h. z .1 (h .0, (yes-length s g (h .1), (yes-cells s g (h .1), (h .2, tt)))),
+    )
+
+module _ (b : List ℕ) (x : Register) (g r : List ℕ) where
+  pub enter-pass : (firstNo (enterQuestions b x g r) ≡ 0)
+      ↔ ((laidOut b ≡ true) × IsGrid (x .shape .rows) (x .shape .columns) (x .shape .top) g × ((holds r (x .entries) || ltb (length (x .entries)) (x .shape .capacity)) ≡ true))
+  unfolding enterQuestions question9
+  enter-pass = then-pass b (x .shape) g (question9 x r) (omega arith)
+
+  pub strike-pass : (firstNo (strikeQuestions b x g r) ≡ 0)
+      ↔ ((laidOut b ≡ true) × IsGrid (x .shape .rows) (x .shape .columns) (x .shape .top) g × (holds r (x .entries) ≡ true))
+  unfolding strikeQuestions question10
+  strike-pass = then-pass b (x .shape) g (question10 x r) (omega arith)
+
+fit-numbered : (b : List ℕ) (x : Register) (low high : List ℕ) → Numbered (fitQuestions b x low high)
+unfolding fitQuestions question5
+fit-numbered b x low high = (omega arith, bounds-numbered (cells (x .shape)) (x .shape .top) low high)
+
+pub fit-pass : (b : List ℕ) (x : Register) (low high : List ℕ) → (firstNo (fitQuestions b x low high) ≡ 0) ↔ ((laidOut b ≡ true) × IsBounds (cells (x .shape)) (x .shape .top) low high)
+unfolding fitQuestions question5
+fit-pass b x low high =
+    let z = first-no-zero (fitQuestions b x low high) (fit-numbered b x low high) in
+    let a = bounds-asked (cells (x .shape)) (x .shape .top) low high in
+    (λ e. let h = z .0 e in (h .0, a .0 (h .1)), λ h. z .1 (h .0, a .1 (h .1)))

@@ -1,0 +1,18 @@
+-- An implementation whose calls meet their contracts is, call by call, the one of specs/Calls.
+--
+--   meets-same  ==  the two implementations are equal
+--   meets-has   ==  so what is proved of the one is proved of the other
+use mathlib.Core.Path.{_≡_, sym, subst}
+use Rattle.machine.specs.CallLists.{Implementation, registerCalls, Meets}
+
+pub meets-same : (i : Implementation) → Meets i → i ≡ registerCalls
+unfolding registerCalls
+meets-same i h = λ k. record {
+  opens = λ s b. h .opens s b k;
+  enters = λ b g. h .enters b g k;
+  strikes = λ b g. h .strikes b g k;
+  fits = λ b low high. h .fits b low high k;
+}
+
+pub meets-has : (P : Implementation → Type 0) (i : Implementation) → Meets i → P registerCalls → P i
+meets-has P i h p = subst P (sym (meets-same i h)) p

@@ -1,0 +1,250 @@
+-- Demand 3, proved of every implementation that meets the calls' contracts.
+--
+--   call-same            ==  each call on the machine's bytes answers and leaves what the machine does
+--   run-same, left-shown ==  the same of whole lists
+--   step-not-5, never-five  ==  question 5 never gets a no
+--   open-answers         ==  an open whose questions all get a yes answers 0
+--   opened-good, opened-shown  ==  after an open that answered 0: the empty set and its bytes
+--   fit-counts           ==  an accepted fit counts the classes whose least grid lies in the bounds as sent
+--   shown-count          ==  the machine's bytes state the size of its set
+--   shown-inj            ==  equal bytes, equal sets
+--   moved                ==  what one list of live classes has, another with the same live classes has
+--   demand3              ==  the demand
+use mathlib.Core.Path.{_≡_, refl, sym, ap, _∙_}
+use mathlib.Core.List.{List, [], _∷_, List·Memᴰ, Memᴰ·cast}
+use mathlib.Core.Bool.{Bool, true, false, true≢false, not}
+use mathlib.Core.Logic.{_↔_}
+use Prim.Native.Nat.{ℕ, zero, suc, _*_}
+use native.Mathlib.Omega.{arith}
+use lib.ListN.{length}
+use lib.Dec.{ltb, eqb}
+use Rattle.permutations.specs.Lists.{select, every}
+use Rattle.permutations.proofs.ListLaws.{select-none}
+use Rattle.grids.specs.Questions.{firstNo, question6, question7}
+use Rattle.machine.proofs.AskedLaws.{open-pass}
+use Rattle.machine.proofs.CallListLaws.{meets-has}
+use Rattle.grids.proofs.QuestionLaws.{firstNo-has}
+use Rattle.bounds.specs.Bounds.{inBounds}
+use Rattle.bounds.specs.Kept.{Obeyed, obeyed}
+use Rattle.bounds.specs.Allperm.{Allperm, allperm}
+use Rattle.bounds.specs.Prune.{boundsQuestions, question8}
+use Rattle.bounds.proofs.KeptLaws.{obeyed-decides}
+use Rattle.bounds.proofs.AllpermLaws.{allperm-decides, least-allperm}
+use Rattle.bounds.proofs.PruneLaws.{none-in-bounds}
+use Rattle.layout.specs.Layout.{Shape, Register, cells, layout, layoutLength, count, decode, InLimits}
+use Rattle.machine.specs.Calls.{Outcome, answered, gridQuestions, leastIn, holds, opened, fitted}
+use Rattle.machine.specs.CallLists.{Call, enter, strike, fit, Implementation, registerCalls, Meets, called, run, left, accepted}
+use Rattle.machine.specs.Machine.{sorted, shown, Step, stepUnless, enterClass, strikeClass, fitClasses, step, outcome, outcomes}
+use Rattle.machine.specs.Demand3.{live, ListsLive, AfterOpen, Demand3}
+use Rattle.layout.proofs.LayoutLaws.{count-layout}
+use Rattle.layout.proofs.RegisterLaws.{register-printable}
+use Rattle.machine.proofs.SortedLaws.{Grids, asc-ext, in-sorted, of-sorted, sorted-asc, length-sorted, holds-sorted}
+use Rattle.machine.proofs.MachineLaws.{Good, empty-good, registerOf, good-register, reads, self-least, enter-same, strike-same, fit-same, step-good, afterwards, afterwards-good}
+use Rattle.machine.proofs.LiveLaws.{bounds-refused, live-machine, lists-held}
+
+-- ---- whole lists
+
+pub call-same : (s : Shape) (l : Grids) → Good s l → (c : Call) → called registerCalls (shown s l) c ≡ outcome s (step s l c)
+unfolding called registerCalls step
+call-same s l g (enter a) = enter-same s l g a
+call-same s l g (strike a) = strike-same s l g a
+call-same s l g (fit low high) = fit-same s l g low high
+
+pub run-same : (s : Shape) (calls : List Call) (l : Grids) → Good s l → run registerCalls (shown s l) calls ≡ outcomes s l calls
+unfolding run outcomes outcome
+run-same s [] l g = refl
+run-same s (c ∷ calls) l g =
+    ap (λ (o : Outcome). o ∷ run registerCalls (o .bytes) calls) (call-same s l g c) ∙ ap (λ (x : List Outcome). outcome s (step s l c) ∷ x) (run-same s calls (step s l c .next) (step-good s l g c))
+
+pub left-shown : (s : Shape) (calls : List Call) (l : Grids) → Good s l → left registerCalls (shown s l) calls ≡ shown s (afterwards s l calls)
+unfolding left afterwards outcome
+left-shown s [] l g = refl
+left-shown s (c ∷ calls) l g = ap (λ (o : Outcome). left registerCalls (o .bytes) calls) (call-same s l g c) ∙ left-shown s calls (step s l c .next) (step-good s l g c)
+
+-- ---- question 5 never gets a no
+
+enter-not-5 : (s : Shape) (l : Grids) (r : List ℕ) → eqb (enterClass s l r .number) 5 ≡ false
+unfolding enterClass
+enter-not-5 s l r = go (holds r l) refl (ltb (length l) (s .capacity)) refl
+  where
+    go : (h : Bool) → holds r l ≡ h → (f : Bool) → ltb (length l) (s .capacity) ≡ f → eqb (enterClass s l r .number) 5 ≡ false
+    go true h f e = rw (h, enterClass)
+    go false h true e = rw (h, e, enterClass)
+    go false h false e = rw (h, e, enterClass)
+
+strike-not-5 : (l : Grids) (r : List ℕ) → eqb (strikeClass l r .number) 5 ≡ false
+unfolding strikeClass
+strike-not-5 l r = go (holds r l) refl
+  where
+    go : (h : Bool) → holds r l ≡ h → eqb (strikeClass l r .number) 5 ≡ false
+    go true h = rw (h, strikeClass)
+    go false h = rw (h, strikeClass)
+
+fit-not-5 : (s : Shape) (l : Grids) (low high : List ℕ) → eqb (fitClasses s l low high .number) 5 ≡ false
+unfolding fitClasses
+fit-not-5 s l low high = go (obeyed (allperm (s .rows) (s .columns)) (cells s) (s .top) low high) refl
+  where
+    go : (t : Bool) → obeyed (allperm (s .rows) (s .columns)) (cells s) (s .top) low high ≡ t → eqb (fitClasses s l low high .number) 5 ≡ false
+    go true e = rw (e, fitClasses)
+    go false e = rw (e, fitClasses)
+
+-- neither does one of questions 6 to 8 answer 5
+grid-not-5 : (s : Shape) (g : List ℕ) → eqb (firstNo (gridQuestions s g)) 5 ≡ false
+unfolding gridQuestions question6 question7
+grid-not-5 s g = firstNo-has (λ k. eqb k 5 ≡ false) (gridQuestions s g) refl (refl, (refl, tt))
+
+bounds-not-5 : (size top : ℕ) (low high : List ℕ) → eqb (firstNo (boundsQuestions size top low high)) 5 ≡ false
+unfolding boundsQuestions question6 question7 question8
+bounds-not-5 size top low high = firstNo-has (λ k. eqb k 5 ≡ false) (boundsQuestions size top low high) refl (refl, (refl, (refl, tt)))
+
+unless-not-5 : (k : ℕ) (l : Grids) (t : Step) → eqb k 5 ≡ false → eqb (t .number) 5 ≡ false → eqb (stepUnless k l t .number) 5 ≡ false
+unfolding stepUnless
+unless-not-5 zero l t e f = f
+unless-not-5 (suc k) l t e f = e
+
+pub step-not-5 : (s : Shape) (l : Grids) (c : Call) → eqb (step s l c .number) 5 ≡ false
+unfolding step
+step-not-5 s l (enter g) = unless-not-5 _ l _ (grid-not-5 s g) (enter-not-5 s l (leastIn s g))
+step-not-5 s l (strike g) = unless-not-5 _ l _ (grid-not-5 s g) (strike-not-5 l (leastIn s g))
+step-not-5 s l (fit low high) = unless-not-5 _ l _ (bounds-not-5 (cells s) (s .top) low high) (fit-not-5 s l low high)
+
+pub never-five : (s : Shape) (calls : List Call) (l : Grids) → every (λ o. not (eqb (o .number) 5)) (outcomes s l calls) ≡ true
+unfolding outcomes outcome every
+never-five s [] l = refl
+never-five s (c ∷ calls) l = rw (step-not-5 s l c) (never-five s calls (step s l c .next))
+
+-- ---- after an open that answered 0
+
+answered-zero : (k : ℕ) (b : List ℕ) (o : Outcome) → answered k b o .number ≡ 0 → (k ≡ 0) × (answered k b o .bytes ≡ o .bytes)
+unfolding answered
+answered-zero zero b o e = (refl, refl)
+answered-zero (suc k) b o e = absurd (omega arith)
+
+pub opened-good : (s : Shape) (b : List ℕ) → opened s b .number ≡ 0 → Good s []
+unfolding opened
+opened-good s b e = empty-good s (open-pass s b .0 (answered-zero _ b _ e .0) .0)
+
+pub opened-shown : (s : Shape) (b : List ℕ) → opened s b .number ≡ 0 → opened s b .bytes ≡ shown s []
+unfolding opened shown sorted
+opened-shown s b e = answered-zero _ b _ e .1
+
+pub open-answers : (s : Shape) (b : List ℕ) → InLimits s → length b ≡ layoutLength s → opened s b ≡ record { number = 0; place = 0; bytes = shown s [] }
+unfolding opened answered shown sorted
+open-answers s b l z = ap (λ (k : ℕ). answered k b (record { number = 0; place = 0; bytes = shown s [] })) (open-pass s b .1 (l, z))
+
+-- ---- the consequences, of a good set
+
+-- an accepted fit counts the classes whose least grid lies in the bounds as sent
+module _ (s : Shape) (l : Grids) (g : Good s l) (low high : List ℕ) where
+  fit-place : fitClasses s l low high .place ≡ length (select (inBounds (cells s) (s .top) low high) l)
+  unfolding fitClasses
+  fit-place = go (obeyed rule (cells s) (s .top) low high) refl
+    where
+      rule : List ℕ → Bool
+      rule = allperm (s .rows) (s .columns)
+
+      none : obeyed rule (cells s) (s .top) low high ≡ false → Obeyed (Allperm (s .rows) (s .columns)) (cells s) (s .top) low high → ⊥
+      none e o = true≢false (sym (obeyed-decides (Allperm (s .rows) (s .columns)) rule (allperm-decides (s .rows) (s .columns)) (cells s) (s .top) low high .1 o) ∙ e)
+
+      go : (t : Bool) → obeyed rule (cells s) (s .top) low high ≡ t → fitClasses s l low high .place ≡ length (select (inBounds (cells s) (s .top) low high) l)
+      go true e = rw (e, fitClasses)
+      go false e =
+          rw (e, fitClasses)
+          (ap length (sym (select-none (inBounds (cells s) (s .top) low high) l (λ r m t. none-in-bounds (s .rows) (s .columns) (s .top) low high (none e) r (least-allperm (s .rows) (s .columns) r r (self-least s l g r m)) t))))
+
+  pub fit-counts : accepted (fitted (shown s l) low high .number) ≡ true → fitted (shown s l) low high .place ≡ length (select (inBounds (cells s) (s .top) low high) l)
+  unfolding stepUnless outcome
+  fit-counts h = ap (λ (o : Outcome). o .place) same ∙ go k refl (sym (ap (λ (o : Outcome). accepted (o .number)) same) ∙ h)
+    where
+      k : ℕ
+      k = firstNo (boundsQuestions (cells s) (s .top) low high)
+
+      same : fitted (shown s l) low high ≡ outcome s (stepUnless k l (fitClasses s l low high))
+      same = fit-same s l g low high
+
+      go : (j : ℕ) → k ≡ j → accepted (stepUnless j l (fitClasses s l low high) .number) ≡ true → stepUnless j l (fitClasses s l low high) .place ≡ length (select (inBounds (cells s) (s .top) low high) l)
+      go zero e a = fit-place
+      go (suc j) e a = absurd (true≢false (sym a ∙ bounds-refused (cells s) (s .top) low high j e))
+
+pub shown-count : (s : Shape) (l : Grids) → Good s l → count (shown s l) ≡ length l
+unfolding shown registerOf
+shown-count s l g = count-layout (registerOf s l) (register-printable (registerOf s l) (good-register s l g)) ∙ length-sorted l
+
+pub shown-inj : (s : Shape) (k l : Grids) → Good s k → Good s l → shown s k ≡ shown s l → sorted k ≡ sorted l
+unfolding registerOf
+shown-inj s k l g h e = ap (λ (r : Register). r .entries) (sym (reads s k g) ∙ ap decode e ∙ reads s l h)
+
+-- ---- the demand
+
+module _ (s : Shape) (slice : List ℕ) (e : opened s slice .number ≡ 0) (calls : List Call) where
+  end : Grids
+  end = afterwards s [] calls
+
+  end-good : Good s end
+  unfolding end
+  end-good = afterwards-good s calls [] (opened-good s slice e)
+
+  end-run : run registerCalls (opened s slice .bytes) calls ≡ outcomes s [] calls
+  end-run = ap (λ (b : List ℕ). run registerCalls b calls) (opened-shown s slice e) ∙ run-same s calls [] (opened-good s slice e)
+
+  end-bytes : left registerCalls (opened s slice .bytes) calls ≡ shown s end
+  unfolding end
+  end-bytes = ap (λ (b : List ℕ). left registerCalls b calls) (opened-shown s slice e) ∙ left-shown s calls [] (opened-good s slice e)
+
+  end-live : (a : List ℕ) → length a ≡ cells s → live registerCalls s (opened s slice .bytes) calls a ≡ holds (leastIn s a) end
+  unfolding end
+  end-live = live-machine registerCalls s (opened s slice .bytes) calls end-run
+
+  end-lists : ListsLive (s .rows) (s .columns) (live registerCalls s (opened s slice .bytes) calls) end
+  end-lists = lists-held s end end-good (live registerCalls s (opened s slice .bytes) calls) end-live
+
+-- what one list of live classes has, another with the same live classes has
+pub moved : (m n : ℕ) (live₁ live₂ : List ℕ → Bool) (l₁ l₂ : Grids) → ListsLive m n live₁ l₁ → ListsLive m n live₂ l₂ → ((a : List ℕ) → length a ≡ m * n → live₁ a ≡ live₂ a) →
+    (r : List ℕ) → List·Memᴰ r l₁ → List·Memᴰ r l₂
+moved m n live₁ live₂ l₁ l₂ x y f r k =
+    let p = x .leasts r k in
+    Memᴰ·cast (sym (p .1)) (y .exact r (p .0) .0 (sym (f r (p .0)) ∙ x .exact r (p .0) .1 (Memᴰ·cast (p .1) k)))
+
+module _ (s : Shape) (slice slice′ : List ℕ) (e : opened s slice .number ≡ 0) (e′ : opened s slice′ .number ≡ 0) (calls calls′ : List Call) where
+  k : Grids
+  k = end s slice e calls
+
+  l : Grids
+  l = end s slice′ e′ calls′
+
+  bytes-live : (left registerCalls (opened s slice .bytes) calls ≡ left registerCalls (opened s slice′ .bytes) calls′)
+      ↔ ((a : List ℕ) → length a ≡ cells s → live registerCalls s (opened s slice .bytes) calls a ≡ live registerCalls s (opened s slice′ .bytes) calls′ a)
+  unfolding k l shown
+  bytes-live = (to, back)
+    where
+      to : left registerCalls (opened s slice .bytes) calls ≡ left registerCalls (opened s slice′ .bytes) calls′ → (a : List ℕ) → length a ≡ cells s → live registerCalls s (opened s slice .bytes) calls a ≡ live registerCalls s (opened s slice′ .bytes) calls′ a
+      to p a z =
+          end-live s slice e calls a z ∙ sym (holds-sorted (leastIn s a) k)
+          ∙ ap (holds (leastIn s a)) (shown-inj s k l (end-good s slice e calls) (end-good s slice′ e′ calls′) (sym (end-bytes s slice e calls) ∙ p ∙ end-bytes s slice′ e′ calls′))
+          ∙ holds-sorted (leastIn s a) l ∙ sym (end-live s slice′ e′ calls′ a z)
+
+      back : ((a : List ℕ) → length a ≡ cells s → live registerCalls s (opened s slice .bytes) calls a ≡ live registerCalls s (opened s slice′ .bytes) calls′ a) → left registerCalls (opened s slice .bytes) calls ≡ left registerCalls (opened s slice′ .bytes) calls′
+      back f =
+          end-bytes s slice e calls
+          ∙ ap (λ (x : Grids). layout (record { shape = s; entries = x }))
+          (asc-ext (sorted k) (sorted l) (sorted-asc k (end-good s slice e calls .once)) (sorted-asc l (end-good s slice′ e′ calls′ .once))
+          (λ r m. in-sorted l r (moved (s .rows) (s .columns) _ _ k l (end-lists s slice e calls) (end-lists s slice′ e′ calls′) f r (of-sorted k r m)))
+          (λ r m. in-sorted k r (moved (s .rows) (s .columns) _ _ l k (end-lists s slice′ e′ calls′) (end-lists s slice e calls) (λ a z. sym (f a z)) r (of-sorted l r m))))
+          ∙ sym (end-bytes s slice′ e′ calls′)
+
+after-open : (s : Shape) (slice : List ℕ) → opened s slice .number ≡ 0 → (calls : List Call) → AfterOpen registerCalls s (opened s slice .bytes) calls
+unfolding registerCalls
+after-open s slice e calls = record {
+  starts = opened-shown s slice e;
+  answers = end-run s slice e calls;
+  laid = rw (end-run s slice e calls) (never-five s calls []);
+  classes = end s slice e calls;
+  lists = end-lists s slice e calls;
+  counts = ap count (end-bytes s slice e calls) ∙ shown-count s (end s slice e calls) (end-good s slice e calls);
+  fits = λ low high h. rw (end-bytes s slice e calls) (fit-counts s (end s slice e calls) (end-good s slice e calls) low high (rw (end-bytes s slice e calls) at h));
+  bytes-live = λ slice′ e′ calls′. bytes-live s slice slice′ e e′ calls calls′;
+}
+
+pub demand3 : (i : Implementation) → Meets i → Demand3 i
+unfolding registerCalls
+demand3 i h = meets-has Demand3 i h (record { opens = open-answers; follows = after-open })

@@ -1,0 +1,45 @@
+-- What demand 3 says of an implementation, call by call, from an open within the limits on.
+--
+--   after-open         ==  the statement about whole lists, from the machine's bytes for the empty set
+--   Follows i s l      ==  from the machine's bytes for the set l on, whatever calls are made, i answers and leaves what the machine does
+--   follows-open       ==  so it is after an open
+--   follows-call       ==  then each call answers and leaves what the machine does
+--   follows-next       ==  and so it is again after the call
+--   lists-after        ==  the machine's set lists the live classes
+use mathlib.Core.Path.{_≡_, sym, ap, subst, _∙_}
+use mathlib.Core.List.{List, [], _∷_}
+use Prim.Native.Nat.{ℕ}
+use lib.ListN.{replicate, length-replicate}
+use Rattle.layout.specs.Layout.{Shape, layoutLength, InLimits}
+use Rattle.machine.specs.Calls.{Outcome}
+use Rattle.machine.specs.CallLists.{Call, Implementation, called, run}
+use Rattle.machine.specs.Machine.{shown, step, outcome, outcomes}
+use Rattle.machine.specs.Demand3.{live, ListsLive, AfterOpen, Demand3}
+use Rattle.machine.proofs.SortedLaws.{Grids}
+use Rattle.machine.proofs.MachineLaws.{empty-good, afterwards, afterwards-good}
+use Rattle.machine.proofs.LiveLaws.{live-machine, lists-held}
+
+abbrev pub Follows : Implementation → Shape → Grids → Type 0
+Follows i s l = (calls : List Call) → run i (shown s l) calls ≡ outcomes s l calls
+
+module _ (i : Implementation) (d : Demand3 i) (s : Shape) (h : InLimits s) where
+  pub after-open : (calls : List Call) → AfterOpen i s (shown s []) calls
+  after-open calls =
+      let e = d .opens s (replicate (layoutLength s) 0) h (length-replicate (layoutLength s) 0) in
+      subst (λ (b : List ℕ). AfterOpen i s b calls) (ap (λ (o : Outcome). o .bytes) e) (d .follows s (replicate (layoutLength s) 0) (ap (λ (o : Outcome). o .number) e) calls)
+
+  pub follows-open : Follows i s []
+  follows-open calls = after-open calls .answers
+
+  pub lists-after : (calls : List Call) → ListsLive (s .rows) (s .columns) (live i s (shown s []) calls) (afterwards s [] calls)
+  lists-after calls =
+      lists-held s (afterwards s [] calls) (afterwards-good s calls [] (empty-good s h)) (live i s (shown s []) calls) (live-machine i s (shown s []) calls (follows-open calls))
+
+module _ (i : Implementation) (s : Shape) (l : Grids) (f : Follows i s l) (c : Call) where
+  pub follows-call : called i (shown s l) c ≡ outcome s (step s l c)
+  unfolding run outcomes
+  follows-call = let e = f (c ∷ []) in cc
+
+  pub follows-next : Follows i s (step s l c .next)
+  unfolding run outcomes outcome
+  follows-next calls = let e = f (c ∷ calls) in let o = follows-call in ap (λ (x : Outcome). run i (x .bytes) calls) (sym o) ∙ (cc)

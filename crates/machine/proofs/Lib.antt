@@ -1,0 +1,11 @@
+pub mod AskedLaws
+pub mod RefusalLaws
+pub mod SortedLaws
+pub mod CallLaws
+pub mod CallListLaws
+pub mod MachineLaws
+pub mod LiveLaws
+pub mod Demand1Laws
+pub mod Demand3Laws
+pub mod LiveLists
+pub mod FollowLaws

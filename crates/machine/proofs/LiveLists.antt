@@ -1,0 +1,38 @@
+-- Two lists of the live classes are the same but for order, so the count and every fit are what any such list says, of every implementation.
+--
+--   lists-one    ==  two lists of the live classes, sorted, are equal
+--   counts-live  ==  the count is the length of any such list
+--   fits-live    ==  an accepted fit counts the grids of any such list that lie in the bounds as sent
+use mathlib.Core.Path.{_≡_, refl, sym, ap, _∙_}
+use mathlib.Core.List.{List}
+use mathlib.Core.Bool.{Bool, true}
+use Prim.Native.Nat.{ℕ}
+use lib.ListN.{length}
+use Rattle.permutations.specs.Lists.{select}
+use Rattle.bounds.specs.Bounds.{inBounds}
+use Rattle.layout.specs.Layout.{Shape, cells, count}
+use Rattle.machine.specs.CallLists.{Call, Implementation, left, accepted}
+use Rattle.machine.specs.Machine.{sorted}
+use Rattle.machine.specs.Demand3.{live, ListsLive, AfterOpen}
+use Rattle.machine.proofs.SortedLaws.{Grids, asc-ext, in-sorted, of-sorted, sorted-asc, length-sorted, count-sorted}
+use Rattle.machine.proofs.Demand3Laws.{moved}
+
+pub lists-one : (m n : ℕ) (live : List ℕ → Bool) (k l : Grids) → ListsLive m n live k → ListsLive m n live l → sorted k ≡ sorted l
+lists-one m n live k l x y =
+    asc-ext (sorted k) (sorted l) (sorted-asc k (x .once)) (sorted-asc l (y .once))
+    (λ r q. in-sorted l r (moved m n live live k l x y (λ a z. refl) r (of-sorted k r q)))
+    (λ r q. in-sorted k r (moved m n live live l k y x (λ a z. refl) r (of-sorted l r q)))
+
+module _ (i : Implementation) (s : Shape) (b : List ℕ) (calls : List Call) (a : AfterOpen i s b calls) (l : Grids) (y : ListsLive (s .rows) (s .columns) (live i s b calls) l) where
+  one : sorted (a .classes) ≡ sorted l
+  one = lists-one (s .rows) (s .columns) (live i s b calls) (a .classes) l (a .lists) y
+
+  pub counts-live : count (left i b calls) ≡ length l
+  counts-live = a .counts ∙ sym (length-sorted (a .classes)) ∙ ap length one ∙ length-sorted l
+
+  pub fits-live : (low high : List ℕ) → accepted (i .fits (left i b calls) low high .number) ≡ true →
+      i .fits (left i b calls) low high .place ≡ length (select (inBounds (cells s) (s .top) low high) l)
+  fits-live low high h =
+      a .fits low high h ∙ sym (count-sorted _ (a .classes) (a .lists .once))
+      ∙ ap (λ (x : Grids). length (select (inBounds (cells s) (s .top) low high) x)) one
+      ∙ count-sorted _ l (y .once)

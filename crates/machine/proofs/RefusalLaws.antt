@@ -1,0 +1,79 @@
+-- Where a question of a call gets a no, the call answers its number with place or count 0, and changes no byte; nor do 101, 102 and any fit.
+--
+--   opened-refused, entered-refused, struck-refused, fitted-refused  ==  where a question of the call gets a no
+--   Refusal k, refused-number  ==  k is 0 or not accepted; so is the first no where it is each question's number
+--   answered-held, held-unchanged  ==  an enter that answers 101 changes nothing
+--   fit-unchanged    ==  a fit changes nothing
+use mathlib.Core.Path.{_≡_, refl}
+use mathlib.Core.List.{List}
+use mathlib.Core.Bool.{Bool, true, false}
+use Prim.Native.Nat.{ℕ, zero, suc}
+use native.Mathlib.Omega.{arith}
+use Rattle.grids.specs.Questions.{Question, firstNo}
+use Rattle.grids.proofs.QuestionLaws.{EachNumber, firstNo-has}
+use Rattle.bounds.specs.Prune.{Pruned}
+use Rattle.layout.specs.Layout.{Shape, Register, decode}
+use Rattle.machine.specs.Calls.{Outcome, refusal, answered, holds, leastIn, openQuestions, enterQuestions, strikeQuestions, fitQuestions, enterInto, enterRegister, strikeRegister, fitPruned, fitRegister, opened, entered, struck, fitted}
+use Rattle.machine.specs.CallLists.{accepted}
+
+abbrev pub Refusal : ℕ → Type 0
+Refusal zero = Unit {0}
+Refusal (suc k) = accepted (suc k) ≡ false
+
+pub refused-number : (l : List Question) → EachNumber Refusal l → (k : ℕ) → firstNo l ≡ suc k → accepted (suc k) ≡ false
+refused-number l h k e = rw e at (firstNo-has Refusal l tt h)
+
+answered-refused : (j k : ℕ) (b : List ℕ) (o : Outcome) → j ≡ suc k → answered j b o ≡ refusal (suc k) b
+unfolding answered
+answered-refused j k b o e = rw e
+
+pub opened-refused : (s : Shape) (b : List ℕ) (k : ℕ) → firstNo (openQuestions s b) ≡ suc k → opened s b ≡ refusal (suc k) b
+unfolding opened
+opened-refused s b k e = answered-refused _ k b _ e
+
+pub entered-refused : (b g : List ℕ) (k : ℕ) → firstNo (enterQuestions b (decode b) g (leastIn (decode b .shape) g)) ≡ suc k → entered b g ≡ refusal (suc k) b
+unfolding entered enterRegister
+entered-refused b g k e = answered-refused _ k b _ e
+
+pub struck-refused : (b g : List ℕ) (k : ℕ) → firstNo (strikeQuestions b (decode b) g (leastIn (decode b .shape) g)) ≡ suc k → struck b g ≡ refusal (suc k) b
+unfolding struck strikeRegister
+struck-refused b g k e = answered-refused _ k b _ e
+
+pub fitted-refused : (b low high : List ℕ) (k : ℕ) → firstNo (fitQuestions b (decode b) low high) ≡ suc k → fitted b low high ≡ refusal (suc k) b
+unfolding fitted fitRegister
+fitted-refused b low high k e = answered-refused _ k b _ e
+
+-- what the outcome after the questions leaves, the call leaves
+answered-bytes : (k : ℕ) (b : List ℕ) (o : Outcome) → o .bytes ≡ b → answered k b o .bytes ≡ b
+unfolding answered
+answered-bytes zero b o e = e
+answered-bytes (suc k) b o e = refl
+
+pruned-bytes : (b : List ℕ) (x : Register) (p : Pruned) → fitPruned b x p .bytes ≡ b
+unfolding fitPruned
+pruned-bytes b x p = go (p .number) refl
+  where
+    go : (k : ℕ) → p .number ≡ k → fitPruned b x p .bytes ≡ b
+    go zero e = rw (e, fitPruned)
+    go (suc k) e = rw (e, fitPruned)
+
+pub fit-unchanged : (b low high : List ℕ) → fitted b low high .bytes ≡ b
+unfolding fitted fitRegister
+fit-unchanged b low high = answered-bytes _ b _ (pruned-bytes b (decode b) _)
+
+into-bytes : (b : List ℕ) (x : Register) (r : List ℕ) → enterInto b x r .number ≡ 101 → enterInto b x r .bytes ≡ b
+unfolding enterInto
+into-bytes b x r = go (holds r (x .entries)) refl
+  where
+    go : (h : Bool) → holds r (x .entries) ≡ h → enterInto b x r .number ≡ 101 → enterInto b x r .bytes ≡ b
+    go true h = rw (h, enterInto) (λ e. refl)
+    go false h = rw (h, enterInto) (λ e. absurd (omega arith))
+
+pub answered-held : (k : ℕ) (b : List ℕ) (o : Outcome) → (o .number ≡ 101 → o .bytes ≡ b) → answered k b o .number ≡ 101 → answered k b o .bytes ≡ b
+unfolding answered
+answered-held zero b o h e = h e
+answered-held (suc k) b o h e = refl
+
+pub held-unchanged : (b g : List ℕ) → entered b g .number ≡ 101 → entered b g .bytes ≡ b
+unfolding entered enterRegister
+held-unchanged b g e = answered-held _ b _ (into-bytes b (decode b) (leastIn (decode b .shape) g)) e

@@ -1,0 +1,60 @@
+-- Lists of calls on a register, and what an implementation of the four calls answers to them.
+--
+--   Call                 ==  enter of a grid, strike of a grid, fit of bounds
+--   Implementation       ==  open, enter, strike and fit, as functions of the numbers and slices that they are lent
+--   registerCalls        ==  the calls as specs/Calls has them
+--   Meets i              ==  the calls of i answer and leave what specs/Calls says, on all arguments
+--   called i b c         ==  one call on the register's bytes
+--   run i b calls        ==  the outcomes of the calls, each on the bytes that the one before left
+--   left i b calls       ==  the bytes that the calls leave
+--   questionsOf b c      ==  the questions of a call on the register's bytes, in order
+--   accepted k           ==  the number k is no refusal
+use mathlib.Core.Path.{_≡_}
+use mathlib.Core.List.{List, [], _∷_}
+use mathlib.Core.Bool.{Bool, _||_}
+use Prim.Native.Nat.{ℕ}
+use lib.Dec.{eqb}
+use Rattle.grids.specs.Questions.{Question}
+use Rattle.layout.specs.Layout.{Shape, decode}
+use Rattle.machine.specs.Calls.{Outcome, leastIn, enterQuestions, strikeQuestions, fitQuestions, opened, entered, struck, fitted}
+
+pub data Call : Type 0 where
+  enter : List ℕ → Call
+  strike : List ℕ → Call
+  fit : List ℕ → List ℕ → Call
+
+pub record Implementation : Type 0 where
+  pub opens : Shape → List ℕ → Outcome
+  pub enters : List ℕ → List ℕ → Outcome
+  pub strikes : List ℕ → List ℕ → Outcome
+  pub fits : List ℕ → List ℕ → List ℕ → Outcome
+
+unfoldable pub registerCalls : Implementation
+registerCalls = record { opens = opened; enters = entered; strikes = struck; fits = fitted }
+
+pub record Meets (i : Implementation) : Type 0 where
+  pub opens : (s : Shape) (b : List ℕ) → i .opens s b ≡ opened s b
+  pub enters : (b g : List ℕ) → i .enters b g ≡ entered b g
+  pub strikes : (b g : List ℕ) → i .strikes b g ≡ struck b g
+  pub fits : (b low high : List ℕ) → i .fits b low high ≡ fitted b low high
+
+unfoldable pub called : Implementation → List ℕ → Call → Outcome
+called i b (enter g) = i .enters b g
+called i b (strike g) = i .strikes b g
+called i b (fit low high) = i .fits b low high
+
+unfoldable pub run : Implementation → List ℕ → List Call → List Outcome
+run i b [] = []
+run i b (c ∷ calls) = called i b c ∷ run i (called i b c .bytes) calls
+
+unfoldable pub left : Implementation → List ℕ → List Call → List ℕ
+left i b [] = b
+left i b (c ∷ calls) = left i (called i b c .bytes) calls
+
+unfoldable pub questionsOf : List ℕ → Call → List Question
+questionsOf b (enter g) = enterQuestions b (decode b) g (leastIn (decode b .shape) g)
+questionsOf b (strike g) = strikeQuestions b (decode b) g (leastIn (decode b .shape) g)
+questionsOf b (fit low high) = fitQuestions b (decode b) low high
+
+unfoldable pub accepted : ℕ → Bool
+accepted k = eqb k 0 || (eqb k 101 || eqb k 102)

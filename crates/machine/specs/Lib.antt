@@ -1,0 +1,5 @@
+pub mod Calls
+pub mod CallLists
+pub mod Machine
+pub mod Demand1
+pub mod Demand3

@@ -1,0 +1,79 @@
+-- The plain machine of demand 3. It is fed the calls' arguments, the register excepted, and none of their answers.
+-- Its four numbers are a parameter; its state is a set of classes: the least grid of each, once, in no particular order.
+--
+--   sorted l              ==  the grids of l, ascending
+--   shown s l             ==  the machine's bytes
+--   Step                  ==  the number, the place or count, and the set afterwards
+--   stepUnless k l t      ==  the first no, with which nothing changes, unless it is 0: then t
+--   enterClass s l r      ==  enter of the class of the least grid r: held, 101; else capacity classes held, 9; else it is added
+--   strikeClass l r       ==  strike of it: held, it is removed; else 10
+--   fitClasses s l low high  ==  fit: no grid in the bounds has allperm, 102; else the classes whose least grid lies in the bounds as sent
+--   step s l c            ==  one call
+--   outcome s t           ==  a step's answer, and the bytes that the machine then shows
+--   outcomes s l calls    ==  what the machine answers to each call and the bytes that it then shows
+use mathlib.Core.List.{List, [], _∷_}
+use mathlib.Core.Bool.{true, false}
+use Prim.Native.Nat.{ℕ, zero, suc}
+use lib.ListN.{length}
+use lib.Dec.{ltb}
+use Rattle.permutations.specs.Lists.{select}
+use Rattle.grids.specs.Questions.{firstNo}
+use Rattle.bounds.specs.Bounds.{inBounds}
+use Rattle.bounds.specs.Kept.{obeyed}
+use Rattle.bounds.specs.Allperm.{allperm}
+use Rattle.bounds.specs.Prune.{boundsQuestions}
+use Rattle.layout.specs.Layout.{Shape, cells, layout}
+use Rattle.machine.specs.Calls.{Outcome, gridQuestions, leastIn, holds, placeIn, insert, without}
+use Rattle.machine.specs.CallLists.{Call, enter, strike, fit}
+
+unfoldable pub sorted : List (List ℕ) → List (List ℕ)
+sorted [] = []
+sorted (x ∷ l) = insert x (sorted l)
+
+unfoldable pub shown : Shape → List (List ℕ) → List ℕ
+shown s l = layout (record { shape = s; entries = sorted l })
+
+pub record Step : Type 0 where
+  pub number : ℕ
+  pub place : ℕ
+  pub next : List (List ℕ)
+
+unfoldable pub stepUnless : ℕ → List (List ℕ) → Step → Step
+stepUnless zero l t = t
+stepUnless (suc k) l t = record { number = suc k; place = 0; next = l }
+
+unfoldable pub enterClass : Shape → List (List ℕ) → List ℕ → Step
+enterClass s l r =
+    elim (holds r l) [
+      | true ↦ record { number = 101; place = placeIn l r; next = l }
+      | false ↦ elim (ltb (length l) (s .capacity)) [
+        | true ↦ record { number = 0; place = placeIn l r; next = r ∷ l }
+        | false ↦ record { number = 9; place = 0; next = l }
+      ]
+    ]
+
+unfoldable pub strikeClass : List (List ℕ) → List ℕ → Step
+strikeClass l r =
+    elim (holds r l) [
+      | true ↦ record { number = 0; place = placeIn l r; next = without r l }
+      | false ↦ record { number = 10; place = 0; next = l }
+    ]
+
+unfoldable pub fitClasses : Shape → List (List ℕ) → List ℕ → List ℕ → Step
+fitClasses s l low high =
+    elim (obeyed (allperm (s .rows) (s .columns)) (cells s) (s .top) low high) [
+      | true ↦ record { number = 0; place = length (select (inBounds (cells s) (s .top) low high) l); next = l }
+      | false ↦ record { number = 102; place = 0; next = l }
+    ]
+
+unfoldable pub step : Shape → List (List ℕ) → Call → Step
+step s l (enter g) = stepUnless (firstNo (gridQuestions s g)) l (enterClass s l (leastIn s g))
+step s l (strike g) = stepUnless (firstNo (gridQuestions s g)) l (strikeClass l (leastIn s g))
+step s l (fit low high) = stepUnless (firstNo (boundsQuestions (cells s) (s .top) low high)) l (fitClasses s l low high)
+
+unfoldable pub outcome : Shape → Step → Outcome
+outcome s t = record { number = t .number; place = t .place; bytes = shown s (t .next) }
+
+unfoldable pub outcomes : Shape → List (List ℕ) → List Call → List Outcome
+outcomes s l [] = []
+outcomes s l (c ∷ calls) = outcome s (step s l c) ∷ outcomes s (step s l c .next) calls

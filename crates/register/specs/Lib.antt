@@ -1,5 +1,0 @@
-pub mod Decimal
-pub mod Layout
-pub mod Calls
-pub mod Machine
-pub mod Demand3

@@ -1,1 +1,0 @@
-// The register: a sorted book of classes, kept in plain bytes.

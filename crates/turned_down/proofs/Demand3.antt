@@ -1,0 +1,167 @@
+-- Faulty programs for the register do not meet demand 3. Between them they need every sentence of it.
+--
+--   The names are those of the faults.
+use mathlib.Core.Path.{_≡_, refl, sym, ap, _∙_}
+use mathlib.Core.List.{List, [], _∷_}
+use mathlib.Core.Bool.{true, true≢false, not}
+use Prim.Native.Nat.{ℕ, suc, _≤_}
+use native.Mathlib.Omega.{arith}
+use lib.ListN.{length, drop}
+use lib.Dec.{eqb}
+use Rattle.permutations.specs.Lists.{every, some}
+use Rattle.permutations.proofs.BoolLaws.{and-yes}
+use Rattle.layout.specs.Layout.{count}
+use Rattle.machine.specs.Calls.{Outcome, leastIn, holds}
+use Rattle.machine.specs.CallLists.{enter, strike, called, run, left, accepted}
+use Rattle.machine.specs.Machine.{shown}
+use Rattle.machine.specs.Demand3.{liveAfter, live, Demand3}
+use Rattle.machine.proofs.LiveLaws.{live-machine}
+use Rattle.machine.proofs.LiveLists.{counts-live, fits-live}
+use Rattle.machine.proofs.FollowLaws.{after-open, follows-open, lists-after}
+use Rattle.turned_down.specs.RegisterFaults.{StoresFirst, FullUnlooked, NotHeldUnlooked, InventsCount, InventsFit, lastEntry, LeavesLastLine, AppendsEntries, PlacesFromZero, OpensNothing, EntersNothing, OpensAnySlice, RefusesOwnBytes}
+use Rattle.turned_down.specs.TurnedDown.{fault, Turned}
+use Rattle.turned_down.proofs.Differences.{unequal}
+use Rattle.turned_down.proofs.RegisterCases.{cell, zero, one, computed, limits, slice, opening, first-enter, second-enter, held-enter, lower-enter, first-strike, none-fit, zero-fit, number-is, place-is, bytes-are, plain, entering}
+
+pub stores-first : Turned (fault Demand3 StoresFirst)
+unfolding StoresFirst left called
+stores-first = record {
+  example = plain 0 1;
+  done = λ b g h. refl;
+  refused = λ i f d.
+      let b = shown cell [] in
+      let calls = enter zero ∷ [] in
+      let more = enter zero ∷ enter one ∷ [] in
+      let o = ap (λ (x : Outcome). x .bytes) (opening i d) in
+      let held : 1 ≤ count (i .enters b zero .bytes) = rw (bytes-are _ _ (first-enter i d)) (omega (arith, computed .zero-counted)) in
+      let acknowledged : left i b calls ≡ left i b more = sym (f (i .enters b zero .bytes) one held) in
+      let same = after-open i d cell limits calls .bytes-live slice (ap (λ (x : Outcome). x .number) (opening i d)) more .0 (acknowledged ∙ ap (λ (x : List ℕ). left i x more) (sym o)) one refl in
+      let before = live-machine i cell b calls (follows-open i d cell limits calls) one refl ∙ computed .one-absent in
+      let after = ap (λ (x : List ℕ). live i cell x more one) o ∙ live-machine i cell b more (follows-open i d cell limits more) one refl ∙ computed .one-lives in
+      true≢false (sym after ∙ sym same ∙ before);
+}
+
+pub full-unlooked : Turned (fault Demand3 FullUnlooked)
+unfolding FullUnlooked accepted
+full-unlooked = record {
+  example = plain 9 0;
+  done = λ b g h. refl;
+  refused = λ i f d.
+      true≢false (sym (ap accepted (number-is _ _ (held-enter i d))) ∙ f (shown cell (one ∷ zero ∷ [])) zero (computed .both-counted ∙ sym (computed .both-full)));
+}
+
+pub not-held-unlooked : Turned (fault Demand3 NotHeldUnlooked)
+unfolding NotHeldUnlooked
+not-held-unlooked = record {
+  example = plain 10 0;
+  done = λ b g z. omega arith;
+  refused = λ i f d. f (shown cell (zero ∷ [])) zero (number-is _ _ (first-strike i d));
+}
+
+pub invents-count : Turned (fault Demand3 InventsCount)
+unfolding InventsCount left called
+invents-count = record {
+  example = entering (λ b g. record { number = 0; place = 1; bytes = [] });
+  done = λ b g b′ g′ z z′. refl;
+  refused = λ i f d.
+      let b = shown cell [] in
+      let one-call = enter zero ∷ [] in
+      let two-calls = enter zero ∷ enter one ∷ [] in
+      let first = counts-live i cell b one-call (after-open i d cell limits one-call) _ (lists-after i d cell limits one-call) ∙ computed .first-lives in
+      let both = counts-live i cell b two-calls (after-open i d cell limits two-calls) _ (lists-after i d cell limits two-calls) ∙ computed .both-live in
+      let z : i .enters (i .enters b zero .bytes) one .number ≡ 0 = rw (bytes-are _ _ (first-enter i d)) (number-is _ _ (second-enter i d)) in
+      let same = f b zero (i .enters b zero .bytes) one (number-is _ _ (first-enter i d)) z in
+      omega arith;
+}
+
+pub invents-fit : Turned (fault Demand3 InventsFit)
+unfolding InventsFit left called accepted
+invents-fit = record {
+  example = plain 0 3;
+  done = λ b b′ low high z z′. refl;
+  refused = λ i f d.
+      let b = shown cell [] in
+      let calls = enter zero ∷ [] in
+      let later : i .fits (i .enters b zero .bytes) zero one .number ≡ 0 = rw (bytes-are _ _ (first-enter i d)) (number-is _ _ (zero-fit i d)) in
+      let none = fits-live i cell b [] (after-open i d cell limits []) _ (lists-after i d cell limits []) zero one (ap accepted (number-is _ _ (none-fit i d))) ∙ computed .none-inside in
+      let first = fits-live i cell b calls (after-open i d cell limits calls) _ (lists-after i d cell limits calls) zero one (ap accepted later) ∙ computed .first-inside in
+      let same = f b (i .enters b zero .bytes) zero one (number-is _ _ (none-fit i d)) later in
+      omega arith;
+}
+
+pub leaves-last-line : Turned (fault Demand3 LeavesLastLine)
+unfolding LeavesLastLine left called live liveAfter holds some
+leaves-last-line = record {
+  example = plain 0 1;
+  done = λ b g z. refl;
+  refused = λ i f d.
+      let calls = enter zero ∷ strike zero ∷ [] in
+      let equal-bytes = after-open i d cell limits calls .bytes-live slice (ap (λ (x : Outcome). x .number) (opening i d)) [] .1
+      (λ a z. live-machine i cell (shown cell []) calls (follows-open i d cell limits calls) a z ∙ ap (holds (leastIn cell a)) (computed .gone)) in
+      let b = shown cell (zero ∷ []) in
+      let kept = f b zero (number-is _ _ (first-strike i d)) in
+      let struck : i .strikes b zero .bytes ≡ shown cell [] =
+      ap (λ (x : List ℕ). i .strikes x zero .bytes) (sym (bytes-are _ _ (first-enter i d))) ∙ equal-bytes ∙ ap (λ (x : Outcome). x .bytes) (opening i d) in
+      unequal _ _ (computed .line-left) (ap (drop (lastEntry b)) (sym struck) ∙ kept);
+}
+
+pub appends-entries : Turned (fault Demand3 AppendsEntries)
+unfolding AppendsEntries
+appends-entries = record {
+  example = entering (λ b g. record { number = 0; place = suc (count b); bytes = b });
+  done = λ b g z. refl;
+  refused = λ i f d.
+      let last = f (shown cell (one ∷ [])) zero (number-is _ _ (lower-enter i d)) in
+      let first = place-is _ _ (lower-enter i d) in
+      omega (arith, computed .one-counted);
+}
+
+pub places-from-zero : Turned (fault Demand3 PlacesFromZero)
+unfolding PlacesFromZero
+places-from-zero = record {
+  example = plain 0 0;
+  done = λ b g z h. refl;
+  refused = λ i f d.
+      let none = f (shown cell []) zero (number-is _ _ (first-enter i d)) (computed .none-counted) in
+      let first = place-is _ _ (first-enter i d) in
+      omega arith;
+}
+
+pub opens-nothing : Turned (fault Demand3 OpensNothing)
+unfolding OpensNothing
+opens-nothing = record {
+  example = plain 1 0;
+  done = λ s b z. omega arith;
+  refused = λ i f d. f cell slice (ap (λ (x : Outcome). x .number) (opening i d));
+}
+
+pub enters-nothing : Turned (fault Demand3 EntersNothing)
+unfolding EntersNothing accepted
+enters-nothing = record {
+  example = plain 9 0;
+  done = λ b g. refl;
+  refused = λ i f d. true≢false (sym (ap accepted (number-is _ _ (first-enter i d))) ∙ f (shown cell []) zero);
+}
+
+pub opens-any-slice : Turned (fault Demand3 OpensAnySlice)
+unfolding OpensAnySlice
+opens-any-slice = record {
+  example = plain 0 0;
+  done = λ s b h. (refl, refl);
+  refused = λ i f d.
+      let z = ap length (d .follows cell [] (f cell [] limits .0) [] .starts) in
+      omega (arith, f cell [] limits .1, computed .none-length);
+}
+
+pub refuses-own-bytes : Turned (fault Demand3 RefusesOwnBytes)
+unfolding RefusesOwnBytes run called every
+refuses-own-bytes = record {
+  example = plain 5 0;
+  done = λ b g h. refl;
+  refused = λ i f d.
+      let b = i .enters (shown cell []) zero .bytes in
+      let laid = after-open i d cell limits (enter zero ∷ enter one ∷ []) .laid in
+      let second = and-yes (not (eqb (i .enters b one .number) 5)) true (and-yes (not (eqb (i .enters (shown cell []) zero .number) 5)) _ laid .1) .0 in
+      let held : 1 ≤ count b = rw (bytes-are _ _ (first-enter i d)) (omega (arith, computed .zero-counted)) in
+      true≢false (sym second ∙ ap (λ (k : ℕ). not (eqb k 5)) (f b one held));
+}

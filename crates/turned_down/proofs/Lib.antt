@@ -1,0 +1,11 @@
+pub mod Differences
+pub mod Plans
+pub mod Permutations
+pub mod BothWays
+pub mod Represent
+pub mod Same
+pub mod Prune
+pub mod RegisterCases
+pub mod Demand3
+pub mod Demand1
+pub mod TurnedDown

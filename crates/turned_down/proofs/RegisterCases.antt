@@ -1,0 +1,214 @@
+-- Small cases of the register: a shape of one cell, what the machine does with its two grids, and an implementation that follows the machine.
+--
+--   cell                ==  a shape of 1 row, 1 column, top 1 and capacity 2
+--   zero, one           ==  its two grids
+--   shut, roomless      ==  shapes outside the limits: 0 rows, and capacity 0
+--   Computed, computed  ==  what the definitions give
+--   slice, opening      ==  a slice of the shape's length, and what its open answers
+--   first-enter, second-enter, held-enter, lower-enter, first-strike, none-fit, zero-fit  ==  what an implementation that meets demand 3 answers and leaves
+--   number-is, place-is, bytes-are  ==  the parts of an answer
+--   plain k p           ==  every call answers the number k and the place or count p, and changes nothing
+--   entering f, opening-by f  ==  the like with f for enter, and for open
+use mathlib.Core.Path.{_≡_, refl, ap, subst, _∙_}
+use mathlib.Core.List.{List, [], _∷_, flatten, flatMap}
+use mathlib.Core.Bool.{true, false}
+use Prim.Native.Nat.{ℕ}
+use native.Mathlib.Omega.{arith}
+use lib.ListN.{length, drop, replicate, length-replicate}
+use lib.Dec.{eqb}
+use Rattle.permutations.specs.Lists.{tabulate, numbers, select, every, some, occurrences}
+use Rattle.permutations.specs.Permutations.{isPermutation, words, permutations}
+use Rattle.grids.specs.Order.{rank, leq, less, equal}
+use Rattle.grids.specs.Grids.{capped, isGrid, gridOf, row, permutedRow, arrangement}
+use Rattle.grids.specs.Least.{arrangements, lesser, leastOf, least}
+use Rattle.grids.specs.Questions.{firstNo, inRange, question1, question2, question3, question6, question7}
+use Rattle.bounds.specs.Bounds.{ranksWithin, between, inBounds, fillings, gridsWithin}
+use Rattle.bounds.specs.Kept.{obeyed}
+use Rattle.bounds.specs.Allperm.{allperm}
+use Rattle.bounds.specs.Prune.{question8, boundsQuestions}
+use Rattle.layout.specs.Decimal.{lead, field, digit, valueFrom, value}
+use Rattle.layout.specs.Layout.{Shape, cells, fields, entryWidth, lineLength, entryLine, blankLine, headLine, layout, layoutLength, numberAt, count, entryAt, decodeShape, decode, InLimits, inLimits, ascending, isRegister, laidOut}
+use Rattle.machine.specs.Calls.{Outcome, question4, question5, gridQuestions, leastIn, holds, question9, placeIn, insert, without, openQuestions, enterQuestions, fitQuestions}
+use Rattle.machine.specs.CallLists.{Call, enter, strike, fit, Implementation, called, questionsOf}
+use Rattle.machine.specs.Machine.{sorted, shown, Step, stepUnless, enterClass, strikeClass, fitClasses, step, outcome}
+use Rattle.machine.specs.Demand3.{Demand3}
+use Rattle.machine.proofs.SortedLaws.{Grids}
+use Rattle.machine.proofs.MachineLaws.{afterwards}
+use Rattle.machine.proofs.FollowLaws.{Follows, follows-open, follows-call, follows-next}
+use Rattle.turned_down.specs.RegisterFaults.{lastEntry}
+
+abbrev pub cell : Shape
+cell = record { rows = 1; columns = 1; top = 1; capacity = 2 }
+
+abbrev pub zero : List ℕ
+zero = 0 ∷ []
+
+abbrev pub one : List ℕ
+one = 1 ∷ []
+
+abbrev pub answer : ℕ → ℕ → Grids → Step
+answer number place next = record { number = number; place = place; next = next }
+
+abbrev pub shut : Shape
+shut = record { rows = 0; columns = 1; top = 1; capacity = 2 }
+
+abbrev pub roomless : Shape
+roomless = record { rows = 1; columns = 1; top = 1; capacity = 0 }
+
+pub record Computed : Type 0 where
+  pub zero-entered : step cell [] (enter zero) ≡ answer 0 1 (zero ∷ [])
+  pub one-entered : step cell (zero ∷ []) (enter one) ≡ answer 0 2 (one ∷ zero ∷ [])
+  pub zero-held : step cell (one ∷ zero ∷ []) (enter zero) ≡ answer 101 1 (one ∷ zero ∷ [])
+  pub zero-struck : step cell (zero ∷ []) (strike zero) ≡ answer 0 1 []
+  pub one-first : step cell [] (enter one) ≡ answer 0 1 (one ∷ [])
+  pub zero-second : step cell (one ∷ []) (enter zero) ≡ answer 0 1 (zero ∷ one ∷ [])
+  pub none-fits : step cell [] (fit zero one) ≡ answer 0 0 []
+  pub zero-fits : step cell (zero ∷ []) (fit zero one) ≡ answer 0 1 (zero ∷ [])
+  pub gone : afterwards cell [] (enter zero ∷ strike zero ∷ []) ≡ []
+  pub first-lives : length (afterwards cell [] (enter zero ∷ [])) ≡ 1
+  pub both-live : length (afterwards cell [] (enter zero ∷ enter one ∷ [])) ≡ 2
+  pub none-inside : length (select (inBounds 1 1 zero one) (afterwards cell [] [])) ≡ 0
+  pub first-inside : length (select (inBounds 1 1 zero one) (afterwards cell [] (enter zero ∷ []))) ≡ 1
+  pub none-counted : count (shown cell []) ≡ 0
+  pub zero-counted : count (shown cell (zero ∷ [])) ≡ 1
+  pub one-counted : count (shown cell (one ∷ [])) ≡ 1
+  pub both-counted : count (shown cell (one ∷ zero ∷ [])) ≡ 2
+  pub both-full : decodeShape (shown cell (one ∷ zero ∷ [])) .capacity ≡ 2
+  pub one-absent : holds (leastIn cell one) (afterwards cell [] (enter zero ∷ [])) ≡ false
+  pub one-lives : holds (leastIn cell one) (afterwards cell [] (enter zero ∷ enter one ∷ [])) ≡ true
+  pub line-left : equal (drop (lastEntry (shown cell (zero ∷ []))) (shown cell [])) (drop (lastEntry (shown cell (zero ∷ []))) (shown cell (zero ∷ []))) ≡ false
+  pub none-length : length (shown cell []) ≡ 39
+  pub none-laid : laidOut (shown cell []) ≡ true
+  pub above-top : capped (decodeShape (shown cell []) .top) (2 ∷ 2 ∷ []) ≡ false
+  pub length-asked : firstNo (questionsOf (shown cell []) (enter (2 ∷ 2 ∷ []))) ≡ 6
+  pub length-differs : eqb (length zero) (cells (decodeShape [])) ≡ false
+  pub register-asked : firstNo (questionsOf [] (fit zero zero)) ≡ 5
+  pub open-asked : firstNo (openQuestions cell (shown cell [])) ≡ 0
+  pub enter-asked : firstNo (questionsOf (shown cell []) (enter zero)) ≡ 0
+  pub rows-asked : firstNo (openQuestions shut zero) ≡ 1
+  pub capacity-asked : firstNo (openQuestions roomless (replicate 31 0)) ≡ 4
+  pub roomless-length : layoutLength roomless ≡ 31
+
+pub computed : Computed
+unfolding tabulate numbers select every some occurrences flatten flatMap isPermutation words permutations rank leq less equal capped isGrid gridOf row permutedRow arrangement arrangements lesser leastOf least firstNo inRange question1 question2 question3 question6 question7 ranksWithin between inBounds fillings gridsWithin obeyed allperm question8 boundsQuestions lead field digit valueFrom value fields entryWidth lineLength entryLine blankLine headLine layout layoutLength numberAt count entryAt decodeShape decode inLimits ascending isRegister laidOut question4 question5 gridQuestions holds question9 placeIn insert without openQuestions enterQuestions fitQuestions questionsOf sorted shown stepUnless enterClass strikeClass fitClasses step afterwards lastEntry
+computed = record {
+  zero-entered = refl;
+  one-entered = refl;
+  zero-held = refl;
+  zero-struck = refl;
+  one-first = refl;
+  zero-second = refl;
+  none-fits = refl;
+  zero-fits = refl;
+  gone = refl;
+  first-lives = refl;
+  both-live = refl;
+  none-inside = refl;
+  first-inside = refl;
+  none-counted = refl;
+  zero-counted = refl;
+  one-counted = refl;
+  both-counted = refl;
+  both-full = refl;
+  one-absent = refl;
+  one-lives = refl;
+  line-left = refl;
+  none-length = refl;
+  none-laid = refl;
+  above-top = refl;
+  length-asked = refl;
+  length-differs = refl;
+  register-asked = refl;
+  open-asked = refl;
+  enter-asked = refl;
+  rows-asked = refl;
+  capacity-asked = refl;
+  roomless-length = refl;
+}
+
+pub limits : InLimits cell
+limits = record {
+  grid-limits = record { rows-limits = (omega arith, omega arith); column-limits = (omega arith, omega arith); top-limit = omega arith };
+  capacity-limits = (omega arith, omega arith);
+}
+
+abbrev pub slice : List ℕ
+slice = replicate (layoutLength cell) 0
+
+pub opening : (i : Implementation) → Demand3 i → i .opens cell slice ≡ record { number = 0; place = 0; bytes = shown cell [] }
+opening i d = d .opens cell slice limits (length-replicate (layoutLength cell) 0)
+
+-- ---- following the machine
+
+module _ (i : Implementation) (l : Grids) (f : Follows i cell l) (c : Call) (t : Step) (e : step cell l c ≡ t) where
+  answers : called i (shown cell l) c ≡ outcome cell t
+  answers = follows-call i cell l f c ∙ ap (outcome cell) e
+
+  next : Follows i cell (t .next)
+  next = subst (λ (x : Step). Follows i cell (x .next)) e (follows-next i cell l f c)
+
+module _ (i : Implementation) (d : Demand3 i) where
+  after-zero : Follows i cell (zero ∷ [])
+  after-zero = next i [] (follows-open i d cell limits) (enter zero) _ (computed .zero-entered)
+
+  after-both : Follows i cell (one ∷ zero ∷ [])
+  after-both = next i (zero ∷ []) after-zero (enter one) _ (computed .one-entered)
+
+  after-one : Follows i cell (one ∷ [])
+  after-one = next i [] (follows-open i d cell limits) (enter one) _ (computed .one-first)
+
+  pub first-enter : i .enters (shown cell []) zero ≡ outcome cell (answer 0 1 (zero ∷ []))
+  unfolding called
+  first-enter = answers i [] (follows-open i d cell limits) (enter zero) _ (computed .zero-entered)
+
+  pub second-enter : i .enters (shown cell (zero ∷ [])) one ≡ outcome cell (answer 0 2 (one ∷ zero ∷ []))
+  unfolding called
+  second-enter = answers i (zero ∷ []) after-zero (enter one) _ (computed .one-entered)
+
+  pub held-enter : i .enters (shown cell (one ∷ zero ∷ [])) zero ≡ outcome cell (answer 101 1 (one ∷ zero ∷ []))
+  unfolding called
+  held-enter = answers i (one ∷ zero ∷ []) after-both (enter zero) _ (computed .zero-held)
+
+  pub lower-enter : i .enters (shown cell (one ∷ [])) zero ≡ outcome cell (answer 0 1 (zero ∷ one ∷ []))
+  unfolding called
+  lower-enter = answers i (one ∷ []) after-one (enter zero) _ (computed .zero-second)
+
+  pub first-strike : i .strikes (shown cell (zero ∷ [])) zero ≡ outcome cell (answer 0 1 [])
+  unfolding called
+  first-strike = answers i (zero ∷ []) after-zero (strike zero) _ (computed .zero-struck)
+
+  pub none-fit : i .fits (shown cell []) zero one ≡ outcome cell (answer 0 0 [])
+  unfolding called
+  none-fit = answers i [] (follows-open i d cell limits) (fit zero one) _ (computed .none-fits)
+
+  pub zero-fit : i .fits (shown cell (zero ∷ [])) zero one ≡ outcome cell (answer 0 1 (zero ∷ []))
+  unfolding called
+  zero-fit = answers i (zero ∷ []) after-zero (fit zero one) _ (computed .zero-fits)
+
+pub number-is : (o : Outcome) (t : Step) → o ≡ outcome cell t → o .number ≡ t .number
+unfolding outcome
+number-is o t e = ap (λ (x : Outcome). x .number) e
+
+pub place-is : (o : Outcome) (t : Step) → o ≡ outcome cell t → o .place ≡ t .place
+unfolding outcome
+place-is o t e = ap (λ (x : Outcome). x .place) e
+
+pub bytes-are : (o : Outcome) (t : Step) → o ≡ outcome cell t → o .bytes ≡ shown cell (t .next)
+unfolding outcome
+bytes-are o t e = ap (λ (x : Outcome). x .bytes) e
+
+-- ---- implementations that do one thing
+
+abbrev pub plain : ℕ → ℕ → Implementation
+plain k p = record {
+  opens = λ s b. record { number = k; place = p; bytes = b };
+  enters = λ b g. record { number = k; place = p; bytes = b };
+  strikes = λ b g. record { number = k; place = p; bytes = b };
+  fits = λ b low high. record { number = k; place = p; bytes = b };
+}
+
+abbrev pub entering : (List ℕ → List ℕ → Outcome) → Implementation
+entering f = record { opens = plain 0 0 .opens; enters = f; strikes = plain 0 0 .strikes; fits = plain 0 0 .fits }
+
+abbrev pub opening-by : (Shape → List ℕ → Outcome) → Implementation
+opening-by f = record { opens = f; enters = plain 0 0 .enters; strikes = plain 0 0 .strikes; fits = plain 0 0 .fits }

@@ -1,0 +1,115 @@
+-- Faulty programs for same do not meet its contract.
+--
+--   Computed, computed  ==  the small cases that show it
+--   answers             ==  the number is that of the definition
+--   judgedBy t          ==  0 where the test t gets a yes, else 103
+--   The other names are those of the faults.
+use mathlib.Core.Path.{_≡_, refl, sym, ap, _∙_}
+use mathlib.Core.List.{List, [], _∷_, flatMap}
+use mathlib.Core.Bool.{Bool, true, false, true≢false}
+use Prim.Native.Nat.{ℕ}
+use native.Mathlib.Omega.{arith}
+use lib.ListN.{length}
+use Rattle.permutations.specs.Lists.{tabulate, numbers, select, every, some, occurrences}
+use Rattle.permutations.specs.Permutations.{identity, isPermutation, words, permutations}
+use Rattle.grids.specs.Order.{rank, leq, equal}
+use Rattle.grids.specs.Grids.{capped, gridOf, row, column, arrangement, oneClass}
+use Rattle.grids.specs.Questions.{firstNo, inRange, question1, question2, question3, question6, question7}
+use Rattle.grids.proofs.OrderLaws.{equal-eq}
+use Rattle.canonical.specs.Same.{sameQuestions, sameNumber}
+use Rattle.canonical.specs.Programs.{Comparing, MeetsSame}
+use Rattle.turned_down.specs.RepresentFaults.{sortedBothWays}
+use Rattle.turned_down.specs.SameFaults.{NeverSame, rowSums, JudgesByRowSums, ComparesSorted, OrdersFromB, MovesWith103}
+use Rattle.turned_down.specs.TurnedDown.{fault, Turned}
+use Rattle.turned_down.proofs.Differences.{unequal}
+use Rattle.turned_down.proofs.Plans.{m1, m1-least, m5, m5-least}
+use Rattle.turned_down.proofs.BothWays.{someBothWays, one-way, starting-produces}
+
+record Computed : Type 0 where
+  m1-same : sameNumber 2 3 3 m1 m1-least ≡ 0
+  m1-sorted : sortedBothWays 2 3 m1 ≡ true
+  m1-least-sorted : sortedBothWays 2 3 m1-least ≡ true
+  m1-not-least : equal m1 m1-least ≡ false
+  two-plans : sameNumber 1 2 2 (0 ∷ 2 ∷ []) (1 ∷ 1 ∷ []) ≡ 103
+  one-sum : equal (rowSums 1 2 (0 ∷ 2 ∷ [])) (rowSums 1 2 (1 ∷ 1 ∷ [])) ≡ true
+  m5-same : sameNumber 1 3 3 m5 m5-least ≡ 0
+  m5-one-way : someBothWays 1 3 m5 m5-least ≡ false
+  some-columns : equal [] (identity 16) ≡ false
+
+computed : Computed
+unfolding tabulate numbers select every some occurrences flatMap identity isPermutation words permutations rank leq equal capped gridOf row column arrangement oneClass firstNo inRange question1 question2 question3 question6 question7 sameQuestions sameNumber sortedBothWays rowSums someBothWays
+computed = record {
+  m1-same = refl;
+  m1-sorted = refl;
+  m1-least-sorted = refl;
+  m1-not-least = refl;
+  two-plans = refl;
+  one-sum = refl;
+  m5-same = refl;
+  m5-one-way = refl;
+  some-columns = refl;
+}
+
+answers : (f : Comparing) → MeetsSame f → (m n top : ℕ) (a b : List ℕ) → f m n top a b .number ≡ sameNumber m n top a b
+unfolding MeetsSame
+answers f c m n top a b = c m n top a b .number-is
+
+judgedBy : Bool → ℕ
+judgedBy true = 0
+judgedBy false = 103
+
+judged-0 : (t : Bool) → judgedBy t ≡ 0 → t ≡ true
+unfolding judgedBy
+judged-0 true e = refl
+judged-0 false e = absurd (omega arith)
+
+judged-103 : (t : Bool) → judgedBy t ≡ 103 → t ≡ false
+unfolding judgedBy
+judged-103 true e = absurd (omega arith)
+judged-103 false e = refl
+
+pub never-same : Turned (fault MeetsSame NeverSame)
+unfolding NeverSame
+never-same = record {
+  example = λ m n top a b. record { number = 103; rows = []; columns = [] };
+  done = λ m n top a b z. omega arith;
+  refused = λ f d c. d 2 3 3 m1 m1-least (answers f c 2 3 3 m1 m1-least ∙ computed .m1-same);
+}
+
+pub judges-by-row-sums : Turned (fault MeetsSame JudgesByRowSums)
+unfolding JudgesByRowSums
+judges-by-row-sums = record {
+  example = λ m n top a b. record { number = judgedBy (equal (rowSums m n a) (rowSums m n b)); rows = []; columns = [] };
+  done = λ m n top a b z. judged-103 _ z;
+  refused = λ f d c.
+      true≢false (sym (computed .one-sum) ∙ d 1 2 2 (0 ∷ 2 ∷ []) (1 ∷ 1 ∷ []) (answers f c 1 2 2 (0 ∷ 2 ∷ []) (1 ∷ 1 ∷ []) ∙ computed .two-plans));
+}
+
+pub compares-sorted : Turned (fault MeetsSame ComparesSorted)
+unfolding ComparesSorted
+compares-sorted = record {
+  example = λ m n top a b. record { number = judgedBy (equal a b); rows = []; columns = [] };
+  done = λ m n top a b z s t. equal-eq a b (judged-0 _ z);
+  refused = λ f d c.
+      unequal m1 m1-least (computed .m1-not-least) (d 2 3 3 m1 m1-least (answers f c 2 3 3 m1 m1-least ∙ computed .m1-same) (computed .m1-sorted) (computed .m1-least-sorted));
+}
+
+pub orders-from-b : Turned (fault MeetsSame OrdersFromB)
+unfolding OrdersFromB MeetsSame
+orders-from-b = record {
+  example = λ m n top a b. record { number = judgedBy (equal a b); rows = identity m; columns = identity n };
+  done = λ m n top a b z e. let s = equal-eq a b (judged-0 _ z) in rw s (starting-produces m n b (ap length (sym s) ∙ e));
+  refused = λ f d c.
+      let z = answers f c 1 3 3 m5 m5-least ∙ computed .m5-same in
+      one-way 1 3 m5 m5-least _ _ (computed .m5-one-way) (c 1 3 3 m5 m5-least .produced z) (d 1 3 3 m5 m5-least z refl);
+}
+
+pub moves-with-103 : Turned (fault MeetsSame MovesWith103)
+unfolding MovesWith103 MeetsSame
+moves-with-103 = record {
+  example = λ m n top a b. record { number = 103; rows = []; columns = [] };
+  done = λ m n top a b z. unequal [] (identity 16) (computed .some-columns);
+  refused = λ f d c.
+      let z = answers f c 1 2 2 (0 ∷ 2 ∷ []) (1 ∷ 1 ∷ []) ∙ computed .two-plans in
+      d 1 2 2 (0 ∷ 2 ∷ []) (1 ∷ 1 ∷ []) z (c 1 2 2 (0 ∷ 2 ∷ []) (1 ∷ 1 ∷ []) .starting (λ e. omega arith) .column-identity);
+}

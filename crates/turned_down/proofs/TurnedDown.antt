@@ -1,0 +1,56 @@
+-- Every fault of the table is turned down, and each contract is met by the definitions.
+--
+--   turned-down  ==  the statement, fault by fault
+--   met          ==  some program meets each contract
+use mathlib.Core.Path.{refl}
+use Rattle.permutations.specs.Padded.{isSound, composedPadded, inversePadded}
+use Rattle.canonical.specs.Programs.{Representing, MeetsRepresent, MeetsSame}
+use Rattle.canonical.proofs.CallLaws.{represent-answers, represent-least, same-answers}
+use Rattle.bounds.specs.Prune.{pruned}
+use Rattle.bounds.specs.Demand2.{MeetsPrune}
+use Rattle.bounds.proofs.PruneLaws.{prunes, prune-exact}
+use Rattle.machine.specs.CallLists.{registerCalls, Meets}
+use Rattle.machine.proofs.Demand1Laws.{demand1}
+use Rattle.machine.proofs.Demand3Laws.{demand3}
+use Rattle.turned_down.specs.PermutationFaults.{Composes, Inverts, Tests}
+use Rattle.turned_down.specs.TurnedDown.{table, TurnedDown, Met}
+use Rattle.turned_down.proofs.Permutations.{composes-backwards, accepts-repeats, accepts-too-large, accepts-other-sizes, returns-argument, accepts-size-0, accepts-size-9}
+use Rattle.turned_down.proofs.Represent.{hands-back, one-for-all, refuses-all, sorts-by-turns, follows-first, orders-backwards, pads-with-zeros, writes-refusing, moves-refusing}
+use Rattle.turned_down.proofs.Same.{never-same, judges-by-row-sums, compares-sorted, orders-from-b, moves-with-103}
+use Rattle.turned_down.proofs.Prune.{never-prunes, never-empty, removes-nothing, prunes-unsorted, invents-removed, writes-empty, shortens-bounds, leaves-above-top, prune-writes-refusing}
+use Rattle.turned_down.proofs.Demand3.{stores-first, full-unlooked, not-held-unlooked, invents-count, invents-fit, leaves-last-line, appends-entries, places-from-zero, opens-nothing, enters-nothing, opens-any-slice, refuses-own-bytes}
+use Rattle.turned_down.proofs.Demand1.{refuses-opens, refuses-enters, grows-slice, open-grows-slice, fit-writes, held-writes, open-writes-refusing, opens-capacity-0, asks-cells-first, asks-register-last}
+
+pub turned-down : TurnedDown
+unfolding TurnedDown table
+turned-down = (hands-back, (one-for-all, (refuses-all, (sorts-by-turns, (follows-first, (orders-backwards, (pads-with-zeros, (writes-refusing, (moves-refusing, (never-same, (judges-by-row-sums, (compares-sorted, (orders-from-b, (moves-with-103, (never-prunes, (never-empty, (removes-nothing, (prunes-unsorted, (invents-removed, (writes-empty, (shortens-bounds, (leaves-above-top, (prune-writes-refusing, (stores-first, (full-unlooked, (not-held-unlooked, (invents-count, (invents-fit, (leaves-last-line, (appends-entries, (places-from-zero, (opens-nothing, (enters-nothing, (opens-any-slice, (refuses-own-bytes, (refuses-opens, (refuses-enters, (grows-slice, (open-grows-slice, (fit-writes, (held-writes, (open-writes-refusing, (opens-capacity-0, (asks-cells-first, (asks-register-last, (composes-backwards, (accepts-repeats, (accepts-too-large, (accepts-other-sizes, (returns-argument, (accepts-size-0, (accepts-size-9, tt))))))))))))))))))))))))))))))))))))))))))))))))))))
+
+ours : Meets registerCalls
+unfolding registerCalls
+ours = record { opens = λ s b. refl; enters = λ b g. refl; strikes = λ b g. refl; fits = λ b low high. refl }
+
+representing : Representing
+representing m n top g out = let a = represent-answers m n top g out in record { number = a .0; rows = a .1; columns = a .2; out = a .3 }
+
+represents : MeetsRepresent representing
+unfolding MeetsRepresent representing
+represents m n top g out = represent-answers m n top g out .4
+
+pruning : MeetsPrune pruned
+unfolding MeetsPrune
+pruning m n top low high = prunes m n top low high _ refl
+
+pub met : Met
+unfolding MeetsSame Composes Inverts Tests
+met = record {
+  represents = (representing, represents, represent-least representing represents);
+  compares = (
+    λ m n top a b. let c = same-answers m n top a b in record { number = c .0; rows = c .1; columns = c .2 },
+    λ m n top a b. same-answers m n top a b .3,
+  );
+  prunes = (pruned, pruning, prune-exact pruned pruning);
+  composes = (composedPadded 8, λ n p k r. refl);
+  inverts = (inversePadded 8, λ n p. refl);
+  tests = (isSound 8, λ n p. refl);
+  keeps = (registerCalls, demand1 registerCalls ours, demand3 registerCalls ours);
+}

@@ -1,0 +1,6 @@
+pub mod PermutationFaults
+pub mod RepresentFaults
+pub mod SameFaults
+pub mod PruneFaults
+pub mod RegisterFaults
+pub mod TurnedDown

@@ -1,0 +1,40 @@
+-- Faults of programs for same.
+--
+--   NeverSame f        ==  no two grids are said to be in one class: always 103, or all refused
+--   rowSums m n g      ==  the sums of the rows
+--   JudgesByRowSums f  ==  grids are said to be in two classes only if their row sums differ
+--   ComparesSorted f   ==  the old rule: two grids whose rows and columns are sorted are said to be in one class only if they are equal
+--   OrdersFromB f      ==  the orders returned produce A from B
+--   MovesWith103 f     ==  with 103 a column order is returned that moves something
+use mathlib.Core.Path.{_≡_}
+use mathlib.Core.List.{List, foldr}
+use mathlib.Core.Bool.{true, false}
+use Prim.Native.Nat.{ℕ, _+_, _*_}
+use lib.ListN.{length, take}
+use Rattle.permutations.specs.Lists.{tabulate}
+use Rattle.permutations.specs.Permutations.{identity}
+use Rattle.grids.specs.Order.{equal}
+use Rattle.grids.specs.Grids.{row, arrangement}
+use Rattle.canonical.specs.Programs.{Comparing}
+use Rattle.turned_down.specs.RepresentFaults.{sortedBothWays}
+
+unfoldable pub NeverSame : Comparing → Type 0
+NeverSame f = (m n top : ℕ) (a b : List ℕ) → f m n top a b .number ≡ 0 → ⊥
+
+unfoldable pub rowSums : ℕ → ℕ → List ℕ → List ℕ
+rowSums m n g = tabulate 0 m (λ i. foldr _+_ 0 (row n g i))
+
+unfoldable pub JudgesByRowSums : Comparing → Type 0
+JudgesByRowSums f = (m n top : ℕ) (a b : List ℕ) → f m n top a b .number ≡ 103 → equal (rowSums m n a) (rowSums m n b) ≡ false
+
+unfoldable pub ComparesSorted : Comparing → Type 0
+ComparesSorted f =
+    (m n top : ℕ) (a b : List ℕ) → f m n top a b .number ≡ 0 → sortedBothWays m n a ≡ true → sortedBothWays m n b ≡ true → a ≡ b
+
+unfoldable pub OrdersFromB : Comparing → Type 0
+OrdersFromB f =
+    (m n top : ℕ) (a b : List ℕ) → f m n top a b .number ≡ 0 → length a ≡ m * n →
+    arrangement m n (take m (f m n top a b .rows)) (take n (f m n top a b .columns)) b ≡ a
+
+unfoldable pub MovesWith103 : Comparing → Type 0
+MovesWith103 f = (m n top : ℕ) (a b : List ℕ) → f m n top a b .number ≡ 103 → f m n top a b .columns ≡ identity 16 → ⊥

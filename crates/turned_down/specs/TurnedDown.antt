@@ -1,0 +1,113 @@
+-- The work that document 01 turns down, as one table: each line is a contract and a fault, and no program with the fault meets the contract.
+--
+--   Fault       ==  a contract of some kind of program, and what a faulty program does
+--   fault C D   ==  the contract C and the fault D
+--   Turned f    ==  some program does this, and none that does meets the contract
+--   table       ==  the faults
+--   TurnedDown  ==  the statement: every fault is turned down
+--   Met         ==  each contract is met by some program
+use mathlib.Core.List.{List, [], _∷_}
+use Rattle.permutations.specs.Lists.{All}
+use Rattle.canonical.specs.Programs.{Representing, MeetsRepresent, Comparing, MeetsSame}
+use Rattle.canonical.specs.Demand2.{RepresentLeast}
+use Rattle.bounds.specs.Demand2.{Pruning, PruneExact, MeetsPrune}
+use Rattle.machine.specs.CallLists.{Implementation}
+use Rattle.machine.specs.Demand1.{Demand1}
+use Rattle.machine.specs.Demand3.{Demand3}
+use Rattle.turned_down.specs.PermutationFaults.{Composing, Inverting, Testing, Composes, Inverts, Tests, ComposesBackwards, AcceptsRepeats, AcceptsTooLarge, AcceptsOtherSizes, ReturnsArgument, AcceptsSize0, AcceptsSize9}
+use Rattle.turned_down.specs.RepresentFaults.{HandsBack, OneForAll, RefusesAll, SortsByTurns, FollowsFirst, OrdersBackwards, PadsWithZeros, WritesRefusing, MovesRefusing}
+use Rattle.turned_down.specs.SameFaults.{NeverSame, JudgesByRowSums, ComparesSorted, OrdersFromB, MovesWith103}
+use Rattle.turned_down.specs.PruneFaults.{NeverPrunes, NeverEmpty, RemovesNothing, PrunesUnsorted, InventsRemoved, WritesEmpty, ShortensBounds, LeavesAboveTop, PruneWritesRefusing}
+use Rattle.turned_down.specs.RegisterFaults.{StoresFirst, FullUnlooked, NotHeldUnlooked, InventsCount, InventsFit, LeavesLastLine, AppendsEntries, PlacesFromZero, OpensNothing, EntersNothing, OpensAnySlice, RefusesOwnBytes, GrowsSlice, OpenGrowsSlice, FitWrites, HeldWrites, OpenWritesRefusing, OpensCapacity0, AsksCellsFirst, AsksRegisterLast}
+
+pub record Fault : Type 1 where
+  pub Program : Type 0
+  pub Meets : Program → Type 0
+  pub Does : Program → Type 0
+
+abbrev pub fault : {Program : Type 0} → (Program → Type 0) → (Program → Type 0) → Fault
+fault {Program} C D = record { Program = Program; Meets = C; Does = D }
+
+pub record Turned (f : Fault) : Type 0 where
+  pub example : f .Program
+  pub done : f .Does example
+  pub refused : (p : f .Program) → f .Does p → f .Meets p → ⊥
+
+unfoldable pub table : List Fault
+table =
+    -- by demand 2: the grid handed back as its own least, one grid for all; with the questions: refusing all
+    fault RepresentLeast HandsBack
+    ∷ fault RepresentLeast OneForAll
+    ∷ fault RepresentLeast RefusesAll
+    -- how plans get confused: sorting by turns, following only the first of equally good rows
+    ∷ fault RepresentLeast SortsByTurns
+    ∷ fault RepresentLeast FollowsFirst
+    -- the orders that represent returns
+    ∷ fault RepresentLeast OrdersBackwards
+    ∷ fault RepresentLeast PadsWithZeros
+    -- its refusals
+    ∷ fault MeetsRepresent WritesRefusing
+    ∷ fault MeetsRepresent MovesRefusing
+    -- by what a class is: a same that always says 103; row sums; the old rule; the orders
+    ∷ fault MeetsSame NeverSame
+    ∷ fault MeetsSame JudgesByRowSums
+    ∷ fault MeetsSame ComparesSorted
+    ∷ fault MeetsSame OrdersFromB
+    ∷ fault MeetsSame MovesWith103
+    -- by demand 2: every form called empty, nothing removed; the other row unsorted; what is left and counted
+    ∷ fault PruneExact NeverPrunes
+    ∷ fault PruneExact NeverEmpty
+    ∷ fault PruneExact RemovesNothing
+    ∷ fault PruneExact PrunesUnsorted
+    ∷ fault PruneExact InventsRemoved
+    ∷ fault PruneExact WritesEmpty
+    ∷ fault PruneExact ShortensBounds
+    ∷ fault PruneExact LeavesAboveTop
+    ∷ fault MeetsPrune PruneWritesRefusing
+    -- by demand 3: the first plan stored and the others only acknowledged, full or not held said unlooked, an invented count
+    ∷ fault Demand3 StoresFirst
+    ∷ fault Demand3 FullUnlooked
+    ∷ fault Demand3 NotHeldUnlooked
+    ∷ fault Demand3 InventsCount
+    ∷ fault Demand3 InventsFit
+    -- the last line left behind after a strike; lines and places
+    ∷ fault Demand3 LeavesLastLine
+    ∷ fault Demand3 AppendsEntries
+    ∷ fault Demand3 PlacesFromZero
+    -- refusing all, or too little, or one's own register
+    ∷ fault Demand3 OpensNothing
+    ∷ fault Demand3 EntersNothing
+    ∷ fault Demand3 OpensAnySlice
+    ∷ fault Demand3 RefusesOwnBytes
+    -- by demand 1: refusing all; what a call writes; the order of the questions
+    ∷ fault Demand1 OpensNothing
+    ∷ fault Demand1 EntersNothing
+    ∷ fault Demand1 GrowsSlice
+    ∷ fault Demand1 OpenGrowsSlice
+    ∷ fault Demand1 FitWrites
+    ∷ fault Demand1 HeldWrites
+    ∷ fault Demand1 OpenWritesRefusing
+    ∷ fault Demand1 OpensCapacity0
+    ∷ fault Demand1 AsksCellsFirst
+    ∷ fault Demand1 AsksRegisterLast
+    -- orders that follow each other, and their reverses
+    ∷ fault Composes ComposesBackwards
+    ∷ fault Composes AcceptsRepeats
+    ∷ fault Composes AcceptsTooLarge
+    ∷ fault Composes AcceptsOtherSizes
+    ∷ fault Inverts ReturnsArgument
+    ∷ fault Tests AcceptsSize0
+    ∷ fault Tests AcceptsSize9
+    ∷ []
+
+unfoldable pub TurnedDown : Type 0
+TurnedDown = All Turned table
+
+pub record Met : Type 0 where
+  pub represents : (f : Representing) × MeetsRepresent f × RepresentLeast f
+  pub compares : (f : Comparing) × MeetsSame f
+  pub prunes : (f : Pruning) × MeetsPrune f × PruneExact f
+  pub composes : (f : Composing) × Composes f
+  pub inverts : (f : Inverting) × Inverts f
+  pub tests : (f : Testing) × Tests f
+  pub keeps : (i : Implementation) × Demand1 i × Demand3 i

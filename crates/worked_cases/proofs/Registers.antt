@@ -1,0 +1,30 @@
+-- Question 5 answers as the table says.
+--
+--   registers-hold  ==  the statement
+use mathlib.Core.Path.{_≡_, refl, sym}
+use mathlib.Core.List.{flatten}
+use mathlib.Core.Bool.{Bool, true, false, true≢false, not}
+use Rattle.permutations.specs.Lists.{tabulate, numbers, every}
+use Rattle.permutations.proofs.ListLaws.{every-all}
+use Rattle.grids.specs.Order.{rank, less, leq, equal}
+use Rattle.grids.specs.Grids.{capped, isGrid}
+use Rattle.grids.specs.Questions.{inRange}
+use Rattle.layout.specs.Decimal.{lead, field, digit, valueFrom, value}
+use Rattle.layout.specs.Layout.{fields, entryWidth, lineLength, entryLine, blankLine, headLine, layout, layoutLength, numberAt, count, entryAt, decodeShape, decode, inLimits, ascending, isRegister, laidOut}
+use Rattle.worked_cases.specs.Text.{bytes, text}
+use Rattle.worked_cases.specs.Registers.{Case, registers, Registers}
+
+agree : Bool → Bool → Bool
+agree x true = x
+agree x false = not x
+
+agree-equal : (x y : Bool) → agree x y ≡ true → x ≡ y
+unfolding agree
+agree-equal true true e = refl
+agree-equal true false e = absurd (true≢false (sym e))
+agree-equal false true e = absurd (true≢false (sym e))
+agree-equal false false e = refl
+
+pub registers-hold : Registers
+unfolding agree Registers registers bytes text flatten tabulate numbers every rank less leq equal capped isGrid inRange lead field digit valueFrom value fields entryWidth lineLength entryLine blankLine headLine layout layoutLength numberAt count entryAt decodeShape decode inLimits ascending isRegister laidOut
+registers-hold = every-all (λ (c : Case). laidOut (text (c .lines)) ≡ c .answer) (λ (c : Case). agree (laidOut (text (c .lines))) (c .answer)) (λ c t. agree-equal _ _ t) registers refl

@@ -1,0 +1,122 @@
+-- The order of each call's questions, and the edges that document 01 names under them, as one table: the questions of a call on some arguments,
+-- and the number of the first no. Where the arguments have several faults, the first question that gets a no gives the number.
+--
+--   Edge      ==  the questions asked, and the number that they give
+--   zeros k   ==  k cells of 0
+--   shape m n top capacity  ==  the four numbers of an open
+--   fresh, short, full  ==  the bytes of an open register of 1 row, 1 column, top 1 and capacity 1; the same less the last byte; and with the entry 0
+--   edges     ==  the table
+--   Edges     ==  the statement: every edge gives its number
+--   Accepted  ==  of the numbers up to 103, those that are no refusals
+use mathlib.Core.Path.{_≡_}
+use mathlib.Core.List.{List, [], _∷_}
+use Prim.Native.Nat.{ℕ}
+use lib.ListN.{replicate}
+use Rattle.permutations.specs.Lists.{All, numbers, select}
+use Rattle.grids.specs.Questions.{Question, firstNo}
+use Rattle.canonical.specs.Represent.{representQuestions}
+use Rattle.canonical.specs.Same.{sameQuestions}
+use Rattle.bounds.specs.Prune.{pruneQuestions}
+use Rattle.layout.specs.Layout.{Shape}
+use Rattle.machine.specs.Calls.{question4, openQuestions}
+use Rattle.machine.specs.CallLists.{enter, strike, fit, questionsOf, accepted}
+use Rattle.worked_cases.specs.Text.{text}
+
+pub record Edge : Type 0 where
+  pub asked : List Question
+  pub number : ℕ
+
+abbrev pub zeros : ℕ → List ℕ
+zeros k = replicate k 0
+
+abbrev pub shape : ℕ → ℕ → ℕ → ℕ → Shape
+shape m n top capacity = record { rows = m; columns = n; top = top; capacity = capacity }
+
+unfoldable pub fresh : List ℕ
+fresh = text ("     1     1     1     1     0\n" ∷ "   \n" ∷ [])
+
+unfoldable pub short : List ℕ
+short = text ("     1     1     1     1     0\n" ∷ "   " ∷ [])
+
+unfoldable pub full : List ℕ
+full = text ("     1     1     1     1     1\n" ∷ "  0\n" ∷ [])
+
+unfoldable pub edges : List Edge
+edges =
+    -- rows 0 and columns 0 give 1
+    record { asked = representQuestions 0 0 0 [] []; number = 1 }
+    -- rows 8, columns 16, top 15, capacity 500 pass
+    ∷ record { asked = representQuestions 8 16 15 (zeros 128) (zeros 128); number = 0 }
+    ∷ record { asked = question4 500 ∷ []; number = 0 }
+    -- one more gives 1, 2, 3, 4
+    ∷ record { asked = representQuestions 9 16 15 (zeros 144) (zeros 144); number = 1 }
+    ∷ record { asked = representQuestions 8 17 15 (zeros 136) (zeros 136); number = 2 }
+    ∷ record { asked = representQuestions 8 16 16 (zeros 128) (zeros 128); number = 3 }
+    ∷ record { asked = openQuestions (shape 1 1 0 501) []; number = 4 }
+    -- a register one byte short gives 5, to open 6
+    ∷ record { asked = questionsOf short (enter (zeros 1)); number = 5 }
+    ∷ record { asked = openQuestions (shape 1 1 1 1) short; number = 6 }
+    -- a grid one byte too long gives 6
+    ∷ record { asked = representQuestions 1 1 0 (zeros 2) (zeros 1); number = 6 }
+    -- a cell equal to top passes, top + 1 gives 7
+    ∷ record { asked = representQuestions 1 1 2 (2 ∷ []) (zeros 1); number = 0 }
+    ∷ record { asked = representQuestions 1 1 2 (3 ∷ []) (zeros 1); number = 7 }
+    -- represent: 1, 2, 3, 6, 7; the output slice is asked for its length and not for its cells
+    ∷ record { asked = representQuestions 0 0 16 (17 ∷ []) []; number = 1 }
+    ∷ record { asked = representQuestions 1 0 16 (17 ∷ []) []; number = 2 }
+    ∷ record { asked = representQuestions 1 1 16 (17 ∷ []) []; number = 3 }
+    ∷ record { asked = representQuestions 1 1 15 (17 ∷ []) []; number = 6 }
+    ∷ record { asked = representQuestions 1 1 15 (17 ∷ []) (17 ∷ []); number = 7 }
+    ∷ record { asked = representQuestions 1 1 15 (15 ∷ []) (17 ∷ []); number = 0 }
+    -- same: 1, 2, 3, 6, 7, and 6 and 7 of both grids
+    ∷ record { asked = sameQuestions 0 0 16 (17 ∷ []) []; number = 1 }
+    ∷ record { asked = sameQuestions 1 0 16 (17 ∷ []) []; number = 2 }
+    ∷ record { asked = sameQuestions 1 1 16 (17 ∷ []) []; number = 3 }
+    ∷ record { asked = sameQuestions 1 1 15 (17 ∷ []) []; number = 6 }
+    ∷ record { asked = sameQuestions 1 1 15 [] (17 ∷ []); number = 6 }
+    ∷ record { asked = sameQuestions 1 1 15 (17 ∷ []) (15 ∷ []); number = 7 }
+    ∷ record { asked = sameQuestions 1 1 15 (15 ∷ []) (17 ∷ []); number = 7 }
+    ∷ record { asked = sameQuestions 1 1 15 (15 ∷ []) (15 ∷ []); number = 0 }
+    -- prune: 1, 2, 3, 6, 7, 8, and 7 of all bounds before 8 of any
+    ∷ record { asked = pruneQuestions 0 0 16 (17 ∷ 1 ∷ []) (0 ∷ []); number = 1 }
+    ∷ record { asked = pruneQuestions 1 0 16 (17 ∷ 1 ∷ []) (0 ∷ []); number = 2 }
+    ∷ record { asked = pruneQuestions 1 2 16 (17 ∷ 1 ∷ []) (0 ∷ []); number = 3 }
+    ∷ record { asked = pruneQuestions 1 2 15 (17 ∷ 1 ∷ []) (0 ∷ []); number = 6 }
+    ∷ record { asked = pruneQuestions 1 2 15 (1 ∷ 1 ∷ []) (0 ∷ 17 ∷ []); number = 7 }
+    ∷ record { asked = pruneQuestions 1 2 15 (1 ∷ 1 ∷ []) (1 ∷ 0 ∷ []); number = 8 }
+    ∷ record { asked = pruneQuestions 1 2 15 (1 ∷ 1 ∷ []) (1 ∷ 1 ∷ []); number = 0 }
+    -- open: 1, 2, 3, 4, 6
+    ∷ record { asked = openQuestions (shape 0 0 16 0) []; number = 1 }
+    ∷ record { asked = openQuestions (shape 1 0 16 0) []; number = 2 }
+    ∷ record { asked = openQuestions (shape 1 1 16 0) []; number = 3 }
+    ∷ record { asked = openQuestions (shape 1 1 1 0) []; number = 4 }
+    ∷ record { asked = openQuestions (shape 1 1 1 1) []; number = 6 }
+    ∷ record { asked = openQuestions (shape 1 1 1 1) fresh; number = 0 }
+    -- enter: 5, 6, 7, 9
+    ∷ record { asked = questionsOf short (enter (2 ∷ 2 ∷ [])); number = 5 }
+    ∷ record { asked = questionsOf full (enter (2 ∷ 2 ∷ [])); number = 6 }
+    ∷ record { asked = questionsOf full (enter (2 ∷ [])); number = 7 }
+    ∷ record { asked = questionsOf full (enter (1 ∷ [])); number = 9 }
+    ∷ record { asked = questionsOf full (enter (0 ∷ [])); number = 0 }
+    ∷ record { asked = questionsOf fresh (enter (1 ∷ [])); number = 0 }
+    -- strike: 5, 6, 7, 10
+    ∷ record { asked = questionsOf short (strike (2 ∷ 2 ∷ [])); number = 5 }
+    ∷ record { asked = questionsOf full (strike (2 ∷ 2 ∷ [])); number = 6 }
+    ∷ record { asked = questionsOf full (strike (2 ∷ [])); number = 7 }
+    ∷ record { asked = questionsOf full (strike (1 ∷ [])); number = 10 }
+    ∷ record { asked = questionsOf full (strike (0 ∷ [])); number = 0 }
+    ∷ record { asked = questionsOf fresh (strike (0 ∷ [])); number = 10 }
+    -- fit: 5, 6, 7, 8
+    ∷ record { asked = questionsOf short (fit (2 ∷ 2 ∷ []) (0 ∷ [])); number = 5 }
+    ∷ record { asked = questionsOf fresh (fit (2 ∷ 2 ∷ []) (0 ∷ [])); number = 6 }
+    ∷ record { asked = questionsOf fresh (fit (0 ∷ []) (2 ∷ 2 ∷ [])); number = 6 }
+    ∷ record { asked = questionsOf fresh (fit (2 ∷ []) (0 ∷ [])); number = 7 }
+    ∷ record { asked = questionsOf fresh (fit (1 ∷ []) (0 ∷ [])); number = 8 }
+    ∷ record { asked = questionsOf fresh (fit (0 ∷ []) (0 ∷ [])); number = 0 }
+    ∷ []
+
+unfoldable pub Edges : Type 0
+Edges = All (λ e. firstNo (e .asked) ≡ e .number) edges
+
+unfoldable pub Accepted : Type 0
+Accepted = select accepted (numbers 104) ≡ 0 ∷ 101 ∷ 102 ∷ []

@@ -1,0 +1,5 @@
+pub mod Text
+pub mod Orders
+pub mod Edges
+pub mod Registers
+pub mod Books
