@@ -10,7 +10,7 @@
 --   in-flatMap, of-flatMap                       ==  membership in lists put one after another
 --   select-yes, select-no, in-select, of-select, select-ext, select-none, length-select, select-split, select-within  ==  the elements that pass a test
 --   every-at, at-every                           ==  a test that every element passes
---   every-all                                    ==  what a test shows of each element holds of all
+--   every-all, all-append                        ==  what a test shows of each element holds of all; what holds of two lists holds of one after the other
 --   some-at, at-some                             ==  a test that some element passes
 --   occurs-at, once-occurs                       ==  a number that occurs stands somewhere; one that stands at one index alone occurs once
 use mathlib.Core.Path.{_≡_, refl, sym, ap, _∙_}
@@ -199,6 +199,10 @@ module _ {ℓ} {A : Type ℓ} where
   unfolding every
   every-all P t h [] e = tt
   every-all P t h (x ∷ l) e = let p = and-yes (t x) (every t l) e in (h x (p .0), every-all P t h l (p .1))
+
+  pub all-append : (P : A → Type 0) (k l : List A) → All P k → All P l → All P (k ++ l)
+  all-append P [] l g h = h
+  all-append P (x ∷ k) l g h = (g .0, all-append P k l (g .1) h)
 
   pub some-at : (t : A → Bool) (l : List A) → some t l ≡ true → (x : A) × List·Memᴰ x l × (t x ≡ true)
   unfolding some

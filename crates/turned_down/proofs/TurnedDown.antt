@@ -4,6 +4,7 @@
 --   met          ==  some program meets each contract
 use mathlib.Core.Path.{refl}
 use Rattle.permutations.specs.Padded.{isSound, composedPadded, inversePadded}
+use Rattle.permutations.proofs.ListLaws.{all-append}
 use Rattle.canonical.specs.Programs.{Representing, MeetsRepresent, MeetsSame}
 use Rattle.canonical.proofs.CallLaws.{represent-answers, represent-least, same-answers}
 use Rattle.bounds.specs.Prune.{pruned}
@@ -13,8 +14,8 @@ use Rattle.machine.specs.CallLists.{registerCalls, Meets}
 use Rattle.machine.proofs.Demand1Laws.{demand1}
 use Rattle.machine.proofs.Demand3Laws.{demand3}
 use Rattle.turned_down.specs.PermutationFaults.{Composes, Inverts, Tests}
-use Rattle.turned_down.specs.TurnedDown.{table, TurnedDown, Met}
-use Rattle.turned_down.proofs.Permutations.{composes-backwards, accepts-repeats, accepts-too-large, accepts-other-sizes, returns-argument, accepts-size-0, accepts-size-9}
+use Rattle.turned_down.specs.TurnedDown.{Turned, orderFaults, table, TurnedDown, Met}
+use Rattle.turned_down.proofs.Permutations.{rows-turned, columns-turned}
 use Rattle.turned_down.proofs.Represent.{hands-back, one-for-all, refuses-all, sorts-by-turns, follows-first, orders-backwards, pads-with-zeros, writes-refusing, moves-refusing}
 use Rattle.turned_down.proofs.Same.{never-same, judges-by-row-sums, compares-sorted, orders-from-b, moves-with-103}
 use Rattle.turned_down.proofs.Prune.{never-prunes, never-empty, removes-nothing, prunes-unsorted, invents-removed, writes-empty, shortens-bounds, leaves-above-top, prune-writes-refusing}
@@ -23,7 +24,7 @@ use Rattle.turned_down.proofs.Demand1.{refuses-opens, refuses-enters, g
 
 pub turned-down : TurnedDown
 unfolding TurnedDown table
-turned-down = (hands-back, (one-for-all, (refuses-all, (sorts-by-turns, (follows-first, (orders-backwards, (pads-with-zeros, (writes-refusing, (moves-refusing, (never-same, (judges-by-row-sums, (compares-sorted, (orders-from-b, (moves-with-103, (never-prunes, (never-empty, (removes-nothing, (prunes-unsorted, (invents-removed, (writes-empty, (shortens-bounds, (leaves-above-top, (prune-writes-refusing, (stores-first, (full-unlooked, (not-held-unlooked, (invents-count, (invents-fit, (leaves-last-line, (appends-entries, (places-from-zero, (opens-nothing, (enters-nothing, (opens-any-slice, (refuses-own-bytes, (refuses-opens, (refuses-enters, (grows-slice, (open-grows-slice, (fit-writes, (held-writes, (open-writes-refusing, (opens-capacity-0, (asks-cells-first, (asks-register-last, (composes-backwards, (accepts-repeats, (accepts-too-large, (accepts-other-sizes, (returns-argument, (accepts-size-0, (accepts-size-9, tt))))))))))))))))))))))))))))))))))))))))))))))))))))
+turned-down = (hands-back, (one-for-all, (refuses-all, (sorts-by-turns, (follows-first, (orders-backwards, (pads-with-zeros, (writes-refusing, (moves-refusing, (never-same, (judges-by-row-sums, (compares-sorted, (orders-from-b, (moves-with-103, (never-prunes, (never-empty, (removes-nothing, (prunes-unsorted, (invents-removed, (writes-empty, (shortens-bounds, (leaves-above-top, (prune-writes-refusing, (stores-first, (full-unlooked, (not-held-unlooked, (invents-count, (invents-fit, (leaves-last-line, (appends-entries, (places-from-zero, (opens-nothing, (enters-nothing, (opens-any-slice, (refuses-own-bytes, (refuses-opens, (refuses-enters, (grows-slice, (open-grows-slice, (fit-writes, (held-writes, (open-writes-refusing, (opens-capacity-0, (asks-cells-first, (asks-register-last, all-append Turned (orderFaults 8) (orderFaults 16) rows-turned columns-turned)))))))))))))))))))))))))))))))))))))))))))))
 
 ours : Meets registerCalls
 unfolding registerCalls
@@ -49,8 +50,8 @@ met = record {
     λ m n top a b. same-answers m n top a b .3,
   );
   prunes = (pruned, pruning, prune-exact pruned pruning);
-  composes = (composedPadded 8, λ n p k r. refl);
-  inverts = (inversePadded 8, λ n p. refl);
-  tests = (isSound 8, λ n p. refl);
+  composes = λ width. (composedPadded width, λ n p k r. refl);
+  inverts = λ width. (inversePadded width, λ n p. refl);
+  tests = λ width. (isSound width, λ n p. refl);
   keeps = (registerCalls, demand1 registerCalls ours, demand3 registerCalls ours);
 }

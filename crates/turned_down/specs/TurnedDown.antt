@@ -3,10 +3,12 @@
 --   Fault       ==  a contract of some kind of program, and what a faulty program does
 --   fault C D   ==  the contract C and the fault D
 --   Turned f    ==  some program does this, and none that does meets the contract
+--   orderFaults width  ==  the faults of programs for permutations held in so many positions
 --   table       ==  the faults
 --   TurnedDown  ==  the statement: every fault is turned down
 --   Met         ==  each contract is met by some program
-use mathlib.Core.List.{List, [], _∷_}
+use mathlib.Core.List.{List, [], _∷_, _++_}
+use Prim.Native.Nat.{ℕ}
 use Rattle.permutations.specs.Lists.{All}
 use Rattle.canonical.specs.Programs.{Representing, MeetsRepresent, Comparing, MeetsSame}
 use Rattle.canonical.specs.Demand2.{RepresentLeast}
@@ -14,7 +16,7 @@ use Rattle.bounds.specs.Demand2.{Pruning, PruneExact, MeetsPrune}
 use Rattle.machine.specs.CallLists.{Implementation}
 use Rattle.machine.specs.Demand1.{Demand1}
 use Rattle.machine.specs.Demand3.{Demand3}
-use Rattle.turned_down.specs.PermutationFaults.{Composing, Inverting, Testing, Composes, Inverts, Tests, ComposesBackwards, AcceptsRepeats, AcceptsTooLarge, AcceptsOtherSizes, ReturnsArgument, AcceptsSize0, AcceptsSize9}
+use Rattle.turned_down.specs.PermutationFaults.{Composing, Inverting, Testing, Composes, Inverts, Tests, ComposesBackwards, AcceptsRepeats, AcceptsTooLarge, AcceptsOtherSizes, ReturnsArgument, AcceptsSize0, AcceptsPast}
 use Rattle.turned_down.specs.RepresentFaults.{HandsBack, OneForAll, RefusesAll, SortsByTurns, FollowsFirst, OrdersBackwards, PadsWithZeros, WritesRefusing, MovesRefusing}
 use Rattle.turned_down.specs.SameFaults.{NeverSame, JudgesByRowSums, ComparesSorted, OrdersFromB, MovesWith103}
 use Rattle.turned_down.specs.PruneFaults.{NeverPrunes, NeverEmpty, RemovesNothing, PrunesUnsorted, InventsRemoved, WritesEmpty, ShortensBounds, LeavesAboveTop, PruneWritesRefusing}
@@ -32,6 +34,18 @@ pub record Turned (f : Fault) : Type 0 where
   pub example : f .Program
   pub done : f .Does example
   pub refused : (p : f .Program) → f .Does p → f .Meets p → ⊥
+
+-- of rows, in 8 positions, and of columns, in 16
+unfoldable pub orderFaults : ℕ → List Fault
+orderFaults width =
+    fault (Composes width) (ComposesBackwards width)
+    ∷ fault (Composes width) (AcceptsRepeats width)
+    ∷ fault (Composes width) (AcceptsTooLarge width)
+    ∷ fault (Composes width) (AcceptsOtherSizes width)
+    ∷ fault (Inverts width) (ReturnsArgument width)
+    ∷ fault (Tests width) AcceptsSize0
+    ∷ fault (Tests width) (AcceptsPast width)
+    ∷ []
 
 unfoldable pub table : List Fault
 table =
@@ -91,14 +105,7 @@ table =
     ∷ fault Demand1 AsksCellsFirst
     ∷ fault Demand1 AsksRegisterLast
     -- orders that follow each other, and their reverses
-    ∷ fault Composes ComposesBackwards
-    ∷ fault Composes AcceptsRepeats
-    ∷ fault Composes AcceptsTooLarge
-    ∷ fault Composes AcceptsOtherSizes
-    ∷ fault Inverts ReturnsArgument
-    ∷ fault Tests AcceptsSize0
-    ∷ fault Tests AcceptsSize9
-    ∷ []
+    ∷ (orderFaults 8 ++ orderFaults 16)
 
 unfoldable pub TurnedDown : Type 0
 TurnedDown = All Turned table
@@ -107,7 +114,7 @@ pub record Met : Type 0 where
   pub represents : (f : Representing) × MeetsRepresent f × RepresentLeast f
   pub compares : (f : Comparing) × MeetsSame f
   pub prunes : (f : Pruning) × MeetsPrune f × PruneExact f
-  pub composes : (f : Composing) × Composes f
-  pub inverts : (f : Inverting) × Inverts f
-  pub tests : (f : Testing) × Tests f
+  pub composes : (width : ℕ) → (f : Composing) × Composes width f
+  pub inverts : (width : ℕ) → (f : Inverting) × Inverts width f
+  pub tests : (width : ℕ) → (f : Testing) × Tests width f
   pub keeps : (i : Implementation) × Demand1 i × Demand3 i
