@@ -1,7 +1,8 @@
 -- What the answers of represent and same mean.
 --
 --   represent-pass, same-pass  ==  what the questions get a yes for, exactly
---   represent-least      ==  demand 2's sentence on represent, of every program that meets its contract
+--   represented-least    ==  every answer that the contract allows is the least arrangement, with orders that produce it
+--   represent-least      ==  so demand 2's sentence on represent holds of every program that meets the contract
 --   represent-determined ==  two answers to the same arguments have one number and one output slice
 --   produces-class       ==  orders that produce b from a show the two in one class
 --   same-zero, same-103  ==  where every question gets a yes: 0 exactly for grids in one class, 103 exactly for grids in two
@@ -23,7 +24,7 @@ use Rattle.permutations.specs.Padded.{padded}
 use Rattle.permutations.proofs.PermutationLaws.{inverse-permutation, composed-inverse}
 use Rattle.permutations.proofs.PaddedLaws.{length-padded, padded-from, padded-own}
 use Rattle.grids.specs.Grids.{IsGrid, capped, arrangement, OneClass, oneClass}
-use Rattle.grids.specs.Least.{least}
+use Rattle.grids.specs.Least.{IsLeast, least}
 use Rattle.grids.specs.Questions.{firstNo, Limits}
 use Rattle.grids.proofs.GridLaws.{arrangement-identity, arrangement-twice, class-passes, passes-class}
 use Rattle.grids.proofs.LeastLaws.{least-is, least-in-class, one-class-one-least}
@@ -69,12 +70,15 @@ same-pass m n top a b = (to, back)
 
 -- ---- represent
 
-pub represent-least : (f : Representing) → MeetsRepresent f → RepresentLeast f
-unfolding RepresentLeast MeetsRepresent
-represent-least f c m n top g out l i e =
-    let r = c m n top g out in
+pub represented-least : (m n top : ℕ) (g out : List ℕ) → Limits m n top → IsGrid m n top g → length out ≡ m * n →
+    (number : ℕ) (rows columns out′ : List ℕ) → Represented m n top g out number rows columns out′ → (number ≡ 0) × IsLeast m n g out′ × Produces m n g out′ rows columns
+represented-least m n top g out l i e number rows columns out′ r =
     let z = r .number-is ∙ represent-pass m n top g out .1 (l, i, e) in
     (z, rw (r .written z) (least-is m n g (i .cells)), rw (r .written z) (r .produced z))
+
+pub represent-least : (f : Representing) → MeetsRepresent f → RepresentLeast f
+unfolding RepresentLeast MeetsRepresent
+represent-least f c m n top g out l i e = represented-least m n top g out l i e _ _ _ _ (c m n top g out)
 
 pub represent-determined : (m n top : ℕ) (g out : List ℕ) (k : ℕ) (p q o : List ℕ) (k′ : ℕ) (p′ q′ o′ : List ℕ) →
     Represented m n top g out k p q o → Represented m n top g out k′ p′ q′ o′ → (k ≡ k′) × (o ≡ o′)

@@ -17,7 +17,7 @@ use Rattle.machine.specs.Demand1.{Demand1}
 use Rattle.turned_down.specs.RegisterFaults.{OpensNothing, EntersNothing, GrowsSlice, OpenGrowsSlice, FitWrites, HeldWrites, OpenWritesRefusing, OpensCapacity0, AsksCellsFirst, AsksRegisterLast}
 use Rattle.turned_down.specs.TurnedDown.{fault, Turned}
 use Rattle.turned_down.proofs.Differences.{unequal}
-use Rattle.turned_down.proofs.RegisterCases.{cell, zero, one, shut, roomless, computed, limits, plain, entering, opening-by}
+use Rattle.turned_down.proofs.RegisterCases.{cell, zero, one, rowless, roomless, computed, limits, plain, entering, opening-by}
 
 pub refuses-opens : Turned (fault Demand1 OpensNothing)
 unfolding OpensNothing
@@ -73,9 +73,9 @@ open-writes-refusing = record {
   example = opening-by (λ s b. record { number = 1; place = 0; bytes = [] });
   done = λ s x b r. unequal [] (x ∷ b) refl;
   refused = λ i f d.
-      let e = d .open-refuses shut zero 0 (computed .rows-asked) in
+      let e = d .open-refuses rowless zero 0 (computed .rows-asked) in
       let z = ap (λ (x : Outcome). x .number) e in
-      f shut 0 [] (λ y. omega arith) (ap (λ (x : Outcome). x .bytes) e);
+      f rowless 0 [] (λ y. omega arith) (ap (λ (x : Outcome). x .bytes) e);
 }
 
 pub opens-capacity-0 : Turned (fault Demand1 OpensCapacity0)

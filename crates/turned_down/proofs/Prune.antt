@@ -24,7 +24,7 @@ use Rattle.bounds.specs.Demand2.{Exact, Pruning, PruneExact, MeetsPrune}
 use Rattle.bounds.proofs.KeptLaws.{obeyed-decides, keeps-decides}
 use Rattle.bounds.proofs.AllpermLaws.{allperm-decides}
 use Rattle.bounds.proofs.PruneLaws.{prune-pass, prunes-refused}
-use Rattle.turned_down.specs.PruneFaults.{NeverPrunes, NeverEmpty, RemovesNothing, unsorted, PrunesUnsorted, InventsRemoved, WritesEmpty, ShortensBounds, LeavesAboveTop, PruneWritesRefusing}
+use Rattle.turned_down.specs.PruneFaults.{NeverPrunes, NeverEmpty, RemovesNothing, RaisesNoLow, LowersNoHigh, unsorted, PrunesUnsorted, InventsRemoved, WritesEmpty, ShortensBounds, LeavesAboveTop, IgnoresOrder, PruneWritesRefusing}
 use Rattle.turned_down.specs.TurnedDown.{fault, Turned}
 use Rattle.turned_down.proofs.Differences.{unequal}
 
@@ -55,6 +55,7 @@ record Computed : Type 0 where
   zeros-removed : removed (allperm 2 2) 4 3 zeros zeros ≡ 0
   m10-asked : firstNo (pruneQuestions 2 1 3 low10 high10) ≡ 0
   m10-none : obeyed (allperm 2 1) 2 3 low10 high10 ≡ false
+  order-asked : firstNo (pruneQuestions 1 1 1 (1 ∷ []) (0 ∷ [])) ≡ 8
   rows-asked : firstNo (pruneQuestions 0 0 0 (0 ∷ []) []) ≡ 1
 
 computed : Computed
@@ -71,6 +72,7 @@ computed = record {
   zeros-removed = refl;
   m10-asked = refl;
   m10-none = refl;
+  order-asked = refl;
   rows-asked = refl;
 }
 
@@ -104,6 +106,13 @@ module _ (f : Pruning) (c : PruneExact f) where
   empty10 : (f 2 1 3 low10 high10 .number ≡ 102) × (f 2 1 3 low10 high10 .count ≡ 0) × (f 2 1 3 low10 high10 .low ≡ low10) × (f 2 1 3 low10 high10 .high ≡ high10)
   empty10 = exact f c 2 1 3 low10 high10 (computed .m10-asked) .none none10
 
+  -- the low of the last cell of M9 is raised
+  unraised : f 2 2 3 low9 high9 .low ≡ low9 → ⊥
+  unfolding rank
+  unraised e =
+      let l = ap (λ (x : List ℕ). getD x 3 0) e in
+      pruned9 3 0 (computed .m9-raised) (at-m9 .exact obeyed9 3 0 (omega arith) (omega arith) .1 (omega arith, omega arith))
+
 pub never-prunes : Turned (fault PruneExact NeverPrunes)
 unfolding NeverPrunes
 never-prunes = record {
@@ -121,14 +130,31 @@ never-empty = record {
 }
 
 pub removes-nothing : Turned (fault PruneExact RemovesNothing)
-unfolding RemovesNothing rank
+unfolding RemovesNothing
 removes-nothing = record {
   example = λ m n top low high. outcome 0 0 low high;
   done = λ m n top low high z. (refl, refl);
+  refused = λ f d c. unraised f c (d 2 2 3 low9 high9 (zero9 f c) .0);
+}
+
+pub raises-no-low : Turned (fault PruneExact RaisesNoLow)
+unfolding RaisesNoLow
+raises-no-low = record {
+  example = λ m n top low high. outcome 0 0 low high;
+  done = λ m n top low high z. refl;
+  refused = λ f d c. unraised f c (d 2 2 3 low9 high9 (zero9 f c));
+}
+
+pub lowers-no-high : Turned (fault PruneExact LowersNoHigh)
+unfolding LowersNoHigh rank
+lowers-no-high = record {
+  example = λ m n top low high. outcome 0 0 low high;
+  done = λ m n top low high z. refl;
   refused = λ f d c.
-      let k = d 2 2 3 low9 high9 (zero9 f c) in
-      let l = ap (λ (x : List ℕ). getD x 0 0) (k .0) in
-      let h = ap (λ (x : List ℕ). getD x 0 0) (k .1) in
+      let h = ap (λ (x : List ℕ). getD x 0 0) (d 2 2 3 low9 high9 (zero9 f c)) in
+      let k = at-m9 f c .ends obeyed9 0 (omega arith) .0 in
+      let l = k .inside .capped 0 (omega arith) in
+      let e = k .has in
       pruned9 0 3 (computed .m9-capped) (at-m9 f c .exact obeyed9 0 3 (omega arith) (omega arith) .1 (omega arith, omega arith));
 }
 
@@ -183,6 +209,14 @@ leaves-above-top = record {
       let k = at-m9 f c .ends obeyed9 0 (omega arith) .1 in
       let within = k .inside .capped 0 (omega arith) in
       omega (arith, k .has);
+}
+
+pub ignores-order : Turned (fault MeetsPrune IgnoresOrder)
+unfolding IgnoresOrder MeetsPrune
+ignores-order = record {
+  example = λ m n top low high. outcome 0 0 low high;
+  done = λ m n top low high z. omega arith;
+  refused = λ f d c. d 1 1 1 (1 ∷ []) (0 ∷ []) (ap (λ (x : Pruned). x .number) (prunes-refused 1 1 1 (1 ∷ []) (0 ∷ []) _ (c 1 1 1 (1 ∷ []) (0 ∷ [])) 7 (computed .order-asked)));
 }
 
 pub prune-writes-refusing : Turned (fault MeetsPrune PruneWritesRefusing)

@@ -2,7 +2,7 @@
 --
 --   cell                ==  a shape of 1 row, 1 column, top 1 and capacity 2
 --   zero, one           ==  its two grids
---   shut, roomless      ==  shapes outside the limits: 0 rows, and capacity 0
+--   rowless, roomless   ==  shapes outside the limits: 0 rows, and capacity 0
 --   Computed, computed  ==  what the definitions give
 --   slice, opening      ==  a slice of the shape's length, and what its open answers
 --   first-enter, second-enter, held-enter, lower-enter, first-strike, none-fit, zero-fit  ==  what an implementation that meets demand 3 answers and leaves
@@ -49,8 +49,8 @@ one = 1 ∷ []
 abbrev pub answer : ℕ → ℕ → Grids → Step
 answer number place next = record { number = number; place = place; next = next }
 
-abbrev pub shut : Shape
-shut = record { rows = 0; columns = 1; top = 1; capacity = 2 }
+abbrev pub rowless : Shape
+rowless = record { rows = 0; columns = 1; top = 1; capacity = 2 }
 
 abbrev pub roomless : Shape
 roomless = record { rows = 1; columns = 1; top = 1; capacity = 0 }
@@ -85,7 +85,7 @@ pub record Computed : Type 0 where
   pub register-asked : firstNo (questionsOf [] (fit zero zero)) ≡ 5
   pub open-asked : firstNo (openQuestions cell (shown cell [])) ≡ 0
   pub enter-asked : firstNo (questionsOf (shown cell []) (enter zero)) ≡ 0
-  pub rows-asked : firstNo (openQuestions shut zero) ≡ 1
+  pub rows-asked : firstNo (openQuestions rowless zero) ≡ 1
   pub capacity-asked : firstNo (openQuestions roomless (replicate 31 0)) ≡ 4
   pub roomless-length : layoutLength roomless ≡ 31
 

@@ -24,7 +24,7 @@ use Rattle.canonical.specs.Represent.{Produces, representQuestions}
 use Rattle.canonical.specs.Programs.{Representing, MeetsRepresent}
 use Rattle.canonical.specs.Demand2.{RepresentLeast}
 use Rattle.canonical.proofs.CallLaws.{represent-pass, produces-past}
-use Rattle.turned_down.specs.RepresentFaults.{HandsBack, OneForAll, RefusesAll, sortedBothWays, SortsByTurns, equalRows, FollowsFirst, OrdersBackwards, PadsWithZeros, WritesRefusing, MovesRefusing}
+use Rattle.turned_down.specs.RepresentFaults.{HandsBack, OneForAll, RefusesAll, sortedBothWays, SortsByTurns, equalRows, FollowsFirst, OrdersBackwards, PadsWithZeros, IgnoresLength, IgnoresCells, WritesRefusing, MovesRefusing}
 use Rattle.turned_down.specs.TurnedDown.{fault, Turned}
 use Rattle.turned_down.proofs.Differences.{unequal}
 use Rattle.turned_down.proofs.Plans.{m1, m5}
@@ -45,6 +45,8 @@ record Computed : Type 0 where
   turning-second : some (λ q. equal (arrangement 2 3 (0 ∷ 1 ∷ []) q turning) (least 2 3 turning)) (permutations 3) ≡ false
   m5-asked : firstNo (representQuestions 1 3 3 m5 m5) ≡ 0
   m5-one-way : someBothWays 1 3 m5 (least 1 3 m5) ≡ false
+  length-asked : firstNo (representQuestions 1 1 0 [] (0 ∷ [])) ≡ 6
+  cells-asked : firstNo (representQuestions 1 1 0 (1 ∷ []) (0 ∷ [])) ≡ 7
   none-asked : firstNo (representQuestions 0 0 0 [] (0 ∷ [])) ≡ 1
   some-rows : equal [] (identity 8) ≡ false
 
@@ -62,6 +64,8 @@ computed = record {
   turning-second = refl;
   m5-asked = refl;
   m5-one-way = refl;
+  length-asked = refl;
+  cells-asked = refl;
   none-asked = refl;
   some-rows = refl;
 }
@@ -151,6 +155,22 @@ pads-with-zeros = record {
       let last = produces-past 1 3 m5 _ _ _ (produces f c 1 3 3 m5 m5 (computed .m5-asked)) .2 7 (omega arith) (omega arith) in
       let none = d 1 3 3 m5 m5 (zero f c 1 3 3 m5 m5 (computed .m5-asked)) (omega arith) in
       omega arith;
+}
+
+pub ignores-length : Turned (fault MeetsRepresent IgnoresLength)
+unfolding IgnoresLength MeetsRepresent
+ignores-length = record {
+  example = λ m n top g out. record { number = 0; rows = []; columns = []; out = out };
+  done = λ m n top g out h z. omega arith;
+  refused = λ f d c. d 1 1 0 [] (0 ∷ []) refl (c 1 1 0 [] (0 ∷ []) .number-is ∙ computed .length-asked);
+}
+
+pub ignores-cells : Turned (fault MeetsRepresent IgnoresCells)
+unfolding IgnoresCells MeetsRepresent
+ignores-cells = record {
+  example = λ m n top g out. record { number = 0; rows = []; columns = []; out = out };
+  done = λ m n top g out z. omega arith;
+  refused = λ f d c. d 1 1 0 (1 ∷ []) (0 ∷ []) (c 1 1 0 (1 ∷ []) (0 ∷ []) .number-is ∙ computed .cells-asked);
 }
 
 pub writes-refusing : Turned (fault MeetsRepresent WritesRefusing)

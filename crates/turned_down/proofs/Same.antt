@@ -19,7 +19,7 @@ use Rattle.grids.proofs.OrderLaws.{equal-eq}
 use Rattle.canonical.specs.Same.{sameQuestions, sameNumber}
 use Rattle.canonical.specs.Programs.{Comparing, MeetsSame}
 use Rattle.turned_down.specs.RepresentFaults.{sortedBothWays}
-use Rattle.turned_down.specs.SameFaults.{NeverSame, rowSums, JudgesByRowSums, ComparesSorted, OrdersFromB, MovesWith103}
+use Rattle.turned_down.specs.SameFaults.{NeverSame, rowSums, JudgesByRowSums, ComparesSorted, OrdersFromB, IgnoresB, MovesWith103}
 use Rattle.turned_down.specs.TurnedDown.{fault, Turned}
 use Rattle.turned_down.proofs.Differences.{unequal}
 use Rattle.turned_down.proofs.Plans.{m1, m1-least, m5, m5-least}
@@ -34,6 +34,8 @@ record Computed : Type 0 where
   one-sum : equal (rowSums 1 2 (0 ∷ 2 ∷ [])) (rowSums 1 2 (1 ∷ 1 ∷ [])) ≡ true
   m5-same : sameNumber 1 3 3 m5 m5-least ≡ 0
   m5-one-way : someBothWays 1 3 m5 m5-least ≡ false
+  b-asked : sameNumber 1 1 0 (0 ∷ []) (1 ∷ []) ≡ 7
+  a-capped : capped 0 (0 ∷ []) ≡ true
   some-columns : equal [] (identity 16) ≡ false
 
 computed : Computed
@@ -47,6 +49,8 @@ computed = record {
   one-sum = refl;
   m5-same = refl;
   m5-one-way = refl;
+  b-asked = refl;
+  a-capped = refl;
   some-columns = refl;
 }
 
@@ -102,6 +106,14 @@ orders-from-b = record {
   refused = λ f d c.
       let z = answers f c 1 3 3 m5 m5-least ∙ computed .m5-same in
       one-way 1 3 m5 m5-least _ _ (computed .m5-one-way) (c 1 3 3 m5 m5-least .produced z) (d 1 3 3 m5 m5-least z refl);
+}
+
+pub ignores-b : Turned (fault MeetsSame IgnoresB)
+unfolding IgnoresB
+ignores-b = record {
+  example = λ m n top a b. record { number = 0; rows = []; columns = [] };
+  done = λ m n top a b h z. omega arith;
+  refused = λ f d c. d 1 1 0 (0 ∷ []) (1 ∷ []) (computed .a-capped) (answers f c 1 1 0 (0 ∷ []) (1 ∷ []) ∙ computed .b-asked);
 }
 
 pub moves-with-103 : Turned (fault MeetsSame MovesWith103)

@@ -3,6 +3,7 @@
 --   turned-down  ==  the statement, fault by fault
 --   met          ==  some program meets each contract
 use mathlib.Core.Path.{refl}
+use native.Mathlib.Omega.{arith}
 use Rattle.permutations.specs.Padded.{isSound, composedPadded, inversePadded}
 use Rattle.permutations.proofs.ListLaws.{all-append}
 use Rattle.canonical.specs.Programs.{Representing, MeetsRepresent, MeetsSame}
@@ -15,16 +16,16 @@ use Rattle.machine.proofs.Demand1Laws.{demand1}
 use Rattle.machine.proofs.Demand3Laws.{demand3}
 use Rattle.turned_down.specs.PermutationFaults.{Composes, Inverts, Tests}
 use Rattle.turned_down.specs.TurnedDown.{Turned, orderFaults, table, TurnedDown, Met}
-use Rattle.turned_down.proofs.Permutations.{rows-turned, columns-turned}
-use Rattle.turned_down.proofs.Represent.{hands-back, one-for-all, refuses-all, sorts-by-turns, follows-first, orders-backwards, pads-with-zeros, writes-refusing, moves-refusing}
-use Rattle.turned_down.proofs.Same.{never-same, judges-by-row-sums, compares-sorted, orders-from-b, moves-with-103}
-use Rattle.turned_down.proofs.Prune.{never-prunes, never-empty, removes-nothing, prunes-unsorted, invents-removed, writes-empty, shortens-bounds, leaves-above-top, prune-writes-refusing}
+use Rattle.turned_down.proofs.Permutations.{orders-turned}
+use Rattle.turned_down.proofs.Represent.{hands-back, one-for-all, refuses-all, sorts-by-turns, follows-first, orders-backwards, pads-with-zeros, ignores-length, ignores-cells, writes-refusing, moves-refusing}
+use Rattle.turned_down.proofs.Same.{never-same, judges-by-row-sums, compares-sorted, orders-from-b, ignores-b, moves-with-103}
+use Rattle.turned_down.proofs.Prune.{never-prunes, never-empty, removes-nothing, raises-no-low, lowers-no-high, prunes-unsorted, invents-removed, writes-empty, shortens-bounds, leaves-above-top, ignores-order, prune-writes-refusing}
 use Rattle.turned_down.proofs.Demand3.{stores-first, full-unlooked, not-held-unlooked, invents-count, invents-fit, leaves-last-line, appends-entries, places-from-zero, opens-nothing, enters-nothing, opens-any-slice, refuses-own-bytes}
 use Rattle.turned_down.proofs.Demand1.{refuses-opens, refuses-enters, grows-slice, open-grows-slice, fit-writes, held-writes, open-writes-refusing, opens-capacity-0, asks-cells-first, asks-register-last}
 
 pub turned-down : TurnedDown
 unfolding TurnedDown table
-turned-down = (hands-back, (one-for-all, (refuses-all, (sorts-by-turns, (follows-first, (orders-backwards, (pads-with-zeros, (writes-refusing, (moves-refusing, (never-same, (judges-by-row-sums, (compares-sorted, (orders-from-b, (moves-with-103, (never-prunes, (never-empty, (removes-nothing, (prunes-unsorted, (invents-removed, (writes-empty, (shortens-bounds, (leaves-above-top, (prune-writes-refusing, (stores-first, (full-unlooked, (not-held-unlooked, (invents-count, (invents-fit, (leaves-last-line, (appends-entries, (places-from-zero, (opens-nothing, (enters-nothing, (opens-any-slice, (refuses-own-bytes, (refuses-opens, (refuses-enters, (grows-slice, (open-grows-slice, (fit-writes, (held-writes, (open-writes-refusing, (opens-capacity-0, (asks-cells-first, (asks-register-last, all-append Turned (orderFaults 8) (orderFaults 16) rows-turned columns-turned)))))))))))))))))))))))))))))))))))))))))))))
+turned-down = (hands-back, (one-for-all, (refuses-all, (sorts-by-turns, (follows-first, (orders-backwards, (pads-with-zeros, (ignores-length, (ignores-cells, (writes-refusing, (moves-refusing, (never-same, (judges-by-row-sums, (compares-sorted, (orders-from-b, (ignores-b, (moves-with-103, (never-prunes, (never-empty, (removes-nothing, (raises-no-low, (lowers-no-high, (prunes-unsorted, (invents-removed, (writes-empty, (shortens-bounds, (leaves-above-top, (ignores-order, (prune-writes-refusing, (stores-first, (full-unlooked, (not-held-unlooked, (invents-count, (invents-fit, (leaves-last-line, (appends-entries, (places-from-zero, (opens-nothing, (enters-nothing, (opens-any-slice, (refuses-own-bytes, (refuses-opens, (refuses-enters, (grows-slice, (open-grows-slice, (fit-writes, (held-writes, (open-writes-refusing, (opens-capacity-0, (asks-cells-first, (asks-register-last, all-append Turned (orderFaults 8) (orderFaults 16) (orders-turned 8 (omega arith)) (orders-turned 16 (omega arith)))))))))))))))))))))))))))))))))))))))))))))))))))))
 
 ours : Meets registerCalls
 unfolding registerCalls

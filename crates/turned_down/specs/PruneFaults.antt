@@ -3,12 +3,15 @@
 --   NeverPrunes f     ==  every form is called empty, or refused
 --   NeverEmpty f      ==  no form is called empty
 --   RemovesNothing f  ==  the bounds stay as they were
+--   RaisesNoLow f     ==  the lows stay as they were
+--   LowersNoHigh f    ==  the highs do
 --   unsorted m n g    ==  row 0 is at most every other row as it stands
 --   PrunesUnsorted f  ==  the other rows are taken unsorted
 --   InventsRemoved f  ==  the count does not go by the bounds
 --   WritesEmpty f     ==  with 102 the bounds are changed
 --   ShortensBounds f  ==  a bound fewer is left
 --   LeavesAboveTop f  ==  a high above top is left
+--   IgnoresOrder f    ==  no low is found above its high
 --   PruneWritesRefusing f  ==  a refusal changes the lows
 use mathlib.Core.Path.{_≡_}
 use mathlib.Core.List.{List, _∷_}
@@ -31,6 +34,12 @@ unfoldable pub RemovesNothing : Pruning → Type 0
 RemovesNothing f =
     (m n top : ℕ) (low high : List ℕ) → f m n top low high .number ≡ 0 → (f m n top low high .low ≡ low) × (f m n top low high .high ≡ high)
 
+unfoldable pub RaisesNoLow : Pruning → Type 0
+RaisesNoLow f = (m n top : ℕ) (low high : List ℕ) → f m n top low high .number ≡ 0 → f m n top low high .low ≡ low
+
+unfoldable pub LowersNoHigh : Pruning → Type 0
+LowersNoHigh f = (m n top : ℕ) (low high : List ℕ) → f m n top low high .number ≡ 0 → f m n top low high .high ≡ high
+
 unfoldable pub unsorted : ℕ → ℕ → List ℕ → Bool
 unsorted m n g = every (λ i. leq (row n g 0) (row n g i)) (tabulate 1 (m - 1) (λ i. i))
 
@@ -52,6 +61,9 @@ ShortensBounds f = (m n top x : ℕ) (low high : List ℕ) → length (f m n top
 
 unfoldable pub LeavesAboveTop : Pruning → Type 0
 LeavesAboveTop f = (m n top : ℕ) (low high : List ℕ) → f m n top low high .number ≡ 0 → top < getD (f m n top low high .high) 0 0
+
+unfoldable pub IgnoresOrder : Pruning → Type 0
+IgnoresOrder f = (m n top : ℕ) (low high : List ℕ) → f m n top low high .number ≡ 8 → ⊥
 
 unfoldable pub PruneWritesRefusing : Pruning → Type 0
 PruneWritesRefusing f =

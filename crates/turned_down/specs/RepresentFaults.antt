@@ -9,6 +9,8 @@
 --   FollowsFirst f      ==  of two such rows only the first is followed
 --   OrdersBackwards f   ==  the orders returned produce the grid from what was written
 --   PadsWithZeros f     ==  the positions past the rows hold 0
+--   IgnoresLength f     ==  the grid is not asked for its length
+--   IgnoresCells f      ==  no cell is found above top
 --   WritesRefusing f    ==  a refusal changes the output slice
 --   MovesRefusing f     ==  a refusal returns a row order that moves something
 use mathlib.Core.Path.{_≡_}
@@ -54,6 +56,12 @@ OrdersBackwards f =
 
 unfoldable pub PadsWithZeros : Representing → Type 0
 PadsWithZeros f = (m n top : ℕ) (g out : List ℕ) → f m n top g out .number ≡ 0 → m < 8 → getD (f m n top g out .rows) 7 0 ≡ 0
+
+unfoldable pub IgnoresLength : Representing → Type 0
+IgnoresLength f = (m n top : ℕ) (g out : List ℕ) → length out ≡ m * n → f m n top g out .number ≡ 6 → ⊥
+
+unfoldable pub IgnoresCells : Representing → Type 0
+IgnoresCells f = (m n top : ℕ) (g out : List ℕ) → f m n top g out .number ≡ 7 → ⊥
 
 unfoldable pub WritesRefusing : Representing → Type 0
 WritesRefusing f =

@@ -5,6 +5,7 @@
 --   JudgesByRowSums f  ==  grids are said to be in two classes only if their row sums differ
 --   ComparesSorted f   ==  the old rule: two grids whose rows and columns are sorted are said to be in one class only if they are equal
 --   OrdersFromB f      ==  the orders returned produce A from B
+--   IgnoresB f         ==  the cells of B are not asked
 --   MovesWith103 f     ==  with 103 a column order is returned that moves something
 use mathlib.Core.Path.{_≡_}
 use mathlib.Core.List.{List, foldr}
@@ -14,7 +15,7 @@ use lib.ListN.{length, take}
 use Rattle.permutations.specs.Lists.{tabulate}
 use Rattle.permutations.specs.Permutations.{identity}
 use Rattle.grids.specs.Order.{equal}
-use Rattle.grids.specs.Grids.{row, arrangement}
+use Rattle.grids.specs.Grids.{capped, row, arrangement}
 use Rattle.canonical.specs.Programs.{Comparing}
 use Rattle.turned_down.specs.RepresentFaults.{sortedBothWays}
 
@@ -35,6 +36,9 @@ unfoldable pub OrdersFromB : Comparing → Type 0
 OrdersFromB f =
     (m n top : ℕ) (a b : List ℕ) → f m n top a b .number ≡ 0 → length a ≡ m * n →
     arrangement m n (take m (f m n top a b .rows)) (take n (f m n top a b .columns)) b ≡ a
+
+unfoldable pub IgnoresB : Comparing → Type 0
+IgnoresB f = (m n top : ℕ) (a b : List ℕ) → capped top a ≡ true → f m n top a b .number ≡ 7 → ⊥
 
 unfoldable pub MovesWith103 : Comparing → Type 0
 MovesWith103 f = (m n top : ℕ) (a b : List ℕ) → f m n top a b .number ≡ 103 → f m n top a b .columns ≡ identity 16 → ⊥

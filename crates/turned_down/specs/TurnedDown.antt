@@ -17,9 +17,9 @@ use Rattle.machine.specs.CallLists.{Implementation}
 use Rattle.machine.specs.Demand1.{Demand1}
 use Rattle.machine.specs.Demand3.{Demand3}
 use Rattle.turned_down.specs.PermutationFaults.{Composing, Inverting, Testing, Composes, Inverts, Tests, ComposesBackwards, AcceptsRepeats, AcceptsTooLarge, AcceptsOtherSizes, ReturnsArgument, AcceptsSize0, AcceptsPast}
-use Rattle.turned_down.specs.RepresentFaults.{HandsBack, OneForAll, RefusesAll, SortsByTurns, FollowsFirst, OrdersBackwards, PadsWithZeros, WritesRefusing, MovesRefusing}
-use Rattle.turned_down.specs.SameFaults.{NeverSame, JudgesByRowSums, ComparesSorted, OrdersFromB, MovesWith103}
-use Rattle.turned_down.specs.PruneFaults.{NeverPrunes, NeverEmpty, RemovesNothing, PrunesUnsorted, InventsRemoved, WritesEmpty, ShortensBounds, LeavesAboveTop, PruneWritesRefusing}
+use Rattle.turned_down.specs.RepresentFaults.{HandsBack, OneForAll, RefusesAll, SortsByTurns, FollowsFirst, OrdersBackwards, PadsWithZeros, IgnoresLength, IgnoresCells, WritesRefusing, MovesRefusing}
+use Rattle.turned_down.specs.SameFaults.{NeverSame, JudgesByRowSums, ComparesSorted, OrdersFromB, IgnoresB, MovesWith103}
+use Rattle.turned_down.specs.PruneFaults.{NeverPrunes, NeverEmpty, RemovesNothing, RaisesNoLow, LowersNoHigh, PrunesUnsorted, InventsRemoved, WritesEmpty, ShortensBounds, LeavesAboveTop, IgnoresOrder, PruneWritesRefusing}
 use Rattle.turned_down.specs.RegisterFaults.{StoresFirst, FullUnlooked, NotHeldUnlooked, InventsCount, InventsFit, LeavesLastLine, AppendsEntries, PlacesFromZero, OpensNothing, EntersNothing, OpensAnySlice, RefusesOwnBytes, GrowsSlice, OpenGrowsSlice, FitWrites, HeldWrites, OpenWritesRefusing, OpensCapacity0, AsksCellsFirst, AsksRegisterLast}
 
 pub record Fault : Type 1 where
@@ -59,24 +59,30 @@ table =
     -- the orders that represent returns
     ∷ fault RepresentLeast OrdersBackwards
     ∷ fault RepresentLeast PadsWithZeros
-    -- its refusals
+    -- its questions and refusals
+    ∷ fault MeetsRepresent IgnoresLength
+    ∷ fault MeetsRepresent IgnoresCells
     ∷ fault MeetsRepresent WritesRefusing
     ∷ fault MeetsRepresent MovesRefusing
-    -- by what a class is: a same that always says 103; row sums; the old rule; the orders
+    -- by what a class is: a same that always says 103; row sums; the old rule; its orders, questions and 103
     ∷ fault MeetsSame NeverSame
     ∷ fault MeetsSame JudgesByRowSums
     ∷ fault MeetsSame ComparesSorted
     ∷ fault MeetsSame OrdersFromB
+    ∷ fault MeetsSame IgnoresB
     ∷ fault MeetsSame MovesWith103
     -- by demand 2: every form called empty, nothing removed; the other row unsorted; what is left and counted
     ∷ fault PruneExact NeverPrunes
     ∷ fault PruneExact NeverEmpty
     ∷ fault PruneExact RemovesNothing
+    ∷ fault PruneExact RaisesNoLow
+    ∷ fault PruneExact LowersNoHigh
     ∷ fault PruneExact PrunesUnsorted
     ∷ fault PruneExact InventsRemoved
     ∷ fault PruneExact WritesEmpty
     ∷ fault PruneExact ShortensBounds
     ∷ fault PruneExact LeavesAboveTop
+    ∷ fault MeetsPrune IgnoresOrder
     ∷ fault MeetsPrune PruneWritesRefusing
     -- by demand 3: the first plan stored and the others only acknowledged, full or not held said unlooked, an invented count
     ∷ fault Demand3 StoresFirst
