@@ -2,6 +2,7 @@
 --
 --   rows-no, columns-no, top-no, lengths-no  ==  the questions before get a yes, this one a no
 --   shape-yes   ==  every question gets a yes
+--   range-no    ==  a number outside a range
 --   Greatest g i x  ==  x is the greatest of the first i cells of g, or 0
 --   greatest-none, greatest-next, greatest-capped  ==  at first, a cell further, and what it says of the test of cells
 use mathlib.Core.Path.{_≡_, sym, _∙_}
@@ -19,7 +20,7 @@ use Rattle.grids.specs.Grids.{capped}
 use Rattle.grids.specs.Questions.{Question, firstNo, inRange, question1, question2, question3, shapeNo}
 use Rattle.grids.proofs.QuestionLaws.{firstNo-pass, firstNo-stop, range-yes, yes-range, capped-at, at-capped}
 
-range-no : (a b x : ℕ) → ((a ≤ x) × (x ≤ b) → ⊥) → inRange a b x ≡ false
+pub range-no : (a b x : ℕ) → ((a ≤ x) × (x ≤ b) → ⊥) → inRange a b x ≡ false
 range-no a b x h = refuted (inRange a b x) (range-yes a b x, yes-range a b x) h
 
 -- have two slices of lengths x and y their exact length?

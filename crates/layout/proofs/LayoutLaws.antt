@@ -1,9 +1,10 @@
 -- A register's layout reads back as itself.
 --
 --   Wide w ls         ==  every list of ls is w long
+--   wide-map, of-replicate  ==  when a mapped list is of lists of one length; what a list of copies holds
 --   piece, length-flatten  ==  one of several pieces of one length, put one after another
 --   length-fields, fields-read  ==  numbers in fields of one width, and each read back
---   length-entry, length-blank, length-head, length-layout  ==  the lengths of the lines and of the whole
+--   length-entry, length-blank, length-head, length-entries, length-blanks, length-layout  ==  the lengths of the lines and of the whole
 --   Printable r       ==  the numbers and cells of r fit their fields
 --   decode-layout     ==  what the layout of a printable register states is that register
 --   count-layout      ==  its count
@@ -48,10 +49,10 @@ module _ {A : Type 0} where
   length-flatten w [] h = sym (zero-mul w)
   length-flatten w (l ∷ ls) h = length-append l (flatten ls) ∙ omega (arith, h l (List·Memᴰ·head refl), length-flatten w ls (λ x k. h x (List·Memᴰ·tail k)))
 
-wide-map : {A B : Type 0} (f : A → List B) (w : ℕ) (l : List A) → ((a : A) → List·Memᴰ a l → length (f a) ≡ w) → Wide w (map f l)
+pub wide-map : {A B : Type 0} (f : A → List B) (w : ℕ) (l : List A) → ((a : A) → List·Memᴰ a l → length (f a) ≡ w) → Wide w (map f l)
 wide-map f w l h x k = let r = Memᴰ·of-map f l k in ap length (sym (r .2)) ∙ h (r .0) (r .1)
 
-of-replicate : {A : Type 0} (n : ℕ) (a x : A) → List·Memᴰ x (replicate n a) → x ≡ a
+pub of-replicate : {A : Type 0} (n : ℕ) (a x : A) → List·Memᴰ x (replicate n a) → x ≡ a
 of-replicate zero a x m = absurd (List·Memᴰ·not-nil m)
 of-replicate (suc n) a x m = go (of-replicate n a x) (List·Memᴰ·cases-cons m)
   where
@@ -161,13 +162,27 @@ module _ (r : Register) (p : Printable r) where
   unfolding decode
   decode-layout = λ i. record { shape = shape-read i; entries = entries-read i }
 
+-- the entries' lines, and blank lines
+pub length-entries : (size : ℕ) (es : List (List ℕ)) → ((g : List ℕ) → List·Memᴰ g es → length g ≡ size) → length (flatten (map entryLine es)) ≡ length es * lineLength size
+length-entries size es sized =
+    length-flatten (lineLength size) (map entryLine es) (wide-map entryLine (lineLength size) es (λ g m. length-entry g ∙ ap lineLength (sized g m)))
+    ∙ ap (λ (x : ℕ). x * lineLength size) (length-map es entryLine)
+
+pub length-blanks : (size k : ℕ) → length (flatten (replicate k (blankLine size))) ≡ k * lineLength size
+length-blanks size k =
+    length-flatten (lineLength size) (replicate k (blankLine size)) (λ l m. ap length (of-replicate k (blankLine size) l m) ∙ length-blank size)
+    ∙ ap (λ (x : ℕ). x * lineLength size) (length-replicate k (blankLine size))
+
 -- as many bytes as the shape says
 pub length-layout : (r : Register) → ((g : List ℕ) → List·Memᴰ g (r .entries) → length g ≡ cells (r .shape)) → length (r .entries) ≤ r .shape .capacity → length (layout r) ≡ layoutLength (r .shape)
 unfolding layout layoutLength
 length-layout r sized fits =
     length-append (headLine (r .shape) n) (flatten (map entryLine (r .entries)) ++ blanks)
     ∙ ap₂ _+_ (length-head (r .shape) n)
-    (length-append (flatten (map entryLine (r .entries))) blanks ∙ ap₂ _+_ lines rest ∙ sym (add-mul n (c - n) line) ∙ ap (λ (x : ℕ). x * line) whole)
+    (length-append (flatten (map entryLine (r .entries))) blanks
+    ∙ ap₂ _+_ (length-entries (cells (r .shape)) (r .entries) sized) (length-blanks (cells (r .shape)) (c - n))
+    ∙ sym (add-mul n (c - n) (lineLength (cells (r .shape))))
+    ∙ ap (λ (x : ℕ). x * lineLength (cells (r .shape))) whole)
   where
     n : ℕ
     n = length (r .entries)
@@ -175,21 +190,8 @@ length-layout r sized fits =
     c : ℕ
     c = r .shape .capacity
 
-    line : ℕ
-    line = lineLength (cells (r .shape))
-
     blanks : List ℕ
     blanks = flatten (replicate (c - n) (blankLine (cells (r .shape))))
 
     whole : n + (c - n) ≡ c
     whole = omega arith
-
-    lines : length (flatten (map entryLine (r .entries))) ≡ n * line
-    lines =
-        length-flatten line (map entryLine (r .entries)) (wide-map entryLine line (r .entries) (λ g m. length-entry g ∙ ap lineLength (sized g m)))
-        ∙ ap (λ (x : ℕ). x * line) (length-map (r .entries) entryLine)
-
-    rest : length blanks ≡ (c - n) * line
-    rest =
-        length-flatten line (replicate (c - n) (blankLine (cells (r .shape)))) (λ l m. ap length (of-replicate (c - n) (blankLine (cells (r .shape))) l m) ∙ length-blank (cells (r .shape)))
-        ∙ ap (λ (x : ℕ). x * line) (length-replicate (c - n) (blankLine (cells (r .shape))))

@@ -1,3 +1,5 @@
 pub mod DecimalLaws
 pub mod LayoutLaws
 pub mod RegisterLaws
+pub mod LineLaws
+pub mod MoveLaws

@@ -1,6 +1,12 @@
 pub mod AskedLaws
 pub mod RefusalLaws
 pub mod SortedLaws
+pub mod PlaceLaws
+pub mod BookLaws
+pub mod LeastSteps
+pub mod BookMoves
+pub mod BookSteps
+pub mod FitSteps
 pub mod CallLaws
 pub mod CallListLaws
 pub mod MachineLaws

@@ -2,6 +2,7 @@
 --
 --   Grids                             ==  lists of grids
 --   holds-in, in-holds                ==  the test of membership decides it
+--   insert-front, insert-later        ==  an insertion before the first grid, and one after it
 --   of-insert, length-insert          ==  what is in a list after an insertion, and its length
 --   insert-asc                        ==  a new grid inserted into an ascending list leaves it ascending
 --   of-sorted, in-sorted, sorted-asc  ==  a sorted list has the same members, and ascends if none stands twice
@@ -39,11 +40,11 @@ in-holds r l m = at-some (equal r) l r m (eq-equal r r refl)
 
 -- ---- insertion
 
-insert-front : (r x : List ℕ) (l : Grids) → r ≼ x → insert r (x ∷ l) ≡ r ∷ x ∷ l
+pub insert-front : (r x : List ℕ) (l : Grids) → r ≼ x → insert r (x ∷ l) ≡ r ∷ x ∷ l
 unfolding insert
 insert-front r x l h = rw (≼-leq r x h, insert)
 
-insert-later : (r x : List ℕ) (l : Grids) → (r ≼ x → ⊥) → insert r (x ∷ l) ≡ x ∷ insert r l
+pub insert-later : (r x : List ℕ) (l : Grids) → (r ≼ x → ⊥) → insert r (x ∷ l) ≡ x ∷ insert r l
 unfolding insert
 insert-later r x l h = go (yes-or-no (leq r x))
   where

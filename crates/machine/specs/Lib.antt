@@ -1,4 +1,6 @@
 pub mod Calls
+pub mod Places
+pub mod Books
 pub mod CallLists
 pub mod Machine
 pub mod Demand1

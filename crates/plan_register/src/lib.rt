@@ -4,10 +4,18 @@ use bounds::prune::Counted;
 use canonical::answers::Answer;
 use canonical::represent;
 use canonical::same;
+use register::answers::Placed;
+use register::entering;
+use register::fitting;
+use register::opening;
+use register::striking;
+ghost use mathlib.Core.Path.{_≡_};
 ghost use Rattle.canonical.specs.Represent.{Represented};
 ghost use Rattle.canonical.specs.Same.{Compared};
 ghost use Rattle.bounds.specs.Prune.{outcome};
 ghost use Rattle.bounds.specs.Demand2.{Prunes};
+ghost use Rattle.machine.specs.Calls.{opened, entered, struck, fitted};
+ghost use Rattle.machine.specs.Books.{placed, shape};
 ghost use Rattle.plan_register.specs.Exported.{Exported};
 
 // The number, the row order and the column order.
@@ -60,4 +68,38 @@ pub extern "C" fn plan_register_prune(
     ensures { λ r. ⌜ Prunes m n top (now (low .entry)) (now (high .entry)) (outcome (r .number) (r .count) (now (low .exit)) (now (high .exit))) ⌝ }
 {
     prune::prune(m, n, top, low, high)
+}
+
+#[no_mangle]
+pub extern "C" fn plan_register_open(
+    m: usize,
+    n: usize,
+    top: usize,
+    capacity: usize,
+    register: &mut [u8],
+) -> Placed
+    ensures { λ r. ⌜ placed (r .number) (r .place) (now (register .exit)) ≡ opened (shape m n top capacity) (now (register .entry)) ⌝ }
+{
+    opening::open_register(m, n, top, capacity, register)
+}
+
+#[no_mangle]
+pub extern "C" fn plan_register_enter(register: &mut [u8], grid: &[u8]) -> Placed
+    ensures { λ r. ⌜ placed (r .number) (r .place) (now (register .exit)) ≡ entered (now (register .entry)) (now (grid .entry)) ⌝ }
+{
+    entering::enter(register, grid)
+}
+
+#[no_mangle]
+pub extern "C" fn plan_register_strike(register: &mut [u8], grid: &[u8]) -> Placed
+    ensures { λ r. ⌜ placed (r .number) (r .place) (now (register .exit)) ≡ struck (now (register .entry)) (now (grid .entry)) ⌝ }
+{
+    striking::strike(register, grid)
+}
+
+#[no_mangle]
+pub extern "C" fn plan_register_fit(register: &[u8], low: &[u8], high: &[u8]) -> Counted
+    ensures { λ r. ⌜ placed (r .number) (r .count) (now (register .entry)) ≡ fitted (now (register .entry)) (now (low .entry)) (now (high .entry)) ⌝ }
+{
+    fitting::fit(register, low, high)
 }

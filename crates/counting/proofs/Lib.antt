@@ -1,0 +1,5 @@
+pub mod PassLaws
+pub mod FieldLaws
+pub mod TableLaws
+pub mod LineLaws
+pub mod CountLaws

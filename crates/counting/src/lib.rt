@@ -1,0 +1,2 @@
+// How many entries of a register lie within bounds.
+pub mod within;

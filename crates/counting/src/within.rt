@@ -1,0 +1,120 @@
+// How many entries lie within bounds: each line is tested by its bytes, in a loop without a jump.
+use grids::cells;
+ghost use mathlib.Core.Path.{_≡_};
+ghost use mathlib.Core.Bool.{_&&_};
+ghost use Prim.Native.Nat.{_≤_, _<_};
+ghost use lib.ListN.{length};
+ghost use Rattle.permutations.specs.Lists.{select};
+ghost use Rattle.grids.specs.Order.{rank};
+ghost use Rattle.bounds.specs.Bounds.{IsBounds, inBounds};
+ghost use Rattle.layout.specs.Layout.{decodeShape, decode};
+ghost use Rattle.machine.specs.Books.{Book};
+ghost use Rattle.counting.specs.Within.{ten, above, stated, passes, LineOutcome, put, Ordered, Tables, oneMore};
+
+// 10 for a 1, 0 for another byte.
+fn ten(byte: u8) -> u8
+    ensures { λ r. ⌜ r ≡ ten byte ⌝ }
+{
+    if byte == 49 { 10 } else { 0 }
+}
+
+// How far a number is above another, round the 256.
+fn above(x: u8, low: u8) -> u8
+    ensures { λ r. ⌜ r ≡ above x low ⌝ }
+{
+    std::num::wrapping_sub_u8(x, low)
+}
+
+// The cell whose field ends with a byte and has another before it; round the 256 where they end none.
+fn stated(byte: u8, before: u8) -> u8
+    ensures { λ r. ⌜ r ≡ stated byte before ⌝ }
+{
+    std::num::wrapping_add_u8(above(byte, 48), ten(before))
+}
+
+// Whether all passed so far, and a byte does.
+fn stays_within(within: bool, byte: u8, before: u8, low: u8, span: u8) -> bool
+    ensures { λ r. ⌜ (r ≡ (within && passes byte before low span)) × (rank (stated byte before) < 256) ⌝ }
+{
+    let x = above(cells::rank(stated(byte, before)), low);
+    if span < x {
+        return false;
+    }
+    within
+}
+
+// Whether every byte of a line passes; before is the line that begins a byte earlier.
+fn line_within(line: &[u8], before: &[u8], lows: &[u8; 384], spans: &[u8; 384]) -> bool
+    requires { ⌜ (length (now line) ≤ 384) × (length (now line) ≤ length (now before)) ⌝ }
+    ensures { λ r. ⌜ LineOutcome r (length (now (line .entry))) (now (line .entry)) (now (before .entry)) (now (lows .entry)) (now (spans .entry)) ⌝ }
+{
+    let mut within = true;
+    let mut k = 0;
+    while k < line.len() {
+        within = stays_within(within, line[k], before[k], lows[k], spans[k]);
+        k += 1;
+    }
+    within
+}
+
+// Writes three bytes of a table, those of cell k.
+fn put(table: &mut [u8; 384], k: usize, other: u8, last: u8)
+    requires { ⌜ (k < 128) × (length (now table) ≡ 384) ⌝ }
+    ensures { λ _. ⌜ now (table .exit) ≡ put (now (table .entry)) k other last ⌝ }
+{
+    table[3 * k] = other;
+    table[3 * k + 1] = other;
+    table[3 * k + 2] = last;
+}
+
+// Writes the tables of bounds.
+fn fill_tables(low: &[u8], high: &[u8], lows: &mut [u8; 384], spans: &mut [u8; 384])
+    requires { ⌜ (length (now lows) ≡ 384) × (length (now spans) ≡ 384) × Ordered (now low) (now high) ⌝ }
+    ensures { λ _. ⌜ Tables (length (now (low .entry))) (now (low .entry)) (now (high .entry)) (now (lows .exit)) (now (spans .exit)) ⌝ }
+{
+    let mut k = 0;
+    while k < low.len() {
+        let least = cells::rank(low[k]);
+        let greatest = cells::rank(high[k]);
+        put(lows, k, 0, least);
+        put(spans, k, 255, greatest - least);
+        k += 1;
+    }
+}
+
+// One more where a line lies within.
+fn one_more(found: usize, within: bool) -> usize
+    requires { ⌜ found < 500 ⌝ }
+    ensures { λ r. ⌜ r ≡ oneMore found within ⌝ }
+{
+    if within { found + 1 } else { found }
+}
+
+// How many entries lie within bounds.
+pub fn count_within(register: &[u8], count: usize, low: &[u8], high: &[u8]) -> usize
+    requires { ⌜ Book (length (now low)) count (now register) × IsBounds (length (now low)) (decodeShape (now register) .top) (now low) (now high) ⌝ }
+    ensures { λ r. ⌜ r ≡ length (select (inBounds (length (now (low .entry))) (decodeShape (now (register .entry)) .top) (now (low .entry)) (now (high .entry))) (decode (now (register .entry)) .entries)) ⌝ }
+{
+    let width = 3 * low.len();
+    let mut lows = [0u8; 384];
+    let mut spans = [0u8; 384];
+    fill_tables(low, high, &mut lows, &mut spans);
+    let mut found = 0;
+    let mut from = 31;
+    let mut e = 0;
+    while e < count {
+        let end = from + width;
+        let earlier = from - 1;
+        let last = end - 1;
+        let within = line_within(
+            &register[from..end],
+            &register[earlier..last],
+            &lows,
+            &spans,
+        );
+        found = one_more(found, within);
+        from = end + 1;
+        e += 1;
+    }
+    found
+}

@@ -1,0 +1,279 @@
+-- The lines of a register's bytes by their places, and question 5 line by line.
+--
+--   drop-take, flatten-append   ==  of lists: a part without its first elements; lists put one after another, in two steps
+--   of-parts, at-parts          ==  a list is its parts of one length, put one after another; each of them taken out again
+--   next-start                  ==  a line begins where the one before it ends
+--   length-line                 ==  how many bytes a line has, where there are bytes enough
+--   entry-cells                 ==  an entry is what its line states
+--   from-lines                  ==  a byte string is line 1 and then its lines
+--   linesOf r                   ==  the lines after line 1: those of the entries, and blank lines up to the capacity
+--   length-lines, wide-lines    ==  how many they are, and that they are of one length
+--   layout-lines, line-of       ==  a layout is line 1 and then these lines, and line e is the one at e
+--   line-layout, blank-layout   ==  a layout's line of an entry, and a blank one
+--   ascends-next, next-ascends  ==  each entry comes before all later ones exactly if each comes before the next
+--   entries-counted             ==  the entries that the bytes state are as many as the count that they state
+--   laid-lines                  ==  question 5 gets a yes exactly if line 1, the lines of the entries and the blank lines are laid out
+--   line-entry                  ==  the entries of a register are what its lines state
+use mathlib.Core.Path.{_≡_, refl, sym, ap, ap₂, _∙_}
+use mathlib.Core.List.{List, [], _∷_, _++_, map, flatten, append-assoc, List·Memᴰ, List·Memᴰ·append-cases}
+use mathlib.Core.Bool.{true}
+use mathlib.Core.Logic.{_⊎_, inl, inr, _↔_}
+use Prim.Native.Nat.{ℕ, zero, suc, _+_, _-_, _*_, _≤_, _<_}
+use native.Mathlib.Nat.{zero-mul}
+use native.Mathlib.Numerals.{add-one}
+use native.Mathlib.Decide.{decLt}
+use native.Mathlib.Omega.{arith}
+use lib.ListN.{length, getD, take, drop, replicate, length-append, length-map, length-replicate, length-drop, take-append-drop, getD-replicate, List·getD-append}
+use lib.Seq.{take-at, drop-at, drop-drop, drop-nil, take-nil, take-take, length-take-le, getD-append-add}
+use Rattle.permutations.proofs.BoolLaws.{and-yes, yes-and}
+use Rattle.permutations.proofs.ListLaws.{length-tabulate, at-tabulate, tabulate-ext, mem-at, of-mem, at-map}
+use Rattle.grids.specs.Order.{_≺_, less, equal}
+use Rattle.grids.specs.Grids.{capped}
+use Rattle.grids.proofs.OrderLaws.{less-decides, equal-eq, eq-equal}
+use Rattle.grids.proofs.QuestionLaws.{grid-of, grid-capped}
+use Rattle.layout.specs.Decimal.{value}
+use Rattle.layout.specs.Layout.{Shape, Register, cells, headLength, entryWidth, lineLength, entryLine, blankLine, headLine, layout, layoutLength, numberAt, count, entryAt, decodeShape, decode, Ascends, IsRegister, ascending, isRegister, laidOut}
+use Rattle.layout.specs.Lines.{lineStart, lineAt, cellsOf, EntriesLaid, BlanksLaid, HeadLaid}
+use Rattle.layout.proofs.LayoutLaws.{Wide, wide-map, of-replicate, piece, length-entry, length-blank, length-head, length-layout}
+use Rattle.layout.proofs.RegisterLaws.{ascending-decides, register-decides}
+
+-- ---- parts of one length
+
+module _ {A : Type 0} where
+  pub drop-take : (m n : ℕ) (l : List A) → drop m (take n l) ≡ take (n - m) (drop m l)
+  drop-take zero n l = ap (λ (k : ℕ). take k l) (sym sub)
+    where
+      sub : n - 0 ≡ n
+      sub = omega arith
+  drop-take (suc m) zero l = drop-nil (suc m) ∙ ap (λ (k : ℕ). take k (drop (suc m) l)) none
+    where
+      none : 0 ≡ 0 - suc m
+      none = omega arith
+  drop-take (suc m) (suc n) [] = sym (take-nil (suc n - suc m))
+  drop-take (suc m) (suc n) (x ∷ l) = drop-take m n l ∙ ap (λ (k : ℕ). take k (drop m l)) same
+    where
+      same : n - m ≡ suc n - suc m
+      same = omega arith
+
+  pub flatten-append : (k l : List (List A)) → flatten (k ++ l) ≡ flatten k ++ flatten l
+  unfolding flatten
+  flatten-append [] l = refl
+  flatten-append (x ∷ k) l = ap (λ (r : List A). x ++ r) (flatten-append k l) ∙ sym (append-assoc x (flatten k) (flatten l))
+
+  append-nil : (l : List A) → l ++ [] ≡ l
+  append-nil [] = refl
+  append-nil (x ∷ l) = ap (λ (r : List A). x ∷ r) (append-nil l)
+
+  nothing : (l : List A) → length l ≡ 0 → l ≡ []
+  nothing [] e = refl
+  nothing (x ∷ l) e = absurd (omega arith)
+
+  -- a list is its parts, put one after another
+  pub of-parts : (w : ℕ) (l : List A) (ls : List (List A)) → length l ≡ length ls * w → ((e : ℕ) → e < length ls → take w (drop (e * w) l) ≡ getD ls e []) → l ≡ flatten ls
+  unfolding flatten
+  of-parts w l [] h p = nothing l (h ∙ zero-mul w)
+  of-parts w l (x ∷ ls) h p =
+      sym (take-append-drop w l) ∙ ap₂ _++_ first (of-parts w (drop w l) ls (length-drop w l ∙ omega arith) rest)
+    where
+      first : take w l ≡ x
+      first = rw (zero-mul w) at (p 0 (omega arith))
+
+      rest : (e : ℕ) → e < length ls → take w (drop (e * w) (drop w l)) ≡ getD ls e []
+      rest e b =
+          let q : w + e * w ≡ suc e * w = omega arith in
+          rw (drop-drop (e * w) w l, q) (p (suc e) (omega arith))
+
+  pub at-parts : (w : ℕ) (ls : List (List A)) → Wide w ls → (e : ℕ) → e < length ls → take w (drop (e * w) (flatten ls)) ≡ getD ls e []
+  at-parts w ls h e b =
+      let p = piece w ls [] h e b in
+      ap (λ (l : List A). take w (drop (e * w) l)) (sym (append-nil (flatten ls))) ∙ ap (take {A = A} w) (p .1) ∙ take-at (getD ls e []) (p .0) w (h (getD ls e []) (mem-at ls [] e b))
+
+-- ---- lines by their places
+
+pub next-start : (size e : ℕ) → lineStart size (e + 1) ≡ lineStart size e + lineLength size
+unfolding lineStart
+next-start size e = omega arith
+
+pub length-line : (size : ℕ) (b : List ℕ) (e : ℕ) → lineStart size (e + 1) ≤ length b → length (lineAt size b e) ≡ lineLength size
+unfolding lineAt
+length-line size b e h =
+    length-take-le (lineLength size) (drop (lineStart size e) b) (omega (arith, next-start size e, length-drop (lineStart size e) b))
+
+field-inside : (size k : ℕ) → k < size → 3 ≤ lineLength size - 3 * k
+unfolding lineLength entryWidth
+field-inside size k h = omega arith
+
+pub entry-cells : (size : ℕ) (b : List ℕ) (e : ℕ) → entryAt size b e ≡ cellsOf size (lineAt size b e)
+unfolding entryAt cellsOf numberAt lineAt lineStart
+entry-cells size b e = tabulate-ext 0 size _ _ λ k h. ap value (one k h)
+  where
+    one : (k : ℕ) → k < size → take 3 (drop (headLength + e * lineLength size + 3 * k) b) ≡ take 3 (drop (3 * k) (take (lineLength size) (drop (headLength + e * lineLength size) b)))
+    one k h =
+        rw (drop-take (3 * k) (lineLength size) (drop (headLength + e * lineLength size) b), take-take 3 (lineLength size - 3 * k) (drop (3 * k) (drop (headLength + e * lineLength size) b)) (field-inside size k h), drop-drop (3 * k) (headLength + e * lineLength size) b)
+
+pub from-lines : (s : Shape) (n : ℕ) (b : List ℕ) (ls : List (List ℕ)) → length b ≡ layoutLength s → take headLength b ≡ headLine s n → length ls ≡ s .capacity →
+    ((e : ℕ) → e < s .capacity → lineAt (cells s) b e ≡ getD ls e []) → b ≡ headLine s n ++ flatten ls
+unfolding lineAt lineStart layoutLength
+from-lines s n b ls sized first many line =
+    sym (take-append-drop headLength b) ∙ ap₂ _++_ first (of-parts (lineLength (cells s)) (drop headLength b) ls whole one)
+  where
+    whole : length (drop headLength b) ≡ length ls * lineLength (cells s)
+    whole = length-drop headLength b ∙ rw many (omega arith)
+
+    one : (e : ℕ) → e < length ls → take (lineLength (cells s)) (drop (e * lineLength (cells s)) (drop headLength b)) ≡ getD ls e []
+    one e h = rw (drop-drop (e * lineLength (cells s)) headLength b) (line e (omega arith))
+
+-- ---- the lines of a layout
+
+unfoldable pub linesOf : Register → List (List ℕ)
+linesOf r = map entryLine (r .entries) ++ replicate (r .shape .capacity - length (r .entries)) (blankLine (cells (r .shape)))
+
+pub layout-lines : (r : Register) → layout r ≡ headLine (r .shape) (length (r .entries)) ++ flatten (linesOf r)
+unfolding layout linesOf
+layout-lines r = ap (λ (l : List ℕ). headLine (r .shape) (length (r .entries)) ++ l) (sym (flatten-append (map entryLine (r .entries)) _))
+
+pub length-lines : (r : Register) → length (r .entries) ≤ r .shape .capacity → length (linesOf r) ≡ r .shape .capacity
+unfolding linesOf
+length-lines r fits =
+    length-append (map entryLine (r .entries)) _
+    ∙ omega (arith, length-map (r .entries) entryLine, length-replicate (r .shape .capacity - length (r .entries)) (blankLine (cells (r .shape))))
+
+pub wide-lines : (r : Register) → ((g : List ℕ) → List·Memᴰ g (r .entries) → length g ≡ cells (r .shape)) → Wide (lineLength (cells (r .shape))) (linesOf r)
+unfolding linesOf
+wide-lines r sized l m = go (List·Memᴰ·append-cases (map entryLine (r .entries)) m)
+  where
+    go : List·Memᴰ l (map entryLine (r .entries)) ⊎ List·Memᴰ l (replicate (r .shape .capacity - length (r .entries)) (blankLine (cells (r .shape)))) → length l ≡ lineLength (cells (r .shape))
+    go (inl k) = wide-map entryLine (lineLength (cells (r .shape))) (r .entries) (λ g i. length-entry g ∙ ap lineLength (sized g i)) l k
+    go (inr k) = ap length (of-replicate (r .shape .capacity - length (r .entries)) (blankLine (cells (r .shape))) l k) ∙ length-blank (cells (r .shape))
+
+entry-of : (r : Register) (e : ℕ) → e < length (r .entries) → getD (linesOf r) e [] ≡ entryLine (getD (r .entries) e [])
+unfolding linesOf
+entry-of r e h = List·getD-append (map entryLine (r .entries)) _ [] e (omega (arith, length-map (r .entries) entryLine)) ∙ at-map entryLine (r .entries) e [] [] h
+
+blank-of : (r : Register) (e : ℕ) → length (r .entries) ≤ e → e < r .shape .capacity → getD (linesOf r) e [] ≡ blankLine (cells (r .shape))
+unfolding linesOf
+blank-of r e low high =
+    let n = length (map entryLine (r .entries)) in
+    let z = length-map (r .entries) entryLine in
+    let i : n + (e - n) ≡ e = omega arith in
+    rw (← i)
+    (getD-append-add (map entryLine (r .entries)) _ (e - n) [] ∙ getD-replicate (r .shape .capacity - length (r .entries)) (e - n) (blankLine (cells (r .shape))) [] (omega arith))
+
+module _ (r : Register) (sized : (g : List ℕ) → List·Memᴰ g (r .entries) → length g ≡ cells (r .shape)) (fits : length (r .entries) ≤ r .shape .capacity) where
+  pub line-of : (e : ℕ) → e < r .shape .capacity → lineAt (cells (r .shape)) (layout r) e ≡ getD (linesOf r) e []
+  unfolding lineAt lineStart
+  line-of e h =
+      rw (layout-lines r, ← (drop-drop (e * lineLength (cells (r .shape))) headLength (headLine (r .shape) (length (r .entries)) ++ flatten (linesOf r))), drop-at (headLine (r .shape) (length (r .entries))) (flatten (linesOf r)) headLength (length-head (r .shape) (length (r .entries))))
+      (at-parts (lineLength (cells (r .shape))) (linesOf r) (wide-lines r sized) e (omega (arith, length-lines r fits)))
+
+  pub line-layout : (e : ℕ) → e < length (r .entries) → lineAt (cells (r .shape)) (layout r) e ≡ entryLine (getD (r .entries) e [])
+  line-layout e h = line-of e (omega arith) ∙ entry-of r e h
+
+  pub blank-layout : (e : ℕ) → length (r .entries) ≤ e → e < r .shape .capacity → lineAt (cells (r .shape)) (layout r) e ≡ blankLine (cells (r .shape))
+  blank-layout e low high = line-of e high ∙ blank-of r e low high
+
+-- ---- each comes before the next
+
+pub ascends-next : (l : List (List ℕ)) → Ascends l → (e : ℕ) → e + 1 < length l → getD l e [] ≺ getD l (e + 1) []
+ascends-next [] a e h = absurd (omega arith)
+ascends-next (x ∷ l) a zero h = a .0 (getD l 0 []) (mem-at l [] 0 (omega arith))
+ascends-next (x ∷ l) a (suc e) h = rw add-one (rw add-one at (ascends-next l (a .1) e (omega arith)))
+
+next-ascending : (l : List (List ℕ)) → ((e : ℕ) → e + 1 < length l → getD l e [] ≺ getD l (e + 1) []) → ascending l ≡ true
+unfolding ascending
+next-ascending [] h = refl
+next-ascending (x ∷ []) h = refl
+next-ascending (x ∷ y ∷ l) h =
+    yes-and (less x y) (ascending (y ∷ l)) (less-decides x y .1 (h 0 (omega arith)))
+    (next-ascending (y ∷ l) (λ e b. rw add-one (rw (add-one (suc e)) at (h (suc e) (omega arith)))))
+
+pub next-ascends : (l : List (List ℕ)) → ((e : ℕ) → e + 1 < length l → getD l e [] ≺ getD l (e + 1) []) → Ascends l
+next-ascends l h = ascending-decides l .0 (next-ascending l h)
+
+-- ---- question 5, line by line
+
+module _ (b : List ℕ) where
+  pub entries-counted : length (decode b .entries) ≡ count b
+  unfolding decode
+  entries-counted = length-tabulate 0 (count b) (entryAt (cells (decodeShape b)) b)
+
+  entry-stated : (e : ℕ) → e < count b → getD (decode b .entries) e [] ≡ cellsOf (cells (decodeShape b)) (lineAt (cells (decodeShape b)) b e)
+  unfolding decode
+  entry-stated e h = at-tabulate (count b) (entryAt (cells (decodeShape b)) b) e [] h ∙ entry-cells (cells (decodeShape b)) b e
+
+  of-entries : (g : List ℕ) → List·Memᴰ g (decode b .entries) → (e : ℕ) × (e < count b) × (g ≡ cellsOf (cells (decodeShape b)) (lineAt (cells (decodeShape b)) b e))
+  of-entries g m = let r = of-mem (decode b .entries) [] g m in (r .0, omega (arith, r .1, entries-counted), r .2 ∙ entry-stated (r .0) (omega (arith, r .1, entries-counted)))
+
+pub line-entry : (b : List ℕ) → laidOut b ≡ true → (e : ℕ) → e < count b → getD (decode b .entries) e [] ≡ cellsOf (cells (decodeShape b)) (lineAt (cells (decodeShape b)) b e)
+line-entry b laid = entry-stated b
+
+-- the bytes of a register, line by line
+module _ (b : List ℕ) (o : IsRegister (decode b)) (whole : b ≡ layout (decode b)) where
+  entries-sized : (g : List ℕ) → List·Memᴰ g (decode b .entries) → length g ≡ cells (decodeShape b)
+  unfolding decode
+  entries-sized g m = o .entry-grids g m .cells
+
+  head-laid : HeadLaid b
+  unfolding decode
+  head-laid = record {
+    limits = o .limits;
+    count-fits = rw (entries-counted b) at (o .count-fits);
+    sized = ap length whole ∙ length-layout (decode b) entries-sized (o .count-fits);
+    line = ap (take headLength) (whole ∙ layout-lines (decode b)) ∙ take-at _ _ headLength (length-head (decodeShape b) _) ∙ ap (headLine (decodeShape b)) (entries-counted b);
+  }
+
+  entries-laid : EntriesLaid (cells (decodeShape b)) (decodeShape b .top) (count b) b
+  unfolding decode
+  entries-laid = record {
+    lines = λ e h. record {
+      bytes = ap (λ (l : List ℕ). lineAt (cells (decodeShape b)) l e) whole ∙ line-layout (decode b) entries-sized (o .count-fits) e (omega (arith, entries-counted b)) ∙ ap entryLine (entry-stated b e h);
+      at-most = rw (entry-stated b e h) at (grid-capped (decodeShape b .rows) (decodeShape b .columns) (decodeShape b .top) (getD (decode b .entries) e []) (o .entry-grids _ (mem-at (decode b .entries) [] e (omega (arith, entries-counted b)))));
+    };
+    ascend = λ e h. rw (entry-stated b e (omega arith), entry-stated b (e + 1) h) at (ascends-next (decode b .entries) (o .entries-ascend) e (omega (arith, entries-counted b)));
+  }
+
+  blanks-laid : BlanksLaid (cells (decodeShape b)) (count b) (decodeShape b .capacity) b
+  unfolding decode
+  blanks-laid = record {
+    lines = λ e low high. ap (λ (l : List ℕ). lineAt (cells (decodeShape b)) l e) whole ∙ blank-layout (decode b) entries-sized (o .count-fits) e (omega (arith, entries-counted b)) high;
+  }
+
+-- bytes that are laid out line by line are those of a register
+module _ (b : List ℕ) (h : HeadLaid b) (l : EntriesLaid (cells (decodeShape b)) (decodeShape b .top) (count b) b) (k : BlanksLaid (cells (decodeShape b)) (count b) (decodeShape b .capacity) b) where
+  laid-register : IsRegister (decode b)
+  unfolding decode cellsOf
+  laid-register = record {
+    limits = h .limits;
+    count-fits = rw (entries-counted b) (h .count-fits);
+    entry-grids = λ g m.
+        let r = of-entries b g m in
+        grid-of (decodeShape b .rows) (decodeShape b .columns) (decodeShape b .top) g (ap length (r .2) ∙ length-tabulate 0 (cells (decodeShape b)) _) (ap (capped (decodeShape b .top)) (r .2) ∙ l .lines (r .0) (r .1) .at-most);
+    entries-ascend = next-ascends (decode b .entries) (λ e m. let z = entries-counted b in rw (entry-stated b e (omega arith), entry-stated b (e + 1) (omega arith)) (l .ascend e (omega arith)));
+  }
+
+  laid-line : (e : ℕ) → Dec (e < count b) → e < decodeShape b .capacity → lineAt (cells (decodeShape b)) b e ≡ getD (linesOf (decode b)) e []
+  unfolding decode
+  laid-line e (yes m) i = let z = entries-counted b in l .lines e m .bytes ∙ sym (ap entryLine (entry-stated b e m)) ∙ sym (entry-of (decode b) e (omega arith))
+  laid-line e (no m) i = let z = entries-counted b in k .lines e (omega arith) i ∙ sym (blank-of (decode b) e (omega arith) i)
+
+  laid-layout : b ≡ layout (decode b)
+  unfolding decode
+  laid-layout =
+      from-lines (decodeShape b) (count b) b (linesOf (decode b)) (h .sized) (h .line) (length-lines (decode b) (laid-register .count-fits)) (λ e m. laid-line e (decLt e (count b)) m)
+      ∙ ap (λ (n : ℕ). headLine (decodeShape b) n ++ flatten (linesOf (decode b))) (sym (entries-counted b))
+      ∙ sym (layout-lines (decode b))
+
+pub laid-lines : (b : List ℕ) → (laidOut b ≡ true) ↔ (HeadLaid b × EntriesLaid (cells (decodeShape b)) (decodeShape b .top) (count b) b × BlanksLaid (cells (decodeShape b)) (count b) (decodeShape b .capacity) b)
+unfolding laidOut
+laid-lines b = (to, back)
+  where
+    to : laidOut b ≡ true → HeadLaid b × EntriesLaid (cells (decodeShape b)) (decodeShape b .top) (count b) b × BlanksLaid (cells (decodeShape b)) (count b) (decodeShape b .capacity) b
+    to e =
+        let p = and-yes (isRegister (decode b)) (equal (layout (decode b)) b) e in
+        let o = register-decides (decode b) .0 (p .0) in
+        let w = sym (equal-eq (layout (decode b)) b (p .1)) in
+        (head-laid b o w, entries-laid b o w, blanks-laid b o w)
+
+    back : HeadLaid b × EntriesLaid (cells (decodeShape b)) (decodeShape b .top) (count b) b × BlanksLaid (cells (decodeShape b)) (count b) (decodeShape b .capacity) b → laidOut b ≡ true
+    back h =
+        yes-and (isRegister (decode b)) (equal (layout (decode b)) b) (register-decides (decode b) .1 (laid-register b (h .0) (h .1) (h .2))) (eq-equal (layout (decode b)) b (sym (laid-layout b (h .0) (h .1) (h .2))))

@@ -1,0 +1,301 @@
+-- What a line put in, a line taken out and the writing of a new register do to the register's bytes.
+--
+--   Sized size es     ==  every grid of es has so many cells
+--   insert-layout     ==  the lines from p on moved one line further, the line of a grid put at p and the count one higher: the grid is put in at p
+--   remove-layout     ==  the lines after p moved one line back, a blank line after them and the count one lower: entry p is taken out
+--   start-inside, start-inside-removed, start-past-head  ==  the lines that are moved lie inside the bytes, and after line 1
+--   Opened s k b      ==  b is as long as the shape says, and begins with line 1 of an empty register and k blank lines
+--   opened-head, opened-next, opened-all  ==  line 1 is written, then each blank line, and then all is the layout of an empty register
+--   opened-head-part, opened-next-part  ==  the same of bytes given by equations
+--   opened-inside     ==  the next blank line lies inside the bytes
+use mathlib.Core.Path.{_≡_, refl, sym, ap, ap₂, _∙_}
+use mathlib.Core.List.{List, [], _∷_, _++_, map, flatten, append-assoc, append-nil, map-append, List·Memᴰ, Memᴰ·append-left, Memᴰ·append-right}
+use Prim.Native.Nat.{ℕ, suc, _+_, _-_, _*_, _≤_, _<_}
+use native.Mathlib.Nat.{add-comm, add-mul, mul-le-mul-right}
+use native.Mathlib.Omega.{arith}
+use lib.ListN.{length, getD, take, drop, replicate, length-append, length-drop, take-append-drop, replicate-append-replicate}
+use lib.Seq.{take-at, drop-at, drop-drop, split-at, length-take-le}
+use Rattle.permutations.proofs.ListLaws.{mem-at}
+use Rattle.layout.specs.Decimal.{field}
+use Rattle.layout.specs.Layout.{Shape, Register, cells, fields, headLength, lineLength, entryLine, blankLine, headLine, layout, layoutLength}
+use Rattle.layout.specs.Lines.{lineStart}
+use Rattle.layout.proofs.DecimalLaws.{length-field}
+use Rattle.layout.proofs.LayoutLaws.{length-fields, length-entry, length-blank, length-head, length-entries, length-blanks, length-layout}
+
+abbrev Grids : Type 0
+Grids = List (List ℕ)
+
+abbrev pub Sized : ℕ → List (List ℕ) → Type 0
+Sized size es = (g : List ℕ) → List·Memᴰ g es → length g ≡ size
+
+-- ---- parts of a list that are moved
+
+before-start : (h x u b : List ℕ) (start : ℕ) → b ≡ h ++ (x ++ u) → length h + length x ≡ start → take start b ≡ h ++ x
+before-start h x u b start e at = rw (e, ← (append-assoc h x u)) (take-at (h ++ x) u start (length-append h x ∙ at))
+
+from-start : (h x u b : List ℕ) (start : ℕ) → b ≡ h ++ (x ++ u) → length h + length x ≡ start → drop start b ≡ u
+from-start h x u b start e at = rw (e, ← (append-assoc h x u)) (drop-at (h ++ x) u start (length-append h x ∙ at))
+
+-- g put in at start, y moved over z
+put-in : (h x y z t g b : List ℕ) (start moved w : ℕ) → b ≡ h ++ (x ++ (y ++ (z ++ t))) → length h + length x ≡ start → length y ≡ moved → length z ≡ w →
+    take start b ++ (g ++ (take moved (drop start b) ++ drop (moved + w) (drop start b))) ≡ h ++ (x ++ (g ++ (y ++ t)))
+put-in h x y z t g b start moved w e at ly lz =
+    rw (
+      before-start h x (y ++ (z ++ t)) b start e at,
+      from-start h x (y ++ (z ++ t)) b start e at,
+      take-at y (z ++ t) moved ly,
+      ← (drop-drop w moved (y ++ (z ++ t))),
+      drop-at y (z ++ t) moved ly,
+      drop-at z t w lz,
+    )
+    (append-assoc h x (g ++ (y ++ t)))
+
+-- d taken out at start, y moved over it, z put behind y
+take-out : (h x d y t z b : List ℕ) (start moved w : ℕ) → b ≡ h ++ (x ++ (d ++ (y ++ t))) → length h + length x ≡ start → length d ≡ w → length y ≡ moved →
+    take start b ++ (take moved (drop w (drop start b)) ++ (z ++ drop (moved + w) (drop start b))) ≡ h ++ (x ++ (y ++ (z ++ t)))
+take-out h x d y t z b start moved w e at ld ly =
+    rw (
+      before-start h x (d ++ (y ++ t)) b start e at,
+      from-start h x (d ++ (y ++ t)) b start e at,
+      add-comm moved w,
+      ← (drop-drop moved w (d ++ (y ++ t))),
+      drop-at d (y ++ t) w ld,
+      take-at y t moved ly,
+      drop-at y t moved ly,
+    )
+    (append-assoc h x (y ++ (z ++ t)))
+
+-- d written over by z
+put-over : (h x d t z b : List ℕ) (start w : ℕ) → b ≡ h ++ (x ++ (d ++ t)) → length h + length x ≡ start → length d ≡ w →
+    take start b ++ (z ++ drop w (drop start b)) ≡ h ++ (x ++ (z ++ t))
+put-over h x d t z b start w e at ld =
+    rw (before-start h x (d ++ t) b start e at, from-start h x (d ++ t) b start e at, drop-at d t w ld) (append-assoc h x (z ++ t))
+
+put-field : (a f f′ c u b : List ℕ) (j k : ℕ) → b ≡ (a ++ (f ++ c)) ++ u → length a ≡ j → length f ≡ k → take j b ++ (f′ ++ drop k (drop j b)) ≡ (a ++ (f′ ++ c)) ++ u
+put-field a f f′ c u b j k e la lf =
+    rw (e, append-assoc a (f ++ c) u, append-assoc f c u, take-at a (f ++ (c ++ u)) j la, drop-at a (f ++ (c ++ u)) j la, drop-at f (c ++ u) k lf, append-assoc a (f′ ++ c) u, append-assoc f′ c u)
+
+-- ---- line 1
+
+four : Shape → List ℕ
+four s = s .rows ∷ s .columns ∷ s .top ∷ s .capacity ∷ []
+
+head-parts : (s : Shape) (n : ℕ) → headLine s n ≡ fields 6 (four s) ++ (field 6 n ++ (10 ∷ []))
+unfolding headLine fields flatten four
+head-parts s n = simp append-assoc
+
+-- line 1 with another count
+recount : (s : Shape) (n m : ℕ) (u b : List ℕ) → b ≡ headLine s n ++ u → take 24 b ++ (field 6 m ++ drop 6 (drop 24 b)) ≡ headLine s m ++ u
+unfolding four
+recount s n m u b e =
+    put-field (fields 6 (four s)) (field 6 n) (field 6 m) (10 ∷ []) u b 24 6 (e ∙ ap (λ (l : List ℕ). l ++ u) (head-parts s n)) (length-fields 6 (four s)) (length-field 6 n)
+    ∙ ap (λ (l : List ℕ). l ++ u) (sym (head-parts s m))
+
+-- ---- the lines
+
+abbrev entryLines : Grids → List ℕ
+entryLines es = flatten (map entryLine es)
+
+abbrev blankLines : ℕ → ℕ → List ℕ
+blankLines size k = flatten (replicate k (blankLine size))
+
+flatten-append : (a b : Grids) → flatten (a ++ b) ≡ flatten a ++ flatten b
+unfolding flatten
+flatten-append [] b = refl
+flatten-append (x ∷ a) b = rw (flatten-append a b) (sym (append-assoc x (flatten a) (flatten b)))
+
+entries-append : (a b : Grids) → entryLines (a ++ b) ≡ entryLines a ++ entryLines b
+entries-append a b = ap flatten (map-append entryLine a b) ∙ flatten-append (map entryLine a) (map entryLine b)
+
+layout-is : (s : Shape) (es : Grids) (n m : ℕ) → length es ≡ n → s .capacity - n ≡ m → layout (record { shape = s; entries = es }) ≡ headLine s n ++ (entryLines es ++ blankLines (cells s) m)
+unfolding layout
+layout-is s es n m e d = rw (e, d)
+
+layout-parts : (s : Shape) (xs ys : Grids) (n m : ℕ) → length (xs ++ ys) ≡ n → s .capacity - n ≡ m →
+    layout (record { shape = s; entries = xs ++ ys }) ≡ headLine s n ++ (entryLines xs ++ (entryLines ys ++ blankLines (cells s) m))
+layout-parts s xs ys n m e d =
+    layout-is s (xs ++ ys) n m e d
+    ∙ ap (λ (l : List ℕ). headLine s n ++ l) (ap (λ (l : List ℕ). l ++ blankLines (cells s) m) (entries-append xs ys) ∙ append-assoc (entryLines xs) (entryLines ys) (blankLines (cells s) m))
+
+entries-cons : (g : List ℕ) (ys : Grids) (t : List ℕ) → entryLines (g ∷ ys) ++ t ≡ entryLine g ++ (entryLines ys ++ t)
+unfolding flatten
+entries-cons g ys t = append-assoc (entryLine g) (entryLines ys) t
+
+blanks-cons : (size m : ℕ) → blankLines size (suc m) ≡ blankLine size ++ blankLines size m
+unfolding flatten
+blanks-cons size m = refl
+
+sized-take : (size p : ℕ) (es : Grids) → Sized size es → Sized size (take p es)
+sized-take size p es h g m = h g (rw (take-append-drop p es) at (Memᴰ·append-left (drop p es) m))
+
+sized-drop : (size p : ℕ) (es : Grids) → Sized size es → Sized size (drop p es)
+sized-drop size p es h g m = h g (rw (take-append-drop p es) at (Memᴰ·append-right (take p es) m))
+
+-- the lines before p, with line 1
+start-is : (s : Shape) (n p : ℕ) (xs : Grids) → Sized (cells s) xs → length xs ≡ p → length (headLine s n) + length (entryLines xs) ≡ lineStart (cells s) p
+unfolding lineStart
+start-is s n p xs sized e = ap₂ _+_ (length-head s n) (length-entries (cells s) xs sized ∙ ap (λ (k : ℕ). k * lineLength (cells s)) e)
+
+-- as many lines
+lines-are : (size k : ℕ) (ys : Grids) → Sized size ys → length ys ≡ k → length (entryLines ys) ≡ k * lineLength size
+lines-are size k ys sized e = length-entries size ys sized ∙ ap (λ (k : ℕ). k * lineLength size) e
+
+-- ---- a line put in, a line taken out
+
+module _ (s : Shape) (xs ys : Grids) (g : List ℕ) (n p m : ℕ) (front : Sized (cells s) xs) (back : Sized (cells s) ys) where
+  insert-parts : (b b₁ : List ℕ) → length xs ≡ p → p + length ys ≡ n → s .capacity - n ≡ suc m → b ≡ layout (record { shape = s; entries = xs ++ ys }) →
+      b₁ ≡ take (lineStart (cells s) p) b ++ (entryLine g ++ (take ((n - p) * lineLength (cells s)) (drop (lineStart (cells s) p) b) ++ drop ((n - p) * lineLength (cells s) + lineLength (cells s)) (drop (lineStart (cells s) p) b))) →
+      take 24 b₁ ++ (field 6 (n + 1) ++ drop 6 (drop 24 b₁)) ≡ layout (record { shape = s; entries = xs ++ (g ∷ ys) })
+  insert-parts b b₁ lx ly room e d =
+      recount s n (n + 1) (entryLines xs ++ (entryLine g ++ (entryLines ys ++ blankLines (cells s) m))) b₁
+      (d ∙ put-in (headLine s n) (entryLines xs) (entryLines ys) (blankLine (cells s)) (blankLines (cells s) m) (entryLine g) b _ _ _
+      (e ∙ layout-parts s xs ys n (suc m) (length-append xs ys ∙ omega arith) room
+      ∙ ap (λ (l : List ℕ). headLine s n ++ (entryLines xs ++ (entryLines ys ++ l))) (blanks-cons (cells s) m))
+      (start-is s n p xs front lx) (lines-are (cells s) (n - p) ys back (omega arith)) (length-blank (cells s)))
+      ∙ sym
+      (layout-parts s xs (g ∷ ys) (n + 1) m (length-append xs (g ∷ ys) ∙ omega arith) (omega arith)
+      ∙ ap (λ (l : List ℕ). headLine s (n + 1) ++ (entryLines xs ++ l)) (entries-cons g ys (blankLines (cells s) m)))
+
+  remove-parts : (b b₁ : List ℕ) → length xs ≡ p → length g ≡ cells s → p + suc (length ys) ≡ n → n ≤ s .capacity → s .capacity - n ≡ m → b ≡ layout (record { shape = s; entries = xs ++ (g ∷ ys) }) →
+      b₁ ≡ take (lineStart (cells s) p) b ++ (take ((n - (p + 1)) * lineLength (cells s)) (drop (lineLength (cells s)) (drop (lineStart (cells s) p) b)) ++ (blankLine (cells s) ++ drop ((n - (p + 1)) * lineLength (cells s) + lineLength (cells s)) (drop (lineStart (cells s) p) b))) →
+      take 24 b₁ ++ (field 6 (n - 1) ++ drop 6 (drop 24 b₁)) ≡ layout (record { shape = s; entries = xs ++ ys })
+  remove-parts b b₁ lx lg ly fits room e d =
+      recount s n (n - 1) (entryLines xs ++ (entryLines ys ++ (blankLine (cells s) ++ blankLines (cells s) m))) b₁
+      (d ∙ take-out (headLine s n) (entryLines xs) (entryLine g) (entryLines ys) (blankLines (cells s) m) (blankLine (cells s)) b _ _ _
+      (e ∙ layout-parts s xs (g ∷ ys) n m (length-append xs (g ∷ ys) ∙ omega arith) room
+      ∙ ap (λ (l : List ℕ). headLine s n ++ (entryLines xs ++ l)) (entries-cons g ys (blankLines (cells s) m)))
+      (start-is s n p xs front lx) (length-entry g ∙ ap lineLength lg) (lines-are (cells s) (n - (p + 1)) ys back (omega arith)))
+      ∙ sym
+      (layout-parts s xs ys (n - 1) (suc m) (length-append xs ys ∙ omega arith) (omega arith)
+      ∙ ap (λ (l : List ℕ). headLine s (n - 1) ++ (entryLines xs ++ (entryLines ys ++ l))) (blanks-cons (cells s) m))
+
+-- a register with its entries in two parts
+rejoined : (r : Register) (es : Grids) → es ≡ r .entries → layout r ≡ layout (record { shape = r .shape; entries = es })
+rejoined r es e = λ i. layout (record { shape = r .shape; entries = sym e i })
+
+pub insert-layout : (r : Register) (b b₁ g : List ℕ) (p : ℕ) → Sized (cells (r .shape)) (r .entries) → b ≡ layout r → length (r .entries) < r .shape .capacity → p ≤ length (r .entries) → length g ≡ cells (r .shape) →
+    b₁ ≡ take (lineStart (cells (r .shape)) p) b
+    ++ (entryLine g
+    ++ (take ((length (r .entries) - p) * lineLength (cells (r .shape))) (drop (lineStart (cells (r .shape)) p) b)
+    ++ drop ((length (r .entries) - p) * lineLength (cells (r .shape)) + lineLength (cells (r .shape))) (drop (lineStart (cells (r .shape)) p) b))) →
+    take 24 b₁ ++ (field 6 (length (r .entries) + 1) ++ drop 6 (drop 24 b₁)) ≡ layout (record { shape = r .shape; entries = take p (r .entries) ++ (g ∷ drop p (r .entries)) })
+insert-layout r b b₁ g p sized e room inside width d =
+    insert-parts (r .shape) (take p (r .entries)) (drop p (r .entries)) g (length (r .entries)) p (r .shape .capacity - length (r .entries) - 1)
+    (sized-take _ p (r .entries) sized) (sized-drop _ p (r .entries) sized) b b₁
+    (length-take-le p (r .entries) inside) (omega (arith, length-drop p (r .entries))) (omega arith)
+    (e ∙ rejoined r (take p (r .entries) ++ drop p (r .entries)) (take-append-drop p (r .entries))) d
+
+pub remove-layout : (r : Register) (b b₁ : List ℕ) (p : ℕ) → Sized (cells (r .shape)) (r .entries) → b ≡ layout r → length (r .entries) ≤ r .shape .capacity → p < length (r .entries) →
+    b₁ ≡ take (lineStart (cells (r .shape)) p) b
+    ++ (take ((length (r .entries) - (p + 1)) * lineLength (cells (r .shape))) (drop (lineLength (cells (r .shape))) (drop (lineStart (cells (r .shape)) p) b))
+    ++ (blankLine (cells (r .shape))
+    ++ drop ((length (r .entries) - (p + 1)) * lineLength (cells (r .shape)) + lineLength (cells (r .shape))) (drop (lineStart (cells (r .shape)) p) b))) →
+    take 24 b₁ ++ (field 6 (length (r .entries) - 1) ++ drop 6 (drop 24 b₁)) ≡ layout (record { shape = r .shape; entries = take p (r .entries) ++ drop (suc p) (r .entries) })
+remove-layout r b b₁ p sized e fits inside d =
+    remove-parts (r .shape) (take p (r .entries)) (drop (suc p) (r .entries)) (getD (r .entries) p []) (length (r .entries)) p (r .shape .capacity - length (r .entries))
+    (sized-take _ p (r .entries) sized) (sized-drop _ (suc p) (r .entries) sized) b b₁
+    (length-take-le p (r .entries) (omega arith)) (sized (getD (r .entries) p []) (mem-at (r .entries) [] p inside)) (omega (arith, length-drop (suc p) (r .entries))) fits refl
+    (e ∙ rejoined r (take p (r .entries) ++ (getD (r .entries) p [] ∷ drop (suc p) (r .entries))) (sym (split-at (r .entries) p [] inside))) d
+
+-- ---- inside the bytes
+
+-- k lines and one more from line p on, of c lines
+inside-lines : (w c p k : ℕ) → p + k < c → headLength + p * w + k * w + w ≤ headLength + c * w
+inside-lines w c p k h = let q : (p + k + 1) * w ≤ c * w = mul-le-mul-right w (omega arith) in omega (arith, add-mul (p + k) 1 w, add-mul p k w)
+
+module _ (r : Register) (b : List ℕ) (p : ℕ) (sized : Sized (cells (r .shape)) (r .entries)) (e : b ≡ layout r) where
+  pub start-inside : length (r .entries) < r .shape .capacity → p ≤ length (r .entries) →
+      lineStart (cells (r .shape)) p + (length (r .entries) - p) * lineLength (cells (r .shape)) + lineLength (cells (r .shape)) ≤ length b
+  unfolding lineStart layoutLength
+  start-inside room inside =
+      rw (e, length-layout r sized (omega arith)) (inside-lines (lineLength (cells (r .shape))) (r .shape .capacity) p (length (r .entries) - p) (omega arith))
+
+  pub start-inside-removed : length (r .entries) ≤ r .shape .capacity → p < length (r .entries) →
+      lineStart (cells (r .shape)) p + (length (r .entries) - (p + 1)) * lineLength (cells (r .shape)) + lineLength (cells (r .shape)) ≤ length b
+  unfolding lineStart layoutLength
+  start-inside-removed fits inside =
+      rw (e, length-layout r sized fits) (inside-lines (lineLength (cells (r .shape))) (r .shape .capacity) p (length (r .entries) - (p + 1)) (omega arith))
+
+pub start-past-head : (size p : ℕ) → headLength ≤ lineStart size p
+unfolding lineStart
+start-past-head size p = omega arith
+
+-- ---- a new register
+
+-- b is as long as the shape says, and begins with line 1 of an empty register and k blank lines
+pub record Opened (s : Shape) (k : ℕ) (b : List ℕ) : Type 0 where
+  pub sized : length b ≡ layoutLength s
+  pub rest : List ℕ
+  pub bytes : b ≡ headLine s 0 ++ (flatten (replicate k (blankLine (cells s))) ++ rest)
+
+blank-start : (s : Shape) (k : ℕ) → length (headLine s 0) + length (blankLines (cells s) k) ≡ lineStart (cells s) k
+unfolding lineStart
+blank-start s k = ap₂ _+_ (length-head s 0) (length-blanks (cells s) k)
+
+blanks-snoc : (size k : ℕ) (t : List ℕ) → blankLines size k ++ (blankLine size ++ t) ≡ blankLines size (k + 1) ++ t
+unfolding flatten
+blanks-snoc size k t = sym (append-assoc (blankLines size k) (blankLine size) t) ∙ ap (λ (l : List ℕ). l ++ t) (sym grown)
+  where
+    grown : blankLines size (k + 1) ≡ blankLines size k ++ blankLine size
+    grown =
+        ap flatten (sym (replicate-append-replicate k 1 (blankLine size)))
+        ∙ flatten-append (replicate k (blankLine size)) (blankLine size ∷ [])
+        ∙ ap (λ (l : List ℕ). blankLines size k ++ l) (append-nil (blankLine size))
+
+length-opened : {s : Shape} {k : ℕ} {b : List ℕ} (o : Opened s k b) → length b ≡ lineStart (cells s) k + length (o .rest)
+length-opened {s} {k} o =
+    ap length (o .bytes)
+    ∙ length-append (headLine s 0) (blankLines (cells s) k ++ o .rest)
+    ∙ omega (arith, length-append (blankLines (cells s) k) (o .rest), blank-start s k)
+
+length-over : (z b : List ℕ) (start w : ℕ) → start + w ≤ length b → length z ≡ w → length (take start b ++ (z ++ drop w (drop start b))) ≡ length b
+length-over z b start w h lz =
+    length-append (take start b) (z ++ drop w (drop start b))
+    ∙ omega (arith, length-take-le start b (omega arith), length-append z (drop w (drop start b)), length-drop w (drop start b), length-drop start b)
+
+no-length : (l : List ℕ) → length l ≡ 0 → l ≡ []
+no-length [] e = refl
+no-length (x ∷ l) e = absurd (omega arith)
+
+pub opened-inside : {s : Shape} {k : ℕ} {b : List ℕ} → Opened s k b → k < s .capacity → lineStart (cells s) k + lineLength (cells s) ≤ length b
+unfolding lineStart layoutLength
+opened-inside {s} {k} {b} o room =
+    let q : (k + 1) * lineLength (cells s) ≤ s .capacity * lineLength (cells s) = mul-le-mul-right (lineLength (cells s)) (omega arith) in
+    rw (o .sized) (omega (arith, add-mul k 1 (lineLength (cells s))))
+
+pub opened-head : {s : Shape} (b : List ℕ) → length b ≡ layoutLength s → Opened s 0 (headLine s 0 ++ drop 31 b)
+unfolding flatten layoutLength
+opened-head {s} b e = record {
+  sized = length-append (headLine s 0) (drop 31 b) ∙ omega (arith, length-head s 0, length-drop 31 b);
+  rest = drop 31 b;
+  bytes = refl;
+}
+
+pub opened-next : {s : Shape} {k : ℕ} {b : List ℕ} → Opened s k b → k < s .capacity →
+    Opened s (k + 1) (take (lineStart (cells s) k) b ++ (blankLine (cells s) ++ drop (lineLength (cells s)) (drop (lineStart (cells s) k) b)))
+opened-next {s} {k} {b} o room = record {
+  sized = length-over (blankLine (cells s)) b (lineStart (cells s) k) (lineLength (cells s)) (opened-inside o room) (length-blank (cells s)) ∙ o .sized;
+  rest = drop (lineLength (cells s)) (o .rest);
+  bytes =
+      put-over (headLine s 0) (blankLines (cells s) k) (take (lineLength (cells s)) (o .rest)) (drop (lineLength (cells s)) (o .rest)) (blankLine (cells s)) b (lineStart (cells s) k) (lineLength (cells s))
+      (rw (take-append-drop (lineLength (cells s)) (o .rest)) (o .bytes))
+      (blank-start s k)
+      (length-take-le (lineLength (cells s)) (o .rest) (omega (arith, length-opened o, opened-inside o room)))
+      ∙ ap (λ (l : List ℕ). headLine s 0 ++ l) (blanks-snoc (cells s) k (drop (lineLength (cells s)) (o .rest)));
+}
+
+-- the same of bytes given by equations, in the form of a part put back after it is written
+pub opened-head-part : {s : Shape} (b : List ℕ) {b₁ ys : List ℕ} → length b ≡ layoutLength s → ys ≡ headLine s 0 → b₁ ≡ take 0 b ++ (ys ++ drop (31 - 0) (drop 0 b)) → Opened s 0 b₁
+opened-head-part b sized e d = rw (d, e) (opened-head b sized)
+
+pub opened-next-part : {s : Shape} {k start end : ℕ} {b b₁ ys : List ℕ} → Opened s k b → k < s .capacity →
+    start ≡ lineStart (cells s) k → end ≡ start + lineLength (cells s) → ys ≡ blankLine (cells s) → b₁ ≡ take start b ++ (ys ++ drop (end - start) (drop start b)) → Opened s (k + 1) b₁
+opened-next-part {s} {k} {start} {end} o room at to e d = let w : end - start ≡ lineLength (cells s) = omega arith in rw (d, e, w, at) (opened-next o room)
+
+pub opened-all : {s : Shape} {b : List ℕ} → Opened s (s .capacity) b → b ≡ layout (record { shape = s; entries = [] })
+unfolding lineStart layoutLength flatten
+opened-all {s} {b} o =
+    o .bytes
+    ∙ ap (λ (l : List ℕ). headLine s 0 ++ (blankLines (cells s) (s .capacity) ++ l)) (no-length (o .rest) (omega (arith, length-opened o, o .sized)))
+    ∙ ap (λ (l : List ℕ). headLine s 0 ++ l) (append-nil (blankLines (cells s) (s .capacity)))
+    ∙ sym (layout-is s [] 0 (s .capacity) refl (omega arith))

@@ -1,0 +1,44 @@
+-- The lines of a register's bytes, by their places; question 5 line by line.
+--
+--   lineStart size e           ==  where line e of the entries begins, the first being 0
+--   lineAt size b e            ==  the bytes of that line, its line feed included
+--   cellsOf size l             ==  the cells that a line states
+--   EntryLine size top l       ==  l is the line of an entry whose cells are at most top
+--   EntriesLaid size top n b   ==  the first n lines are lines of entries, each of which comes before the next
+--   BlanksLaid size from to b  ==  the lines from `from` up to `to` are blank
+--   HeadLaid b                 ==  line 1 and the length are as laid out: the limits, the count at most the capacity
+use mathlib.Core.Path.{_≡_}
+use mathlib.Core.List.{List}
+use mathlib.Core.Bool.{true}
+use Prim.Native.Nat.{ℕ, _+_, _*_, _≤_, _<_}
+use lib.ListN.{length, take, drop}
+use Rattle.permutations.specs.Lists.{tabulate}
+use Rattle.grids.specs.Order.{_≺_}
+use Rattle.grids.specs.Grids.{capped}
+use Rattle.layout.specs.Layout.{headLength, lineLength, entryLine, blankLine, headLine, layoutLength, numberAt, count, decodeShape, InLimits}
+
+unfoldable pub lineStart : ℕ → ℕ → ℕ
+lineStart size e = headLength + e * lineLength size
+
+unfoldable pub lineAt : ℕ → List ℕ → ℕ → List ℕ
+lineAt size b e = take (lineLength size) (drop (lineStart size e) b)
+
+unfoldable pub cellsOf : ℕ → List ℕ → List ℕ
+cellsOf size l = tabulate 0 size (λ k. numberAt 3 (3 * k) l)
+
+pub record EntryLine (size top : ℕ) (l : List ℕ) : Type 0 where
+  pub bytes : l ≡ entryLine (cellsOf size l)
+  pub at-most : capped top (cellsOf size l) ≡ true
+
+pub record EntriesLaid (size top n : ℕ) (b : List ℕ) : Type 0 where
+  pub lines : (e : ℕ) → e < n → EntryLine size top (lineAt size b e)
+  pub ascend : (e : ℕ) → e + 1 < n → cellsOf size (lineAt size b e) ≺ cellsOf size (lineAt size b (e + 1))
+
+pub record BlanksLaid (size from to : ℕ) (b : List ℕ) : Type 0 where
+  pub lines : (e : ℕ) → from ≤ e → e < to → lineAt size b e ≡ blankLine size
+
+pub record HeadLaid (b : List ℕ) : Type 0 where
+  pub limits : InLimits (decodeShape b)
+  pub count-fits : count b ≤ decodeShape b .capacity
+  pub sized : length b ≡ layoutLength (decodeShape b)
+  pub line : take headLength b ≡ headLine (decodeShape b) (count b)

@@ -1,0 +1,4 @@
+pub mod FillLaws
+pub mod HeadLaws
+pub mod LineLaws
+pub mod NumberLaws

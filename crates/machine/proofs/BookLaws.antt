@@ -1,0 +1,88 @@
+-- What is known of a register that question 5 has passed.
+--
+--   book-register, book-layout  ==  what the bytes state is a register, and they are its layout
+--   book-count, book-ascends, book-line  ==  how many entries it has, that they ascend, and that each is what its line states
+--   Sizes size n b              ==  the sizes, all of them small
+--   book-sizes                  ==  a register has them
+--   line-fits, entry-fits       ==  a line ends within the bytes, and its place is a small number
+--   entry-part                  ==  the part of the bytes that an entry's line is
+use mathlib.Core.Path.{_≡_, refl, sym, ap, _∙_}
+use mathlib.Core.List.{List, []}
+use mathlib.Core.Bool.{true}
+use Prim.Native.Nat.{ℕ, _+_, _-_, _*_, _≤_, _<_}
+use native.Mathlib.Nat.{mul-le-mul}
+use native.Mathlib.Omega.{arith}
+use lib.ListN.{length, getD, take, drop}
+use Rattle.grids.specs.Order.{equal}
+use Rattle.grids.specs.Grids.{capped}
+use Rattle.grids.proofs.OrderLaws.{equal-eq}
+use Rattle.grids.proofs.QuestionLaws.{size-fits, capped-at, at-capped}
+use Rattle.permutations.proofs.BoolLaws.{and-yes}
+use Rattle.layout.specs.Layout.{Register, cells, headLength, entryWidth, lineLength, layout, layoutLength, count, decodeShape, decode, Ascends, IsRegister, isRegister, laidOut}
+use Rattle.layout.specs.Lines.{lineStart, lineAt, cellsOf, EntryLine, HeadLaid, EntriesLaid, BlanksLaid}
+use Rattle.layout.proofs.RegisterLaws.{register-decides}
+use Rattle.layout.proofs.LineLaws.{laid-lines, line-entry, entries-counted}
+use Rattle.machine.specs.Books.{Book}
+
+pub record Sizes (size n capacity : ℕ) (b : List ℕ) : Type 0 where
+  pub cells-fit : size ≤ 128
+  pub width-is : lineLength size ≡ 3 * size + 1
+  pub count-fits : n ≤ capacity
+  pub capacity-fits : capacity ≤ 500
+  pub length-is : length b ≡ 31 + capacity * lineLength size
+
+-- cells at most top are at most a greater one
+capped-more : (a c : ℕ) (g : List ℕ) → a ≤ c → capped a g ≡ true → capped c g ≡ true
+capped-more a c g h e = at-capped c g (λ k l. omega (arith, capped-at a g e k l))
+
+module _ {size n : ℕ} {b : List ℕ} (k : Book size n b) where
+  pub book-register : IsRegister (decode b)
+  unfolding laidOut
+  book-register = register-decides (decode b) .0 (and-yes (isRegister (decode b)) (equal (layout (decode b)) b) (k .laid) .0)
+
+  pub book-layout : b ≡ layout (decode b)
+  unfolding laidOut
+  book-layout = sym (equal-eq (layout (decode b)) b (and-yes (isRegister (decode b)) (equal (layout (decode b)) b) (k .laid) .1))
+
+  pub book-count : length (decode b .entries) ≡ n
+  book-count = entries-counted b ∙ sym (k .counts)
+
+  pub book-ascends : Ascends (decode b .entries)
+  book-ascends = book-register .entries-ascend
+
+  pub book-line : (e : ℕ) → e < n → (EntryLine size 15 (lineAt size b e)) × (cellsOf size (lineAt size b e) ≡ getD (decode b .entries) e [])
+  unfolding decodeShape decode
+  book-line e h =
+      let p = laid-lines b .0 (k .laid) .1 in
+      let l = laid-lines b .0 (k .laid) .0 .limits .grid-limits .top-limit in
+      let x = p .lines e (omega (arith, k .counts)) in
+      rw (k .sized) (record { bytes = x .bytes; at-most = capped-more _ 15 (cellsOf _ (lineAt _ b e)) l (x .at-most) }, sym (line-entry b (k .laid) e (omega (arith, k .counts))))
+
+  pub book-sizes : Sizes size n (decodeShape b .capacity) b
+  unfolding layoutLength lineLength entryWidth decodeShape decode
+  book-sizes =
+      let p = laid-lines b .0 (k .laid) .0 in
+      let l = p .limits .grid-limits in
+      record {
+        cells-fit = omega (arith, k .sized, size-fits (decodeShape b .rows) (decodeShape b .columns) (l .rows-limits .1) (l .column-limits .1));
+        width-is = refl;
+        count-fits = omega (arith, k .counts, p .count-fits);
+        capacity-fits = p .limits .capacity-limits .1;
+        length-is = p .sized ∙ ap (λ (x : ℕ). 31 + decodeShape b .capacity * (3 * x + 1)) (sym (k .sized));
+      }
+
+  pub line-fits : (e w : ℕ) → e < decodeShape b .capacity → w ≡ lineLength size → (31 + e * w + w ≤ length b) × (31 + e * w + w ≤ 192531)
+  line-fits e w h q = let z = book-sizes in fits (decodeShape b .capacity) h (rw (← q) at (z .length-is)) (z .capacity-fits) (omega (arith, z .cells-fit, z .width-is))
+    where
+      fits : (c : ℕ) → e < c → length b ≡ 31 + c * w → c ≤ 500 → w ≤ 385 → (31 + e * w + w ≤ length b) × (31 + e * w + w ≤ 192531)
+      fits c h l a d =
+          let x = mul-le-mul {n₁ = e + 1} {m₁ = w} {n₂ = c} {m₂ = w} (omega arith) (omega arith) in
+          let y = mul-le-mul {n₁ = e + 1} {m₁ = w} {n₂ = 500} {m₂ = 385} (omega arith) (omega arith) in
+          (omega (arith, l, x), omega (arith, y))
+
+  pub entry-fits : (e w : ℕ) → e < n → w ≡ lineLength size → (31 + e * w + w ≤ length b) × (31 + e * w + w ≤ 192531)
+  entry-fits e w h q = line-fits e w (omega (arith, book-sizes .count-fits)) q
+
+  pub entry-part : (e w : ℕ) → w ≡ lineLength size → take (31 + e * w + w - (31 + e * w)) (drop (31 + e * w) b) ≡ lineAt size b e
+  unfolding lineAt lineStart
+  entry-part e w q = let d : 31 + e * w + w - (31 + e * w) ≡ w = omega arith in rw (d, q) refl

@@ -1,0 +1,48 @@
+-- A register that question 5 has passed, and what the calls answer on it.
+--
+--   placed number place bytes  ==  such an outcome
+--   Book size n b               ==  b is laid out, with n entries of so many cells
+--   shape m n top capacity      ==  such a shape
+--   openNo s length             ==  the first no of open's questions, of a slice of that length
+--   PrunesCopies m n top low high number lows highs  ==  the number and the bounds are those that prune leaves of low and high
+--   asked b g                   ==  the first no of questions 5, 6 and 7 of enter and strike
+--   enteredLeast b r            ==  the outcome of entering the grid r, least of its class, into the register b
+--   struckLeast b r             ==  the outcome of striking it
+use mathlib.Core.Path.{_≡_}
+use mathlib.Core.List.{List, [], _∷_}
+use mathlib.Core.Bool.{true}
+use Prim.Native.Nat.{ℕ}
+use lib.Dec.{eqb}
+use Rattle.grids.specs.Questions.{firstNo, question1, question2, question3}
+use Rattle.bounds.specs.Prune.{pruned}
+use Rattle.layout.specs.Layout.{Shape, cells, layoutLength, count, decodeShape, decode, laidOut}
+use Rattle.machine.specs.Calls.{Outcome, answered, question4, question5, gridQuestions, question9, question10, enterInto, strikeFrom}
+
+abbrev pub placed : ℕ → ℕ → List ℕ → Outcome
+placed number place bytes = record { number = number; place = place; bytes = bytes }
+
+abbrev pub shape : ℕ → ℕ → ℕ → ℕ → Shape
+shape m n top capacity = record { rows = m; columns = n; top = top; capacity = capacity }
+
+unfoldable pub openNo : Shape → ℕ → ℕ
+openNo s length =
+    firstNo (question1 (s .rows) ∷ question2 (s .columns) ∷ question3 (s .top) ∷ question4 (s .capacity) ∷ record { number = 6; answer = eqb length (layoutLength s) } ∷ [])
+
+pub record Book (size n : ℕ) (b : List ℕ) : Type 0 where
+  pub laid : laidOut b ≡ true
+  pub sized : size ≡ cells (decodeShape b)
+  pub counts : n ≡ count b
+
+unfoldable pub asked : List ℕ → List ℕ → ℕ
+asked b g = firstNo (question5 b ∷ gridQuestions (decode b .shape) g)
+
+unfoldable pub enteredLeast : List ℕ → List ℕ → Outcome
+enteredLeast b r = answered (firstNo (question9 (decode b) r ∷ [])) b (enterInto b (decode b) r)
+
+unfoldable pub struckLeast : List ℕ → List ℕ → Outcome
+struckLeast b r = answered (firstNo (question10 (decode b) r ∷ [])) b (strikeFrom (decode b) r)
+
+pub record PrunesCopies (m n top : ℕ) (low high : List ℕ) (number : ℕ) (lows highs : List ℕ) : Type 0 where
+  pub number-is : number ≡ pruned m n top low high .number
+  pub lows-are : lows ≡ pruned m n top low high .low
+  pub highs-are : highs ≡ pruned m n top low high .high

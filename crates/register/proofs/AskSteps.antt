@@ -1,0 +1,124 @@
+-- Questions 5, 6 and 7, from what the code finds to what is asked.
+--
+--   laid-head         ==  a register is longer than line 1
+--   head-rows, head-columns, head-top, head-capacity  ==  line 1 as the code holds it
+--   head-limits, head-size, head-book  ==  its numbers are within the limits, and the register has them
+--   asked-no          ==  question 5 gets a no
+--   represent-asked   ==  of a register's numbers, and a slice of the right length, represent asks questions 6 and 7
+--   asked-yes         ==  question 5 gets a yes: what represent answers is the first no, and what it writes the least grid
+--   asked-fits, asked-book  ==  what is known where each got a yes
+--   call-refused, call-least  ==  a call that asks these first, and then goes by the least grid
+use mathlib.Core.Path.{_≡_, refl, sym, ap, ap₂, _∙_}
+use mathlib.Core.List.{List, [], _∷_, _++_}
+use mathlib.Core.Bool.{true, false}
+use Prim.Native.Nat.{ℕ, _+_, _-_, _*_, _≤_, _<_}
+use native.Mathlib.Omega.{arith}
+use lib.ListN.{length, take, drop}
+use lib.Seq.{take-at}
+use lib.Dec.{eqb}
+use borrow.Author.Tests.{eq-eqb}
+use borrow.Rule.Slice.PartMut.{midOf, putMid, same-len-mid}
+use Rattle.grids.specs.Least.{least}
+use Rattle.grids.specs.Questions.{firstNo, Limits, question1, question2, question3, question6, question7}
+use Rattle.grids.proofs.QuestionLaws.{firstNo-pass, firstNo-stop, yes-range, size-fits}
+use Rattle.permutations.specs.Lists.{every}
+use Rattle.canonical.specs.Represent.{representQuestions, Represented}
+use Rattle.layout.specs.Layout.{Shape, cells, layoutLength, decodeShape, decode, InLimits, laidOut}
+use Rattle.layout.proofs.LineLaws.{laid-lines}
+use Rattle.lines.specs.declared.head.Head.{Head}
+use Rattle.lines.specs.Head.{States}
+use Rattle.machine.specs.Calls.{Outcome, answered, question5, gridQuestions, leastIn}
+use Rattle.machine.specs.Books.{placed, Book, asked}
+use Rattle.machine.proofs.LeastSteps.{answered-refusal}
+use Rattle.machine.proofs.BookLaws.{book-sizes}
+use Rattle.register.specs.declared.asking.Asked.{Asked}
+use Rattle.register.specs.Asked.{Asks}
+use Rattle.register.proofs.PlaceSteps.{part-length}
+
+pub laid-head : (b : List ℕ) → laidOut b ≡ true → 31 ≤ length b
+unfolding layoutLength
+laid-head b laid = omega (arith, laid-lines b .0 laid .0 .sized)
+
+pub asked-no : {b g least : List ℕ} {r : Asked} → laidOut b ≡ false → length least ≡ 128 → r .number ≡ 5 → Asks b g least r
+unfolding asked question5
+asked-no {b} {g} out l n = record {
+  number-is = n ∙ sym (firstNo-stop (question5 b) (gridQuestions (decode b .shape) g) out);
+  kept = l;
+  book = λ z. absurd (omega (arith, n, z));
+  capacity-is = λ z. absurd (omega (arith, n, z));
+  least-is = λ z. absurd (omega (arith, n, z));
+}
+
+pub represent-asked : (m n top : ℕ) (g out : List ℕ) → Limits m n top → length out ≡ m * n → firstNo (representQuestions m n top g out) ≡ firstNo (question6 (m * n) (g ∷ []) ∷ question7 top (g ∷ []) ∷ [])
+unfolding representQuestions question1 question2 question3 question6 every
+represent-asked m n top g out l e =
+    firstNo-pass (question1 m) _ (yes-range 1 8 m (l .rows-limits))
+    ∙ firstNo-pass (question2 n) _ (yes-range 1 16 n (l .column-limits))
+    ∙ firstNo-pass (question3 top) _ (yes-range 0 15 top (omega arith, l .top-limit))
+    ∙ rw (eq-eqb (length out) (m * n) e) refl
+
+module _ {b : List ℕ} {h : Head} (laid : laidOut b ≡ true) (st : States b h) where
+  head-rows : h .rows ≡ decodeShape b .rows
+  head-rows = ap (λ (s : Shape). s .rows) (st .shape)
+
+  head-columns : h .columns ≡ decodeShape b .columns
+  head-columns = ap (λ (s : Shape). s .columns) (st .shape)
+
+  head-top : h .top ≡ decodeShape b .top
+  head-top = ap (λ (s : Shape). s .top) (st .shape)
+
+  pub head-capacity : h .capacity ≡ decodeShape b .capacity
+  head-capacity = ap (λ (s : Shape). s .capacity) (st .shape)
+
+  pub head-limits : Limits (h .rows) (h .columns) (h .top)
+  head-limits = rw (head-rows, head-columns, head-top) (laid-lines b .0 laid .0 .limits .grid-limits)
+
+  pub head-size : h .rows * h .columns ≤ 128
+  head-size = size-fits (h .rows) (h .columns) (head-limits .rows-limits .1) (head-limits .column-limits .1)
+
+  pub head-book : Book (h .rows * h .columns) (h .count) b
+  head-book = record { laid = laid; sized = ap₂ _*_ head-rows head-columns; counts = st .counts }
+
+  grid-asked : (g : List ℕ) → firstNo (question6 (h .rows * h .columns) (g ∷ []) ∷ question7 (h .top) (g ∷ []) ∷ []) ≡ asked b g
+  unfolding asked gridQuestions decode question5
+  grid-asked g = rw (head-rows, head-columns, head-top) (sym (firstNo-pass (question5 b) (gridQuestions (decodeShape b) g) laid))
+
+  pub asked-yes : (g out ys : List ℕ) {number : ℕ} {rows columns : List ℕ} → length out ≡ 128 → length ys ≡ length (midOf 0 (h .rows * h .columns - 0) out) →
+      Represented (h .rows) (h .columns) (h .top) g (midOf 0 (h .rows * h .columns - 0) out) number rows columns ys →
+      Asks b g (ys ++ drop (h .rows * h .columns - 0) out) (record { number = number; size = h .rows * h .columns; capacity = h .capacity; count = h .count })
+  unfolding decode
+  asked-yes g out ys l k r =
+      let z = part-length out (h .rows * h .columns) (omega (arith, l, head-size)) in
+      record {
+        number-is = r .number-is ∙ represent-asked (h .rows) (h .columns) (h .top) g _ head-limits z ∙ grid-asked g;
+        kept = same-len-mid 0 (h .rows * h .columns - 0) out ys k ∙ l;
+        book = λ _. head-book;
+        capacity-is = λ _. head-capacity;
+        least-is = λ e. take-at ys _ (h .rows * h .columns) (k ∙ z) ∙ r .written e ∙ ap₂ (λ (m n : ℕ). least m n g) head-rows head-columns;
+      }
+
+-- a call that asks questions 5, 6 and 7 first, and then goes by the least grid
+module _ {b g out : List ℕ} {r : Asked} (k : Asks b g out r) where
+  whole : r .size - 0 ≡ r .size
+  whole = omega arith
+
+  pub asked-fits : r .number ≡ 0 → r .size ≤ length out
+  asked-fits z = omega (arith, k .kept, book-sizes (k .book z) .cells-fit)
+
+  pub asked-book : r .number ≡ 0 → Book (length (take (r .size - 0) out)) (r .count) b
+  asked-book z = rw (part-length out (r .size) (asked-fits z)) (k .book z)
+
+  module _ (f : List ℕ → Outcome) {x : Outcome} (e : x ≡ answered (asked b g) b (f (leastIn (decode b .shape) g))) where
+    pub call-refused : (r .number ≡ 0 → ⊥) → {number place : ℕ} → number ≡ r .number → place ≡ 0 → placed number place b ≡ x
+    call-refused n {number} {place} p q =
+        ap₂ (λ (i j : ℕ). placed i j b) (p ∙ k .number-is) q ∙ sym (e ∙ answered-refusal (asked b g) b _ (above-zero (asked b g) (λ z. n (k .number-is ∙ z))))
+      where
+        above-zero : (i : ℕ) → (i ≡ 0 → ⊥) → 0 < i
+        above-zero i h = omega arith
+
+    pub call-least : r .number ≡ 0 → {o : Outcome} → o ≡ f (take (r .size - 0) out) → o ≡ x
+    unfolding answered
+    call-least z d = d ∙ ap f (ap (λ (i : ℕ). take i out) whole ∙ k .least-is z) ∙ sym (e ∙ ap (λ (i : ℕ). answered i b (f (leastIn (decode b .shape) g))) (sym (k .number-is) ∙ z) ∙ yes)
+      where
+        yes : answered 0 b (f (leastIn (decode b .shape) g)) ≡ f (leastIn (decode b .shape) g)
+        yes = refl

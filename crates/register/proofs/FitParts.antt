@@ -1,0 +1,51 @@
+-- Fit, from what the code finds to the outcome: the copies of the bounds are the first elements of arrays.
+--
+--   part-kept     ==  the first elements of an array, put back after a call
+--   lengths-differ  ==  a slice of another length than the register's grids
+--   fit-refused   ==  prune's number is not 0
+--   fit-ready     ==  what the count requires
+--   count-small   ==  the count is a small number
+--   fit-placed    ==  the count is fit's
+use mathlib.Core.Path.{_≡_, refl, sym, ap, _∙_}
+use mathlib.Core.List.{List, _++_}
+use mathlib.Core.Bool.{Bool, true}
+use Prim.Native.Nat.{ℕ, _-_, _*_, _≤_}
+use native.Mathlib.Omega.{arith}
+use lib.ListN.{length, take}
+use Rattle.permutations.specs.Lists.{select}
+use Rattle.permutations.proofs.ListLaws.{part-is, length-select}
+use Rattle.bounds.specs.Bounds.{IsBounds, inBounds}
+use Rattle.layout.specs.Layout.{Shape, cells, decodeShape, decode, laidOut}
+use Rattle.lines.specs.declared.head.Head.{Head}
+use Rattle.lines.specs.Head.{shapeOf, States}
+use Rattle.machine.specs.Calls.{fitted}
+use Rattle.machine.specs.Books.{placed, Book, PrunesCopies}
+use Rattle.machine.proofs.BookLaws.{book-count, book-sizes}
+use Rattle.machine.proofs.FitSteps.{fit-lengths, fit-none, fit-bounds, fit-counts, pruned-sizes}
+use Rattle.register.proofs.AskSteps.{head-book}
+use Rattle.register.proofs.PlaceSteps.{part-length}
+
+pub part-kept : (z x x′ : List ℕ) (k : ℕ) → k ≤ length z → length x ≡ length (take (k - 0) z) → (length x ≡ k) × (take (k - 0) (x ++ x′) ≡ x)
+part-kept z x x′ k h e = let l : length x ≡ k = e ∙ part-length z k h in (l, part-is x x′ k l)
+
+pub count-small : {size n : ℕ} {b : List ℕ} → Book size n b → (t : List ℕ → Bool) {r : ℕ} → r ≡ length (select t (decode b .entries)) → r ≤ 500
+count-small {b = b} k t e = let z = book-sizes k in omega (arith, e, length-select t (decode b .entries), book-count k, z .count-fits, z .capacity-fits)
+
+module _ {b : List ℕ} {h : Head} (laid : laidOut b ≡ true) (st : States b h) (low high : List ℕ) where
+  sized : cells (decode b .shape) ≡ h .rows * h .columns
+  unfolding decode
+  sized = sym (head-book laid st .sized)
+
+  pub lengths-differ : ((length low ≡ h .rows * h .columns) × (length high ≡ h .rows * h .columns) → ⊥) → placed 6 0 b ≡ fitted b low high
+  lengths-differ d = fit-lengths b low high laid (λ q. d (q .0 ∙ sized, q .1 ∙ sized))
+
+  module _ {number : ℕ} {lows highs : List ℕ} (p : PrunesCopies (h .rows) (h .columns) (h .top) low high number lows highs) where
+    pub fit-refused : (number ≡ 0 → ⊥) → placed number 0 b ≡ fitted b low high
+    fit-refused n = fit-none b low high laid (st .shape) p n
+
+    module _ (z : number ≡ 0) {x y : List ℕ} (d : x ≡ lows) (e : y ≡ highs) where
+      pub fit-ready : Book (length x) (h .count) b × IsBounds (length x) (decodeShape b .top) x y
+      fit-ready = rw (d, e) (rw (pruned-sizes (h .rows) (h .columns) (h .top) low high p z) (head-book laid st), fit-bounds b low high laid (st .shape) p z)
+
+      pub fit-placed : {r : ℕ} → r ≡ length (select (inBounds (length x) (decodeShape b .top) x y) (decode b .entries)) → placed 0 r b ≡ fitted b low high
+      fit-placed q = fit-counts b low high laid (st .shape) p z (rw (d, e) at q)

@@ -1,0 +1,150 @@
+-- Open, from what the code finds to the outcome.
+--
+--   rows-no, columns-no, top-no, capacity-no, length-no  ==  the questions before get a yes, this one a no
+--   open-yes                  ==  every question gets a yes
+--   length-is, open-small     ==  how long a register is
+--   open-asked                ==  what is asked of a slice is asked of its length
+--   opened-passes             ==  what is known where it does
+--   opened-no, opened-yes     ==  the ways out of open
+use mathlib.Core.Path.{_≡_, refl, sym, ap, ap₂, _∙_}
+use mathlib.Core.List.{List, [], _∷_, _++_}
+use mathlib.Core.Bool.{true, false, and-true}
+use mathlib.Core.Logic.{_↔_}
+use Prim.Native.Nat.{ℕ, suc, _+_, _-_, _*_, _≤_, _<_}
+use native.Mathlib.Nat.{mul-le-mul}
+use native.Mathlib.Omega.{arith}
+use lib.ListN.{length, take, drop}
+use lib.Dec.{eqb}
+use borrow.Author.Tests.{eq-eqb, ne-eqb}
+use borrow.Rule.Slice.PartMut.{midOf, putMid}
+use Rattle.permutations.specs.Lists.{every}
+use Rattle.grids.specs.Questions.{Question, firstNo, inRange, question1, question2, question3, question6}
+use Rattle.grids.proofs.QuestionLaws.{firstNo-pass, firstNo-stop, yes-range, size-fits}
+use Rattle.grids.proofs.QuestionSteps.{range-no}
+use Rattle.layout.specs.Layout.{Shape, cells, entryWidth, lineLength, headLine, blankLine, layout, layoutLength, InLimits}
+use Rattle.layout.specs.Lines.{lineStart}
+use Rattle.layout.proofs.MoveLaws.{Opened, opened-head-part, opened-next, opened-all}
+use Rattle.machine.specs.Calls.{Outcome, answered, question4, openQuestions, opened}
+use Rattle.machine.specs.Books.{placed, shape, openNo}
+use Rattle.machine.proofs.AskedLaws.{open-pass}
+use Rattle.machine.proofs.LeastSteps.{answered-refusal}
+use Rattle.machine.proofs.BookMoves.{Room, lines-fit, tail-part, put-tail}
+
+module _ (m n top capacity x : ℕ) where
+  -- question 6 of a length
+  abbrev exact : Question
+  exact = record { number = 6; answer = eqb x (layoutLength (shape m n top capacity)) }
+
+  pub rows-no : ((1 ≤ m) × (m ≤ 8) → ⊥) → 1 ≡ openNo (shape m n top capacity) x
+  unfolding openNo question1
+  rows-no h = sym (firstNo-stop (question1 m) _ (range-no 1 8 m h))
+
+  module _ (hm : (1 ≤ m) × (m ≤ 8)) where
+    past-rows : openNo (shape m n top capacity) x ≡ firstNo (question2 n ∷ question3 top ∷ question4 capacity ∷ exact ∷ [])
+    unfolding openNo question1
+    past-rows = firstNo-pass (question1 m) _ (yes-range 1 8 m hm)
+
+    pub columns-no : ((1 ≤ n) × (n ≤ 16) → ⊥) → 2 ≡ openNo (shape m n top capacity) x
+    unfolding question2
+    columns-no h = sym (past-rows ∙ firstNo-stop (question2 n) _ (range-no 1 16 n h))
+
+    module _ (hn : (1 ≤ n) × (n ≤ 16)) where
+      past-columns : openNo (shape m n top capacity) x ≡ firstNo (question3 top ∷ question4 capacity ∷ exact ∷ [])
+      unfolding question2
+      past-columns = past-rows ∙ firstNo-pass (question2 n) _ (yes-range 1 16 n hn)
+
+      pub top-no : 15 < top → 3 ≡ openNo (shape m n top capacity) x
+      unfolding question3
+      top-no h = sym (past-columns ∙ firstNo-stop (question3 top) _ (range-no 0 15 top (λ r. omega arith)))
+
+      module _ (ht : top ≤ 15) where
+        past-top : openNo (shape m n top capacity) x ≡ firstNo (question4 capacity ∷ exact ∷ [])
+        unfolding question3
+        past-top = past-columns ∙ firstNo-pass (question3 top) _ (yes-range 0 15 top (omega arith, ht))
+
+        pub capacity-no : ((1 ≤ capacity) × (capacity ≤ 500) → ⊥) → 4 ≡ openNo (shape m n top capacity) x
+        unfolding question4
+        capacity-no h = sym (past-top ∙ firstNo-stop (question4 capacity) _ (range-no 1 500 capacity h))
+
+        module _ (hc : (1 ≤ capacity) × (capacity ≤ 500)) where
+          past-capacity : openNo (shape m n top capacity) x ≡ firstNo (exact ∷ [])
+          unfolding question4
+          past-capacity = past-top ∙ firstNo-pass (question4 capacity) _ (yes-range 1 500 capacity hc)
+
+          pub length-no : (x ≡ layoutLength (shape m n top capacity) → ⊥) → 6 ≡ openNo (shape m n top capacity) x
+          length-no h = sym (past-capacity ∙ firstNo-stop exact [] (ne-eqb x (layoutLength (shape m n top capacity)) h))
+
+          pub open-yes : x ≡ layoutLength (shape m n top capacity) → 0 ≡ openNo (shape m n top capacity) x
+          unfolding firstNo
+          open-yes e = sym (past-capacity ∙ firstNo-pass exact [] (eq-eqb x (layoutLength (shape m n top capacity)) e))
+
+pub length-is : (m n top capacity : ℕ) {w : ℕ} → w ≡ lineLength (m * n) → layoutLength (shape m n top capacity) ≡ 31 + capacity * w
+unfolding layoutLength
+length-is m n top capacity q = rw q refl
+
+pub open-small : (capacity w : ℕ) → capacity ≤ 500 → w ≤ 385 → capacity * w ≤ 192500
+open-small capacity w h k = mul-le-mul {n₁ = capacity} {m₁ = w} {n₂ = 500} {m₂ = 385} h k
+
+pub open-asked : (s : Shape) (b : List ℕ) → openNo s (length b) ≡ firstNo (openQuestions s b)
+unfolding openNo openQuestions question6 every
+open-asked s b = rw (and-true (eqb (length b) (layoutLength s))) refl
+
+module _ (s : Shape) (b : List ℕ) {k : ℕ} (e : k ≡ openNo s (length b)) where
+  pub opened-no : (k ≡ 0 → ⊥) → {number place : ℕ} → number ≡ k → place ≡ 0 → placed number place b ≡ opened s b
+  unfolding opened
+  opened-no n p q =
+      ap₂ (λ (i j : ℕ). placed i j b) (p ∙ e ∙ open-asked s b) q
+      ∙ sym (answered-refusal (firstNo (openQuestions s b)) b _ (above-zero (firstNo (openQuestions s b)) (λ z. n (e ∙ open-asked s b ∙ z))))
+    where
+      above-zero : (i : ℕ) → (i ≡ 0 → ⊥) → 0 < i
+      above-zero i h = omega arith
+
+  pub opened-passes : k ≡ 0 → InLimits s × (length b ≡ layoutLength s)
+  opened-passes z = open-pass s b .0 (sym (e ∙ open-asked s b) ∙ z)
+
+  pub opened-yes : k ≡ 0 → {number place : ℕ} {l : List ℕ} → number ≡ 0 → place ≡ 0 → l ≡ layout (record { shape = s; entries = [] }) → placed number place l ≡ opened s b
+  unfolding opened answered
+  opened-yes z {number} {place} {l} p q d = rw (p, q, d, sym (open-asked s b) ∙ sym e ∙ z) refl
+
+-- ---- the bytes
+
+pub limits-size : (m n top capacity : ℕ) → InLimits (shape m n top capacity) → m * n ≤ 128
+limits-size m n top capacity l = size-fits m n (l .grid-limits .rows-limits .1) (l .grid-limits .column-limits .1)
+
+pub head-fits : (s : Shape) (b : List ℕ) → length b ≡ layoutLength s → 31 ≤ length b
+unfolding layoutLength
+head-fits s b e = omega (arith, e)
+
+-- line 1 and e blank lines are written, and the next one begins at start
+pub record Filling (s : Shape) (w start e : ℕ) (b : List ℕ) : Type 0 where
+  pub width-is : w ≡ lineLength (cells s)
+  pub place : start ≡ 31 + e * w
+  pub passed : e ≤ s .capacity
+  pub written : Opened s e b
+
+pub filling-head : (s : Shape) {w : ℕ} (b ys : List ℕ) → w ≡ lineLength (cells s) → length b ≡ layoutLength s → ys ≡ headLine s 0 → Filling s w 31 0 (putMid 0 31 b ys)
+filling-head s b ys q l e = record { width-is = q; place = omega arith; passed = omega arith; written = opened-head-part b l e refl }
+
+module _ {s : Shape} {w start e : ℕ} {b : List ℕ} (i : InLimits s) (f : Filling s w start e b) (h : e < s .capacity) where
+  start-is : start ≡ lineStart (cells s) e
+  unfolding lineStart
+  start-is = f .place ∙ ap (λ (x : ℕ). 31 + e * x) (f .width-is)
+
+  pub filling-room : Room b start 0 w
+  unfolding layoutLength lineLength entryWidth
+  filling-room =
+      let c = size-fits (s .rows) (s .columns) (i .grid-limits .rows-limits .1) (i .grid-limits .column-limits .1) in
+      let r = lines-fit b e 0 (s .capacity) w (omega arith) (f .written .sized ∙ ap (λ (x : ℕ). 31 + s .capacity * x) (sym (f .width-is))) (i .capacity-limits .1) (omega (arith, f .width-is)) in
+      let p = f .place in
+      record { past-head = omega (arith, p); start-inside = omega (arith, p, r .start-inside); end-inside = omega (arith, p, r .end-inside); small = omega (arith, p, r .small) }
+
+  pub filling-next : (ys : List ℕ) → ys ≡ blankLine (cells s) ++ drop (lineLength (cells s)) (midOf start (length b - start) b) → Filling s w (start + w) (e + 1) (putMid start (length b - start) b ys)
+  filling-next ys d = record {
+    width-is = f .width-is;
+    place = omega (arith, f .place);
+    passed = omega arith;
+    written = rw (put-tail b start (filling-room .start-inside) ys, d, tail-part b start (filling-room .start-inside), start-is) (opened-next (f .written) h);
+  }
+
+pub filling-all : {s : Shape} {w start e : ℕ} {b : List ℕ} → Filling s w start e b → s .capacity ≤ e → b ≡ layout (record { shape = s; entries = [] })
+filling-all {s} {w} {start} {e} {b} f h = let q : e ≡ s .capacity = omega (arith, f .passed) in opened-all (rw q at (f .written))

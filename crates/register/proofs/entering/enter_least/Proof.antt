@@ -1,0 +1,171 @@
+use Rattle.machine.proofs.BookMoves.{put-fits}
+use borrow.Rule.Slice.PartMut.{same-len-mid}
+use Rattle.machine.proofs.BookSteps.{place-small, enter-held, enter-full, enter-new}
+use Rattle.machine.proofs.BookMoves.{room-insert, room-part, count-part}
+use Rattle.machine.proofs.BookLaws.{book-sizes}
+use lib.ListN.{length}
+use mathlib.Core.Path.{_≡_, refl, sym, ap, _∙_}
+use native.Mathlib.Omega.{arith}
+use borrow.Author.Needs.{needs}
+use Rattle.register.proofs.entering.enter_least.Statement.{statement}
+use Rattle.register.proofs.entering.enter_least.Tie as tie
+
+lower-bound-requires : tie.Need-lower-bound-requires
+lower-bound-requires c κs = search needs
+
+is-entry-requires : tie.Need-is-entry-requires
+is-entry-requires c κs = search needs
+
+cast-t14 : tie.Need-cast-t14
+cast-t14 c =
+    let a = c .before .before .before .before .before .before .before in
+    omega (arith, place-small (a .pre .0) (c .before .before .before .lower-bound .ensures))
+
+add-t15 : tie.Need-add-t15
+add-t15 c =
+    let a = c .before .before .before .before .before .before .before in
+    omega (arith, place-small (a .pre .0) (c .before .before .before .lower-bound .ensures))
+
+same-length : tie.Need-same-length
+same-length c = search needs
+
+returns : tie.Need-returns
+returns c =
+    let a = c .before .before .before .before .before .before .before in
+    enter-held (a .pre .0) (c .before .before .before .lower-bound .ensures) (c .before .is-entry .ensures) (c .if1 .taken)
+
+refused-requires : tie.Need-refused-requires
+refused-requires c κs = search needs
+
+same-length-2 : tie.Need-same-length-2
+same-length-2 c = search needs
+
+returns-2 : tie.Need-returns-2
+returns-2 c =
+    let a = c .before .before .before .before .before .before .before .before .before in
+    rw (c .refused .ensures .0, c .refused .ensures .1)
+    (enter-full (a .pre .0) (c .before .before .before .before .before .lower-bound .ensures) (c .before .before .before .is-entry .ensures) (c .before .before .if1 .left) (omega (arith, a .pre .1)))
+
+line-length-requires : tie.Need-line-length-requires
+line-length-requires c κs = book-sizes (c .before .before .before .before .before .before .before .before .pre .0) .cells-fit
+
+mul-start : tie.Need-mul-start
+mul-start c =
+    let a = c .before .before .before .before .before .before .before .before .before in
+    let r = room-insert (a .pre .0) (c .before .before .before .before .before .lower-bound .result) (c .line-length .result) (c .line-length .ensures .0) (place-small (a .pre .0) (c .before .before .before .before .before .lower-bound .ensures) .0) (omega (arith, a .pre .1)) in
+    omega (arith, r .small)
+
+add-start : tie.Need-add-start
+add-start c =
+    let a = c .before .before .before .before .before .before .before .before .before in
+    let r = room-insert (a .pre .0) (c .before .before .before .before .before .lower-bound .result) (c .line-length .result) (c .line-length .ensures .0) (place-small (a .pre .0) (c .before .before .before .before .before .lower-bound .ensures) .0) (omega (arith, a .pre .1)) in
+    omega (arith, r .small)
+
+sub-moved : tie.Need-sub-moved
+sub-moved c =
+    let a = c .before .before .before .before .before .before .before .before .before in
+    place-small (a .pre .0) (c .before .before .before .before .before .lower-bound .ensures) .0
+
+mul-moved : tie.Need-mul-moved
+mul-moved c =
+    let a = c .before .before .before .before .before .before .before .before .before in
+    let r = room-insert (a .pre .0) (c .before .before .before .before .before .lower-bound .result) (c .line-length .result) (c .line-length .ensures .0) (place-small (a .pre .0) (c .before .before .before .before .before .lower-bound .ensures) .0) (omega (arith, a .pre .1)) in
+    omega (arith, r .small)
+
+sub-insert-line : tie.Need-sub-insert-line
+sub-insert-line c =
+    let a = c .before .before .before .before .before .before .before .before .before in
+    let r = room-insert (a .pre .0) (c .before .before .before .before .before .lower-bound .result) (c .line-length .result) (c .line-length .ensures .0) (place-small (a .pre .0) (c .before .before .before .before .before .lower-bound .ensures) .0) (omega (arith, a .pre .1)) in
+    r .start-inside
+
+part-insert-line-start : tie.Need-part-insert-line-start
+part-insert-line-start c =
+    let a = c .before .before .before .before .before .before .before .before .before in
+    let r = room-insert (a .pre .0) (c .before .before .before .before .before .lower-bound .result) (c .line-length .result) (c .line-length .ensures .0) (place-small (a .pre .0) (c .before .before .before .before .before .lower-bound .ensures) .0) (omega (arith, a .pre .1)) in
+    r .start-inside
+
+part-insert-line-end : tie.Need-part-insert-line-end
+part-insert-line-end c = search needs
+
+insert-line-requires : tie.Need-insert-line-requires
+insert-line-requires c κs =
+    let a = c .before .before .before .before .before .before .before .before .before .before in
+    let l = c .before .line-length in
+    let r = room-insert (a .pre .0) (c .before .before .before .before .before .before .lower-bound .result) (l .result) (l .ensures .0) (place-small (a .pre .0) (c .before .before .before .before .before .before .lower-bound .ensures) .0) (omega (arith, a .pre .1)) in
+    (book-sizes (a .pre .0) .cells-fit, room-part r (sym (l .ensures .0)))
+
+sub-write-number : tie.Need-sub-write-number
+sub-write-number c = search needs
+
+part-write-number-start : tie.Need-part-write-number-start
+part-write-number-start c = search needs
+
+part-write-number-end : tie.Need-part-write-number-end
+part-write-number-end c =
+    let a = c .before .before .before .before .before .before .before .before .before .before .before .before .before in
+    let l = c .before .before .before .before .line-length in
+    let p = c .before .before .before .before .before .before .before .before .before .lower-bound in
+    let r = room-insert (a .pre .0) (p .result) (l .result) (l .ensures .0) (place-small (a .pre .0) (p .ensures) .0) (omega (arith, a .pre .1)) in
+    let d = c .before .before .insert-line in
+    omega (arith, put-fits r (d .last .0) (d .kept .0))
+
+add-write-number : tie.Need-add-write-number
+add-write-number c = search needs
+
+write-number-requires : tie.Need-write-number-requires
+write-number-requires c κs = search needs
+
+cast-t26 : tie.Need-cast-t26
+cast-t26 c =
+    let a = c .before .before .before .before .before .before .before .before .before .before .before .before .before .before .before .before .before in
+    omega (arith, place-small (a .pre .0) (c .before .before .before .before .before .before .before .before .before .before .before .before .before .lower-bound .ensures))
+
+add-t27 : tie.Need-add-t27
+add-t27 c =
+    let a = c .before .before .before .before .before .before .before .before .before .before .before .before .before .before .before .before .before in
+    omega (arith, place-small (a .pre .0) (c .before .before .before .before .before .before .before .before .before .before .before .before .before .lower-bound .ensures))
+
+same-length-3 : tie.Need-same-length-3
+same-length-3 c = search needs
+
+returns-3 : tie.Need-returns-3
+returns-3 c =
+    let a = c .before .before .before .before .before .before .before .before .before .before .before .before .before .before .before .before .before in
+    let l = c .before .before .before .before .before .before .before .before .line-length in
+    let p = c .before .before .before .before .before .before .before .before .before .before .before .before .before .lower-bound in
+    let r = room-insert (a .pre .0) (p .result) (l .result) (l .ensures .0) (place-small (a .pre .0) (p .ensures) .0) (omega (arith, a .pre .1)) in
+    let d = c .before .before .before .before .before .before .insert-line in
+    let f = c .before .before .write-number in
+    enter-new (a .pre .0) (p .ensures) (c .before .before .before .before .before .before .before .before .before .before .before .is-entry .ensures) (c .before .before .before .before .before .before .before .before .before .before .if1 .left) (omega (arith, a .pre .1)) (l .result) (l .ensures .0) (d .last .0) (f .last .0) (d .ensures) (f .ensures) (count-part r (d .last .0) (d .kept .0))
+
+pub enter-least-spec : {M : Type 1} → statement M
+enter-least-spec =
+    tie.close
+    (tie.spec
+    lower-bound-requires
+    is-entry-requires
+    cast-t14
+    add-t15
+    same-length
+    returns
+    refused-requires
+    same-length-2
+    returns-2
+    line-length-requires
+    mul-start
+    add-start
+    sub-moved
+    mul-moved
+    sub-insert-line
+    part-insert-line-start
+    part-insert-line-end
+    insert-line-requires
+    sub-write-number
+    part-write-number-start
+    part-write-number-end
+    add-write-number
+    write-number-requires
+    cast-t26
+    add-t27
+    same-length-3
+    returns-3)

@@ -1,0 +1,167 @@
+use Rattle.register.proofs.FitParts.{part-kept, count-small, lengths-differ, fit-refused, fit-ready, fit-placed}
+use Rattle.register.proofs.AskSteps.{laid-head, head-size, head-book}
+use Rattle.machine.proofs.FitSteps.{fit-unlaid}
+use Rattle.permutations.proofs.ListLaws.{part-within}
+use Prim.Native.Nat.{_*_}
+use mathlib.Core.Path.{_≡_, sym, _∙_}
+use borrow.Author.Tests.{not-true, not-false}
+use native.Mathlib.Omega.{arith}
+use borrow.Author.Needs.{needs}
+use Rattle.register.proofs.fitting.fit.Statement.{statement}
+use Rattle.register.proofs.fitting.fit.Tie as tie
+
+is-laid-out-requires : tie.Need-is-laid-out-requires
+is-laid-out-requires c κs = search needs
+
+returns : tie.Need-returns
+returns c = let t = c .before .is-laid-out in fit-unlaid _ _ _ (sym (t .ensures) ∙ not-true (t .result) (c .if1 .taken))
+
+read-head-requires : tie.Need-read-head-requires
+read-head-requires c κs = let t = c .before .is-laid-out in laid-head _ (sym (t .ensures) ∙ not-false (t .result) (c .if1 .left))
+
+mul-size : tie.Need-mul-size
+mul-size c =
+    let t = c .before .before .before .is-laid-out in
+    let laid = sym (t .ensures) ∙ not-false (t .result) (c .before .before .if1 .left) in
+    let h = c .before .read-head in
+    let a = c .before .before .before .before .before .before .before .args in
+    omega (arith, head-size laid (h .ensures))
+
+returns-2 : tie.Need-returns-2
+returns-2 c =
+    let t = c .before .before .before .before .is-laid-out in
+    let laid = sym (t .ensures) ∙ not-false (t .result) (c .before .before .before .if1 .left) in
+    let h = c .before .before .read-head in
+    let a = c .before .before .before .before .before .before .before .before .args in
+    lengths-differ laid (h .ensures) (a .low .now) (a .high .now) (λ q. c .if2 .taken (q .0))
+
+returns-3 : tie.Need-returns-3
+returns-3 c =
+    let t = c .before .before .before .before .before .is-laid-out in
+    let laid = sym (t .ensures) ∙ not-false (t .result) (c .before .before .before .before .if1 .left) in
+    let h = c .before .before .before .read-head in
+    let a = c .before .before .before .before .before .before .before .before .before .args in
+    lengths-differ laid (h .ensures) (a .low .now) (a .high .now) (λ q. c .if3 .taken (q .1))
+
+sub-prune-copies : tie.Need-sub-prune-copies
+sub-prune-copies c = search needs
+
+part-lows-start : tie.Need-part-lows-start
+part-lows-start c = search needs
+
+part-lows-end : tie.Need-part-lows-end
+part-lows-end c =
+    let t = c .before .before .before .before .before .is-laid-out in
+    let laid = sym (t .ensures) ∙ not-false (t .result) (c .before .before .before .before .if1 .left) in
+    let h = c .before .before .before .read-head in
+    let a = c .before .before .before .before .before .before .before .before .before .args in
+    head-size laid (h .ensures)
+
+sub-prune-copies-2 : tie.Need-sub-prune-copies-2
+sub-prune-copies-2 c = search needs
+
+part-highs-start : tie.Need-part-highs-start
+part-highs-start c = search needs
+
+part-highs-end : tie.Need-part-highs-end
+part-highs-end c =
+    let t = c .before .before .before .before .before .before .is-laid-out in
+    let laid = sym (t .ensures) ∙ not-false (t .result) (c .before .before .before .before .before .if1 .left) in
+    let h = c .before .before .before .before .read-head in
+    let a = c .before .before .before .before .before .before .before .before .before .before .args in
+    head-size laid (h .ensures)
+
+prune-copies-requires : tie.Need-prune-copies-requires
+prune-copies-requires c κs = search needs
+
+returns-4 : tie.Need-returns-4
+returns-4 c =
+    let t = c .before .before .before .before .before .before .before .before .before .before .before .is-laid-out in
+    let laid = sym (t .ensures) ∙ not-false (t .result) (c .before .before .before .before .before .before .before .before .before .before .if1 .left) in
+    let h = c .before .before .before .before .before .before .before .before .before .read-head in
+    let a = c .before .before .before .before .before .before .before .before .before .before .before .before .before .before .before .args in
+    fit-refused laid (h .ensures) (a .low .now) (a .high .now) (c .before .before .before .prune-copies .ensures) (c .if4 .taken)
+
+sub-count-within : tie.Need-sub-count-within
+sub-count-within c = search needs
+
+part-count-within-start : tie.Need-part-count-within-start
+part-count-within-start c = search needs
+
+part-count-within-end : tie.Need-part-count-within-end
+part-count-within-end c =
+    let t = c .before .before .before .before .before .before .before .before .before .before .before .before .is-laid-out in
+    let laid = sym (t .ensures) ∙ not-false (t .result) (c .before .before .before .before .before .before .before .before .before .before .before .if1 .left) in
+    let h = c .before .before .before .before .before .before .before .before .before .before .read-head in
+    let a = c .before .before .before .before .before .before .before .before .before .before .before .before .before .before .before .before .args in
+    let d = c .before .before .before .before .prune-copies in
+    part-within (d .last .1 .1 .1 .1 .1 .0) _ (h .result .rows * h .result .columns) (part-kept _ (d .last .1 .1 .1 .1 .1 .0) (d .last .1 .1 .1 .1 .1 .0) (h .result .rows * h .result .columns) (head-size laid (h .ensures)) (d .kept .1 .1 .1 .1 .1 .0) .0)
+
+sub-count-within-2 : tie.Need-sub-count-within-2
+sub-count-within-2 c = search needs
+
+part-count-within-start-2 : tie.Need-part-count-within-start-2
+part-count-within-start-2 c = search needs
+
+part-count-within-end-2 : tie.Need-part-count-within-end-2
+part-count-within-end-2 c =
+    let t = c .before .before .before .before .before .before .before .before .before .before .before .before .before .before .is-laid-out in
+    let laid = sym (t .ensures) ∙ not-false (t .result) (c .before .before .before .before .before .before .before .before .before .before .before .before .before .if1 .left) in
+    let h = c .before .before .before .before .before .before .before .before .before .before .before .before .read-head in
+    let a = c .before .before .before .before .before .before .before .before .before .before .before .before .before .before .before .before .before .before .args in
+    let d = c .before .before .before .before .before .before .prune-copies in
+    part-within (d .last .1 .1 .1 .1 .1 .1 .0) _ (h .result .rows * h .result .columns) (part-kept _ (d .last .1 .1 .1 .1 .1 .1 .0) (d .last .1 .1 .1 .1 .1 .1 .0) (h .result .rows * h .result .columns) (head-size laid (h .ensures)) (d .kept .1 .1 .1 .1 .1 .1 .0) .0)
+
+count-within-requires : tie.Need-count-within-requires
+count-within-requires c κs =
+    let t = c .before .before .before .before .before .before .before .before .before .before .before .before .before .before .before .is-laid-out in
+    let laid = sym (t .ensures) ∙ not-false (t .result) (c .before .before .before .before .before .before .before .before .before .before .before .before .before .before .if1 .left) in
+    let h = c .before .before .before .before .before .before .before .before .before .before .before .before .before .read-head in
+    let a = c .before .before .before .before .before .before .before .before .before .before .before .before .before .before .before .before .before .before .before .args in
+    let d = c .before .before .before .before .before .before .before .prune-copies in
+    fit-ready laid (h .ensures) (a .low .now) (a .high .now) (d .ensures) (c .before .before .before .before .if4 .left) (part-kept _ (d .last .1 .1 .1 .1 .1 .0) _ (h .result .rows * h .result .columns) (head-size laid (h .ensures)) (d .kept .1 .1 .1 .1 .1 .0) .1) (part-kept _ (d .last .1 .1 .1 .1 .1 .1 .0) _ (h .result .rows * h .result .columns) (head-size laid (h .ensures)) (d .kept .1 .1 .1 .1 .1 .1 .0) .1)
+
+cast-t30 : tie.Need-cast-t30
+cast-t30 c =
+    let t = c .before .before .before .before .before .before .before .before .before .before .before .before .before .before .before .before .is-laid-out in
+    let laid = sym (t .ensures) ∙ not-false (t .result) (c .before .before .before .before .before .before .before .before .before .before .before .before .before .before .before .if1 .left) in
+    let h = c .before .before .before .before .before .before .before .before .before .before .before .before .before .before .read-head in
+    let a = c .before .before .before .before .before .before .before .before .before .before .before .before .before .before .before .before .before .before .before .before .args in
+    omega (arith, count-small (head-book laid (h .ensures)) _ (c .count-within .ensures))
+
+returns-5 : tie.Need-returns-5
+returns-5 c =
+    let t = c .before .before .before .before .before .before .before .before .before .before .before .before .before .before .before .before .is-laid-out in
+    let laid = sym (t .ensures) ∙ not-false (t .result) (c .before .before .before .before .before .before .before .before .before .before .before .before .before .before .before .if1 .left) in
+    let h = c .before .before .before .before .before .before .before .before .before .before .before .before .before .before .read-head in
+    let a = c .before .before .before .before .before .before .before .before .before .before .before .before .before .before .before .before .before .before .before .before .args in
+    let d = c .before .before .before .before .before .before .before .before .prune-copies in
+    fit-placed laid (h .ensures) (a .low .now) (a .high .now) (d .ensures) (c .before .before .before .before .before .if4 .left) (part-kept _ (d .last .1 .1 .1 .1 .1 .0) _ (h .result .rows * h .result .columns) (head-size laid (h .ensures)) (d .kept .1 .1 .1 .1 .1 .0) .1) (part-kept _ (d .last .1 .1 .1 .1 .1 .1 .0) _ (h .result .rows * h .result .columns) (head-size laid (h .ensures)) (d .kept .1 .1 .1 .1 .1 .1 .0) .1) (c .count-within .ensures)
+
+pub fit-spec : {M : Type 1} → statement M
+fit-spec =
+    tie.close
+    (tie.spec
+    is-laid-out-requires
+    returns
+    read-head-requires
+    mul-size
+    returns-2
+    returns-3
+    sub-prune-copies
+    part-lows-start
+    part-lows-end
+    sub-prune-copies-2
+    part-highs-start
+    part-highs-end
+    prune-copies-requires
+    returns-4
+    sub-count-within
+    part-count-within-start
+    part-count-within-end
+    sub-count-within-2
+    part-count-within-start-2
+    part-count-within-end-2
+    count-within-requires
+    cast-t30
+    returns-5)

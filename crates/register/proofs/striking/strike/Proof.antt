@@ -1,0 +1,68 @@
+use Rattle.register.proofs.AskSteps.{asked-fits, asked-book, call-refused, call-least}
+use Rattle.machine.proofs.LeastSteps.{struck-asked}
+use Rattle.machine.specs.Books.{struckLeast}
+use mathlib.Core.Path.{_≡_, refl, sym, _∙_}
+use native.Mathlib.Omega.{arith}
+use borrow.Author.Needs.{needs}
+use Rattle.register.proofs.striking.strike.Statement.{statement}
+use Rattle.register.proofs.striking.strike.Tie as tie
+
+slice-aggregate-ask : tie.Need-slice-aggregate-ask
+slice-aggregate-ask c = search needs
+
+ask-requires : tie.Need-ask-requires
+ask-requires c κs = search needs
+
+refused-requires : tie.Need-refused-requires
+refused-requires c κs = search needs
+
+same-length : tie.Need-same-length
+same-length c = search needs
+
+returns : tie.Need-returns
+returns c =
+    let a = c .before .before .before .before .before .before .before .before .before in
+    let k = c .before .before .before .before .ask in
+    call-refused (k .ensures) (struckLeast (a .args .register .now)) (struck-asked (a .args .register .now) (a .args .grid .now)) (c .before .if1 .taken) (c .refused .ensures .0) (c .refused .ensures .1)
+
+sub-strike-least : tie.Need-sub-strike-least
+sub-strike-least c = search needs
+
+part-strike-least-start : tie.Need-part-strike-least-start
+part-strike-least-start c = search needs
+
+part-strike-least-end : tie.Need-part-strike-least-end
+part-strike-least-end c =
+    let k = c .before .before .before .before .before .ask in
+    asked-fits (k .ensures) (c .before .before .if1 .left)
+
+strike-least-requires : tie.Need-strike-least-requires
+strike-least-requires c κs =
+    let k = c .before .before .before .before .before .before .ask in
+    let z = c .before .before .before .if1 .left in
+    asked-book (k .ensures) z
+
+same-length-2 : tie.Need-same-length-2
+same-length-2 c = search needs
+
+returns-2 : tie.Need-returns-2
+returns-2 c =
+    let a = c .before .before .before .before .before .before .before .before .before .before .before .before .before .before in
+    let k = c .before .before .before .before .before .before .before .before .before .ask in
+    call-least (k .ensures) (struckLeast (a .args .register .now)) (struck-asked (a .args .register .now) (a .args .grid .now)) (c .before .before .before .before .before .before .if1 .left) (c .before .before .strike-least .ensures)
+
+pub strike-spec : {M : Type 1} → statement M
+strike-spec =
+    tie.close
+    (tie.spec
+    slice-aggregate-ask
+    ask-requires
+    refused-requires
+    same-length
+    returns
+    sub-strike-least
+    part-strike-least-start
+    part-strike-least-end
+    strike-least-requires
+    same-length-2
+    returns-2)

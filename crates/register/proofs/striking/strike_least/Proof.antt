@@ -1,0 +1,209 @@
+use borrow.Author.Tests.{not-true, not-false}
+use Rattle.machine.proofs.BookSteps.{place-small, place-stands, strike-none, strike-held}
+use Rattle.machine.proofs.BookMoves.{room-remove, room-part, put-fits, count-part}
+use Rattle.machine.proofs.BookLaws.{book-sizes}
+use lib.ListN.{length}
+use mathlib.Core.Path.{_≡_, refl, sym, ap, _∙_}
+use native.Mathlib.Omega.{arith}
+use borrow.Author.Needs.{needs}
+use Rattle.register.proofs.striking.strike_least.Statement.{statement}
+use Rattle.register.proofs.striking.strike_least.Tie as tie
+
+lower-bound-requires : tie.Need-lower-bound-requires
+lower-bound-requires c κs = search needs
+
+is-entry-requires : tie.Need-is-entry-requires
+is-entry-requires c κs = search needs
+
+refused-requires : tie.Need-refused-requires
+refused-requires c κs = search needs
+
+same-length : tie.Need-same-length
+same-length c = search needs
+
+returns : tie.Need-returns
+returns c =
+    let a = c .before .before .before .before .before .before .before .before in
+    let t = c .before .before .is-entry in
+    rw (c .refused .ensures .0, c .refused .ensures .1) (strike-none (a .pre) (c .before .before .before .before .lower-bound .ensures) (t .ensures) (not-true (t .result) (c .before .if1 .taken)))
+
+line-length-requires : tie.Need-line-length-requires
+line-length-requires c κs = book-sizes (c .before .before .before .before .before .before .before .pre) .cells-fit
+
+mul-start : tie.Need-mul-start
+mul-start c =
+    let a = c .before .before .before .before .before .before .before .before in
+    let l = c .line-length in
+    let p = c .before .before .before .before .lower-bound in
+    let t = c .before .before .is-entry in
+    let y = not-false (t .result) (c .before .if1 .left) in
+    let s = place-stands (a .pre) (p .ensures) (t .ensures) y in
+    let r = room-remove (a .pre) (p .result) (l .result) (l .ensures .0) (s .0) in
+    omega (arith, r .small)
+
+add-start : tie.Need-add-start
+add-start c =
+    let a = c .before .before .before .before .before .before .before .before in
+    let l = c .line-length in
+    let p = c .before .before .before .before .lower-bound in
+    let t = c .before .before .is-entry in
+    let y = not-false (t .result) (c .before .if1 .left) in
+    let s = place-stands (a .pre) (p .ensures) (t .ensures) y in
+    let r = room-remove (a .pre) (p .result) (l .result) (l .ensures .0) (s .0) in
+    omega (arith, r .small)
+
+add-moved : tie.Need-add-moved
+add-moved c =
+    let a = c .before .before .before .before .before .before .before .before in
+    let l = c .line-length in
+    let p = c .before .before .before .before .lower-bound in
+    let t = c .before .before .is-entry in
+    let y = not-false (t .result) (c .before .if1 .left) in
+    let s = place-stands (a .pre) (p .ensures) (t .ensures) y in
+    let r = room-remove (a .pre) (p .result) (l .result) (l .ensures .0) (s .0) in
+    omega (arith, s .0, book-sizes (a .pre) .count-fits, book-sizes (a .pre) .capacity-fits)
+
+sub-moved : tie.Need-sub-moved
+sub-moved c =
+    let a = c .before .before .before .before .before .before .before .before in
+    let l = c .line-length in
+    let p = c .before .before .before .before .lower-bound in
+    let t = c .before .before .is-entry in
+    let y = not-false (t .result) (c .before .if1 .left) in
+    let s = place-stands (a .pre) (p .ensures) (t .ensures) y in
+    let r = room-remove (a .pre) (p .result) (l .result) (l .ensures .0) (s .0) in
+    omega (arith, s .0)
+
+mul-moved : tie.Need-mul-moved
+mul-moved c =
+    let a = c .before .before .before .before .before .before .before .before in
+    let l = c .line-length in
+    let p = c .before .before .before .before .lower-bound in
+    let t = c .before .before .is-entry in
+    let y = not-false (t .result) (c .before .if1 .left) in
+    let s = place-stands (a .pre) (p .ensures) (t .ensures) y in
+    let r = room-remove (a .pre) (p .result) (l .result) (l .ensures .0) (s .0) in
+    omega (arith, r .small)
+
+sub-remove-line : tie.Need-sub-remove-line
+sub-remove-line c =
+    let a = c .before .before .before .before .before .before .before .before in
+    let l = c .line-length in
+    let p = c .before .before .before .before .lower-bound in
+    let t = c .before .before .is-entry in
+    let y = not-false (t .result) (c .before .if1 .left) in
+    let s = place-stands (a .pre) (p .ensures) (t .ensures) y in
+    let r = room-remove (a .pre) (p .result) (l .result) (l .ensures .0) (s .0) in
+    r .start-inside
+
+part-remove-line-start : tie.Need-part-remove-line-start
+part-remove-line-start c =
+    let a = c .before .before .before .before .before .before .before .before in
+    let l = c .line-length in
+    let p = c .before .before .before .before .lower-bound in
+    let t = c .before .before .is-entry in
+    let y = not-false (t .result) (c .before .if1 .left) in
+    let s = place-stands (a .pre) (p .ensures) (t .ensures) y in
+    let r = room-remove (a .pre) (p .result) (l .result) (l .ensures .0) (s .0) in
+    r .start-inside
+
+part-remove-line-end : tie.Need-part-remove-line-end
+part-remove-line-end c = search needs
+
+remove-line-requires : tie.Need-remove-line-requires
+remove-line-requires c κs =
+    let a = c .before .before .before .before .before .before .before .before .before in
+    let l = c .before .line-length in
+    let p = c .before .before .before .before .before .lower-bound in
+    let t = c .before .before .before .is-entry in
+    let y = not-false (t .result) (c .before .before .if1 .left) in
+    let s = place-stands (a .pre) (p .ensures) (t .ensures) y in
+    let r = room-remove (a .pre) (p .result) (l .result) (l .ensures .0) (s .0) in
+    (book-sizes (a .pre) .cells-fit, room-part r (sym (l .ensures .0)))
+
+sub-write-number : tie.Need-sub-write-number
+sub-write-number c = search needs
+
+part-write-number-start : tie.Need-part-write-number-start
+part-write-number-start c = search needs
+
+part-write-number-end : tie.Need-part-write-number-end
+part-write-number-end c =
+    let a = c .before .before .before .before .before .before .before .before .before .before .before .before in
+    let l = c .before .before .before .before .line-length in
+    let p = c .before .before .before .before .before .before .before .before .lower-bound in
+    let t = c .before .before .before .before .before .before .is-entry in
+    let y = not-false (t .result) (c .before .before .before .before .before .if1 .left) in
+    let s = place-stands (a .pre) (p .ensures) (t .ensures) y in
+    let r = room-remove (a .pre) (p .result) (l .result) (l .ensures .0) (s .0) in
+    let d = c .before .before .remove-line in
+    omega (arith, put-fits r (d .last .0) (d .kept .0))
+
+sub-write-number-2 : tie.Need-sub-write-number-2
+sub-write-number-2 c =
+    let a = c .before .before .before .before .before .before .before .before .before .before .before .before .before in
+    let l = c .before .before .before .before .before .line-length in
+    let p = c .before .before .before .before .before .before .before .before .before .lower-bound in
+    let t = c .before .before .before .before .before .before .before .is-entry in
+    let y = not-false (t .result) (c .before .before .before .before .before .before .if1 .left) in
+    let s = place-stands (a .pre) (p .ensures) (t .ensures) y in
+    let r = room-remove (a .pre) (p .result) (l .result) (l .ensures .0) (s .0) in
+    omega (arith, s .0)
+
+write-number-requires : tie.Need-write-number-requires
+write-number-requires c κs = search needs
+
+cast-t24 : tie.Need-cast-t24
+cast-t24 c =
+    let a = c .before .before .before .before .before .before .before .before .before .before .before .before .before .before .before .before in
+    omega (arith, place-small (a .pre) (c .before .before .before .before .before .before .before .before .before .before .before .before .lower-bound .ensures))
+
+add-t25 : tie.Need-add-t25
+add-t25 c =
+    let a = c .before .before .before .before .before .before .before .before .before .before .before .before .before .before .before .before in
+    omega (arith, place-small (a .pre) (c .before .before .before .before .before .before .before .before .before .before .before .before .lower-bound .ensures))
+
+same-length-2 : tie.Need-same-length-2
+same-length-2 c = search needs
+
+returns-2 : tie.Need-returns-2
+returns-2 c =
+    let a = c .before .before .before .before .before .before .before .before .before .before .before .before .before .before .before .before in
+    let l = c .before .before .before .before .before .before .before .before .line-length in
+    let p = c .before .before .before .before .before .before .before .before .before .before .before .before .lower-bound in
+    let t = c .before .before .before .before .before .before .before .before .before .before .is-entry in
+    let y = not-false (t .result) (c .before .before .before .before .before .before .before .before .before .if1 .left) in
+    let s = place-stands (a .pre) (p .ensures) (t .ensures) y in
+    let r = room-remove (a .pre) (p .result) (l .result) (l .ensures .0) (s .0) in
+    let d = c .before .before .before .before .before .before .remove-line in
+    let f = c .before .before .write-number in
+    strike-held (a .pre) (p .ensures) (t .ensures) y (l .result) (l .ensures .0) (d .last .0) (f .last .0) (d .ensures) (f .ensures) (count-part r (d .last .0) (d .kept .0))
+
+pub strike-least-spec : {M : Type 1} → statement M
+strike-least-spec =
+    tie.close
+    (tie.spec
+    lower-bound-requires
+    is-entry-requires
+    refused-requires
+    same-length
+    returns
+    line-length-requires
+    mul-start
+    add-start
+    add-moved
+    sub-moved
+    mul-moved
+    sub-remove-line
+    part-remove-line-start
+    part-remove-line-end
+    remove-line-requires
+    sub-write-number
+    part-write-number-start
+    part-write-number-end
+    sub-write-number-2
+    write-number-requires
+    cast-t24
+    add-t25
+    same-length-2
+    returns-2)

@@ -1,0 +1,82 @@
+// The call open.
+use crate::answers;
+use crate::answers::Placed;
+use lines::entries;
+use lines::head;
+use lines::head::Head;
+ghost use mathlib.Core.Path.{_≡_};
+ghost use mathlib.Core.List.{[]};
+ghost use lib.ListN.{length};
+ghost use Rattle.layout.specs.Layout.{layout, layoutLength, InLimits};
+ghost use Rattle.machine.specs.Calls.{opened};
+ghost use Rattle.machine.specs.Books.{placed, openNo, shape};
+
+// Questions 1, 2, 3, 4 and 6 of open: the number of the first that gets a no, or 0.
+fn open_no(m: usize, n: usize, top: usize, capacity: usize, length: usize) -> u32
+    ensures { λ r. ⌜ r ≡ openNo (shape m n top capacity) length ⌝ }
+{
+    if m < 1 {
+        return 1;
+    }
+    if 8 < m {
+        return 1;
+    }
+    if n < 1 {
+        return 2;
+    }
+    if 16 < n {
+        return 2;
+    }
+    if 15 < top {
+        return 3;
+    }
+    if capacity < 1 {
+        return 4;
+    }
+    if 500 < capacity {
+        return 4;
+    }
+    let width = entries::line_length(m * n);
+    if length != 31 + capacity * width {
+        return 6;
+    }
+    0
+}
+
+// Writes a register without entries over all of a slice of its length.
+fn write_empty(m: usize, n: usize, top: usize, capacity: usize, register: &mut [u8])
+    requires { ⌜ InLimits (shape m n top capacity) × (length (now register) ≡ layoutLength (shape m n top capacity)) ⌝ }
+    ensures { λ _. ⌜ now (register .exit) ≡ layout (record { shape = shape m n top capacity; entries = [] }) ⌝ }
+{
+    let size = m * n;
+    let width = entries::line_length(size);
+    head::write_head(
+        &mut register[0..31],
+        Head {
+            rows: m,
+            columns: n,
+            top,
+            capacity,
+            count: 0,
+        },
+    );
+    let mut start = 31;
+    let mut e = 0;
+    while e < capacity {
+        entries::write_blank(&mut register[start..], size);
+        start += width;
+        e += 1;
+    }
+}
+
+// Opens a register without entries. Where a question gets a no: its number, and the slice as it was.
+pub fn open_register(m: usize, n: usize, top: usize, capacity: usize, register: &mut [u8]) -> Placed
+    ensures { λ r. ⌜ placed (r .number) (r .place) (now (register .exit)) ≡ opened (shape m n top capacity) (now (register .entry)) ⌝ }
+{
+    let number = open_no(m, n, top, capacity, register.len());
+    if number != 0 {
+        return answers::refused(number);
+    }
+    write_empty(m, n, top, capacity, register);
+    answers::refused(0)
+}

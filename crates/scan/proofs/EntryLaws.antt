@@ -1,0 +1,127 @@
+-- Laws of the scan of the lines: the ways out of each function.
+--
+--   through                      ==  one equivalence after another
+--   line-none, line-decides      ==  a line without its line feed, and with it
+--   agreed-laid                  ==  a line is laid out: its first cells agree with a line that is, and its other cells are laid out
+--   next-none, next-not, next-decides  ==  a line that has no line feed, that is not laid out, and that is compared
+--   lines-none, lines-one, lines-next  ==  no line, the first line, and one line more
+--   lines-first-not, lines-not, lines-all  ==  the first line is not laid out; a further line does not follow; all are passed
+use mathlib.Core.Path.{_≡_, refl, sym, ap, _∙_, subst}
+use mathlib.Core.List.{List}
+use mathlib.Core.Bool.{Bool, true, false, true≢false}
+use mathlib.Core.Logic.{_↔_}
+use Prim.Native.Nat.{ℕ, _+_, _-_, _*_, _/_, _≤_, _<_}
+use native.Mathlib.Omega.{arith}
+use native.Mathlib.Nat.{not-suc-le-zero}
+use native.Mathlib.Decide.{decLt}
+use lib.ListN.{getD}
+use Rattle.layout.specs.Lines.{lineStart}
+use Rattle.scan.specs.Cells.{CellBytes, CellsLaid, Same}
+use Rattle.scan.specs.Fits.{allFit}
+use Rattle.scan.specs.Lines.{LineLaid, Precedes, Follows, LinesLaid}
+use Rattle.scan.specs.Tables.{Tables}
+use Rattle.scan.proofs.CellLaws.{fit-cells}
+use Rattle.scan.proofs.LineLaws.{start-zero, start-next}
+
+never : {A : Type 0} → (A → ⊥) → (false ≡ true) ↔ A
+never f = (λ e. absurd (true≢false (sym e)), λ a. absurd (f a))
+
+pub through : {A B C : Type 0} → A ↔ B → B ↔ C → A ↔ C
+through f g = (λ a. g .0 (f .0 a), λ c. f .1 (g .1 c))
+
+-- ---- one line
+
+pub line-none : (size top : ℕ) (b : List ℕ) (at : ℕ) → (getD b (at + 3 * size) 0 ≡ 10 → ⊥) → (false ≡ true) ↔ LineLaid size top b at
+line-none size top b at f = never (λ h. f (h .feed))
+
+pub next-none : (size top : ℕ) (b : List ℕ) (p q : ℕ) → (getD b (q + 3 * size) 0 ≡ 10 → ⊥) → (false ≡ true) ↔ Follows size top b p q
+next-none size top b p q f = never (λ h. f (h .laid .feed))
+
+cells-part : (size top : ℕ) (b : List ℕ) (at k : ℕ) → CellsLaid top b at size → k ≤ size → CellsLaid top b (at + 3 * k) (size - k)
+unfolding CellsLaid
+cells-part size top b at k h l i c =
+    let z : at + 3 * (k + i) ≡ at + 3 * k + 3 * i = omega arith in
+    rw z at (h (k + i) (omega arith))
+
+same-byte : (b : List ℕ) (p q n j d : ℕ) → Same b p q n → j + d < n → getD b (p + j + d) 0 ≡ getD b (q + j + d) 0
+unfolding Same
+same-byte b p q n j d s l =
+    let u : p + (j + d) ≡ p + j + d = omega arith in
+    let v : q + (j + d) ≡ q + j + d = omega arith in
+    rw (u, v) at (s (j + d) l)
+
+cells-join : (size top : ℕ) (b : List ℕ) (p q k n : ℕ) → CellsLaid top b p size → Same b p q n → 3 * k ≤ n → k ≤ size → CellsLaid top b (q + 3 * k) (size - k) → CellsLaid top b q size
+unfolding CellsLaid Same
+cells-join size top b p q k n h s m l g i c = go (decLt i k)
+  where
+    go : Dec (i < k) → CellBytes top (getD b (q + 3 * i) 0) (getD b (q + 3 * i + 1) 0) (getD b (q + 3 * i + 2) 0)
+    go (yes d) =
+        rw (s (3 * i) (omega arith), same-byte b p q n (3 * i) 1 s (omega arith), same-byte b p q n (3 * i) 2 s (omega arith)) at (h i c)
+    go (no d) =
+        let z : q + 3 * k + 3 * (i - k) ≡ q + 3 * i = omega arith in
+        rw z at (g (i - k) (omega arith))
+
+module _ (size top : ℕ) (b base teen span : List ℕ) (t : top ≤ 15) (tables : Tables size top base teen span) (low : (i : ℕ) → getD b i 0 < 256) where
+  pub line-decides : (at : ℕ) (r : Bool) → 1 ≤ at → getD b (at + 3 * size) 0 ≡ 10 → r ≡ allFit (3 * size) b (at - 1) base teen span (39 + top) → (r ≡ true) ↔ LineLaid size top b at
+  line-decides at r h feed e = (λ y. record { feed = feed; cells = w .0 (sym e ∙ y) }, λ l. e ∙ w .1 (l .cells))
+    where
+      w : (allFit (3 * size) b (at - 1) base teen span (39 + top) ≡ true) ↔ CellsLaid top b at size
+      w = let z : at - 1 + 1 ≡ at = omega arith in rw z at (fit-cells size top b (at - 1) base teen span tables t low size (omega arith))
+
+  module _ (p q k n : ℕ) (h : 1 ≤ q) (d : k ≡ n / 3) (l : n ≤ 3 * size) where
+    others : (allFit (3 * (size - k)) b (q + 3 * k - 1) base teen span (39 + top) ≡ true) ↔ CellsLaid top b (q + 3 * k) (size - k)
+    others = let z : q + 3 * k - 1 + 1 ≡ q + 3 * k = omega arith in rw z at (fit-cells size top b (q + 3 * k - 1) base teen span tables t low (size - k) (omega arith))
+
+    pub next-not : (r : Bool) → r ≡ allFit (3 * (size - k)) b (q + 3 * k - 1) base teen span (39 + top) → r ≡ false → (false ≡ true) ↔ Follows size top b p q
+    next-not r e f = never (λ w. true≢false (sym (others .1 (cells-part size top b q k (w .laid .cells) (omega arith))) ∙ sym e ∙ f))
+
+    pub agreed-laid : (r : Bool) → LineLaid size top b p → Same b p q n → getD b (q + 3 * size) 0 ≡ 10 →
+        r ≡ allFit (3 * (size - k)) b (q + 3 * k - 1) base teen span (39 + top) → r ≡ true → LineLaid size top b q
+    agreed-laid r w s feed e f = record {
+      feed = feed;
+      cells = cells-join size top b p q k n (w .cells) s (omega arith) (omega arith) (others .0 (sym e ∙ f));
+    }
+
+pub next-decides : (size top : ℕ) (b : List ℕ) (p q : ℕ) (r : Bool) → LineLaid size top b q → (r ≡ true) ↔ Precedes size b p q → (r ≡ true) ↔ Follows size top b p q
+next-decides size top b p q r w o = (λ y. record { laid = w; order = o .0 y }, λ f. o .1 (f .order))
+
+-- ---- all lines
+
+pub lines-none : (size top n : ℕ) (b : List ℕ) → n ≡ 0 → (true ≡ true) ↔ LinesLaid size top n b
+lines-none size top n b e = (λ y. record { lines = λ i c. absurd (omega arith); ascend = λ i c. absurd (omega arith) }, λ w. refl)
+
+pub lines-one : (size top at : ℕ) (b : List ℕ) → at ≡ 31 → LineLaid size top b at → LinesLaid size top (0 + 1) b
+lines-one size top at b z h = record {
+  lines = λ e c. let d : e ≡ 0 = omega arith in rw (d, start-zero size, ← z) h;
+  ascend = λ e c. absurd (omega arith);
+}
+
+pub lines-first-not : (size top n at : ℕ) (b : List ℕ) → 0 < n → at ≡ 31 → (r : Bool) → (r ≡ true) ↔ LineLaid size top b at → r ≡ false → (false ≡ true) ↔ LinesLaid size top n b
+lines-first-not size top n at b h z r w f = never (λ l. true≢false (sym (w .1 (rw (start-zero size, ← z) at (l .lines 0 h))) ∙ f))
+
+module _ (size top e at next : ℕ) (b : List ℕ) (here : at ≡ lineStart size e) (there : next ≡ at + 3 * size + 1) where
+  start-there : lineStart size (e + 1) ≡ next
+  start-there = omega (arith, start-next size e)
+
+  pub lines-next : LinesLaid size top (e + 1) b → Follows size top b at next → LinesLaid size top (e + 1 + 1) b
+  lines-next h f = record { lines = λ i c. line i c (decLt i (e + 1)); ascend = λ i c. after i c (decLt (i + 1) (e + 1)) }
+    where
+      line : (i : ℕ) → i < e + 1 + 1 → Dec (i < e + 1) → LineLaid size top b (lineStart size i)
+      line i c (yes d) = h .lines i d
+      line i c (no d) = let z : i ≡ e + 1 = omega arith in rw (z, start-there) (f .laid)
+
+      after : (i : ℕ) → i + 1 < e + 1 + 1 → Dec (i + 1 < e + 1) → Precedes size b (lineStart size i) (lineStart size (i + 1))
+      after i c (yes d) = h .ascend i d
+      after i c (no d) = let z : i ≡ e = omega arith in rw (z, start-there, ← here) (f .order)
+
+  pub lines-not : (n : ℕ) → e + 1 < n → (r : Bool) → (r ≡ true) ↔ Follows size top b at next → r ≡ false → (false ≡ true) ↔ LinesLaid size top n b
+  lines-not n h r w f = never (λ l. true≢false (sym (w .1 (follows l)) ∙ f))
+    where
+      follows : LinesLaid size top n b → Follows size top b at next
+      follows l = record {
+        laid = rw start-there at (l .lines (e + 1) h);
+        order = rw (start-there, ← here) at (l .ascend e h);
+      }
+
+pub lines-all : (size top e n : ℕ) (b : List ℕ) → n ≡ e + 1 → LinesLaid size top (e + 1) b → (true ≡ true) ↔ LinesLaid size top n b
+lines-all size top e n b z h = (λ y. rw z h, λ w. refl)

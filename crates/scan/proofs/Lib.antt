@@ -1,0 +1,6 @@
+pub mod CellLaws
+pub mod EntryLaws
+pub mod FitLaws
+pub mod LineLaws
+pub mod OrderLaws
+pub mod TableLaws

@@ -1,0 +1,68 @@
+use native.Mathlib.Omega.{arith}
+use borrow.Author.Needs.{needs}
+use mathlib.Core.Path.{_≡_, sym, ap, _∙_}
+use Prim.Native.Nat.{_+_, _-_, _*_, _/_, _≤_, _<_}
+use lib.ListN.{length}
+use Rattle.scan.proofs.order.same_from.Statement.{statement}
+use Rattle.scan.proofs.order.same_from.Tie as tie
+use Rattle.scan.specs.Cells.{sameFrom}
+use Rattle.scan.proofs.OrderLaws.{same-none, same-next}
+
+abbrev Inv-loop : tie.InvT-loop
+Inv-loop b p q same₀ n₀ same n = (n ≤ 16) × (same ≡ sameFrom b p q n)
+
+abbrev μ-loop : tie.MeasureT-loop
+μ-loop b p q same₀ n₀ same n = 16 - n
+
+loop-holds : tie.Need-loop-holds Inv-loop μ-loop
+loop-holds c = (omega arith, same-none _ _ _)
+
+add-stays-same : tie.Need-add-stays-same Inv-loop μ-loop
+add-stays-same c = omega (arith, c .before .before .before .pre .0)
+
+shared-slice-read-stays-same : tie.Need-shared-slice-read-stays-same Inv-loop μ-loop
+shared-slice-read-stays-same c = omega (arith, c .before .before .before .before .pre .0)
+
+add-stays-same-2 : tie.Need-add-stays-same-2 Inv-loop μ-loop
+add-stays-same-2 c = omega (arith, c .before .before .before .before .pre .1)
+
+shared-slice-read-stays-same-2 : tie.Need-shared-slice-read-stays-same-2 Inv-loop μ-loop
+shared-slice-read-stays-same-2 c = omega (arith, c .before .before .before .before .before .pre .1)
+
+stays-same-requires : tie.Need-stays-same-requires Inv-loop μ-loop
+stays-same-requires c κs = search needs
+
+add-n : tie.Need-add-n Inv-loop μ-loop
+add-n c = omega arith
+
+loop-less : tie.Need-loop-less Inv-loop μ-loop
+loop-less c = omega arith
+
+loop-again : tie.Need-loop-again Inv-loop μ-loop
+loop-again c =
+    let l = c .before .before .before .before .loop in
+    let a = c .before .before .before .before .before .before .args in
+    (omega arith, c .stays-same .ensures ∙ rw (l .inv .1) (sym (same-next (a .register .now) (a .p) (a .q) (l .n))))
+
+returns : tie.Need-returns Inv-loop μ-loop
+returns c =
+    let l = c .before .loop in
+    let e : l .n ≡ 16 = omega arith in
+    rw e at (l .inv .1)
+
+pub same-from-spec : {M : Type 1} → statement M
+same-from-spec =
+    tie.close
+    (tie.spec
+    Inv-loop
+    μ-loop
+    loop-holds
+    add-stays-same
+    shared-slice-read-stays-same
+    add-stays-same-2
+    shared-slice-read-stays-same-2
+    stays-same-requires
+    add-n
+    loop-less
+    loop-again
+    returns)

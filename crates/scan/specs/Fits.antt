@@ -1,0 +1,29 @@
+-- What each byte of an entry's line may be.
+--
+--   above byte base  ==  how far a byte is above another, round the 256
+--   rest x teen      ==  x, but 0 where it is teen
+--   lesser a b       ==  the lesser of two numbers
+--   fits ..          ==  a byte is teen above its base, or above it by no more than its span and no more than the byte before it is below cap
+--   allFit k b before ..  ==  the first k bytes after the one at `before` do, by the tables base, teen, span
+use mathlib.Core.List.{List}
+use mathlib.Core.Bool.{Bool, true, false, _&&_}
+use Prim.Native.Nat.{ℕ, zero, suc, _+_, _-_, _%_}
+use lib.ListN.{getD}
+use lib.Dec.{ltb, leb, eqb}
+
+unfoldable pub above : ℕ → ℕ → ℕ
+above byte base = (byte + (256 - base)) % 256
+
+unfoldable pub rest : ℕ → ℕ → ℕ
+rest x teen = elim (eqb x teen) [ true ↦ 0 | false ↦ x ]
+
+unfoldable pub lesser : ℕ → ℕ → ℕ
+lesser a b = elim (ltb a b) [ true ↦ a | false ↦ b ]
+
+unfoldable pub fits : ℕ → ℕ → ℕ → ℕ → ℕ → ℕ → Bool
+fits byte before base teen span cap = leb (rest (above byte base) teen) (lesser span (above cap before))
+
+unfoldable pub allFit : ℕ → List ℕ → ℕ → List ℕ → List ℕ → List ℕ → ℕ → Bool
+allFit zero b before base teen span cap = true
+allFit (suc k) b before base teen span cap =
+    allFit k b before base teen span cap && fits (getD b (before + k + 1) 0) (getD b (before + k) 0) (getD base k 0) (getD teen k 0) (getD span k 0) cap

@@ -1,0 +1,4 @@
+pub mod Cells
+pub mod Fits
+pub mod Lines
+pub mod Tables

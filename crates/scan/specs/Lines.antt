@@ -1,0 +1,33 @@
+-- The lines of entries, by their bytes: what layout's EntryLine and EntriesLaid come to.
+--
+--   lineCells size b at       ==  the cells of the line at `at`, where it is laid out
+--   LineLaid size top b at    ==  its cells are laid out, and a line feed follows
+--   Precedes size b p q       ==  the cells of the line at p come before those of the line at q
+--   Follows size top b p q    ==  the line at q is laid out, and the one at p comes before it
+--   LinesLaid size top n b    ==  the first n lines are laid out, each of which comes before the next
+use mathlib.Core.Path.{_≡_}
+use mathlib.Core.List.{List}
+use Prim.Native.Nat.{ℕ, _+_, _*_, _<_}
+use lib.ListN.{getD}
+use Rattle.permutations.specs.Lists.{tabulate}
+use Rattle.grids.specs.Order.{_≺_}
+use Rattle.layout.specs.Lines.{lineStart}
+use Rattle.scan.specs.Cells.{CellsLaid, cellAt}
+
+unfoldable pub lineCells : ℕ → List ℕ → ℕ → List ℕ
+lineCells size b at = tabulate 0 size (λ k. cellAt b (at + 3 * k))
+
+pub record LineLaid (size top : ℕ) (b : List ℕ) (at : ℕ) : Type 0 where
+  pub feed : getD b (at + 3 * size) 0 ≡ 10
+  pub cells : CellsLaid top b at size
+
+unfoldable pub Precedes : ℕ → List ℕ → ℕ → ℕ → Type 0
+Precedes size b p q = lineCells size b p ≺ lineCells size b q
+
+pub record Follows (size top : ℕ) (b : List ℕ) (p q : ℕ) : Type 0 where
+  pub laid : LineLaid size top b q
+  pub order : Precedes size b p q
+
+pub record LinesLaid (size top n : ℕ) (b : List ℕ) : Type 0 where
+  pub lines : (e : ℕ) → e < n → LineLaid size top b (lineStart size e)
+  pub ascend : (e : ℕ) → e + 1 < n → Precedes size b (lineStart size e) (lineStart size (e + 1))

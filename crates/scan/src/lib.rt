@@ -1,0 +1,5 @@
+// Question 5's scan of the lines of entries, many bytes at a time.
+pub mod entries;
+mod laid;
+mod order;
+mod tables;

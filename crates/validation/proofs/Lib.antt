@@ -1,0 +1,3 @@
+pub mod EqualityLaws
+pub mod BlankLaws
+pub mod Question5Laws

@@ -1,0 +1,4 @@
+// Question 5: line 1, the lines of the entries and the blank lines of a register.
+mod blanks;
+mod equality;
+pub mod question5;
