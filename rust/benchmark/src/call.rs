@@ -1,6 +1,6 @@
 //! What the compared implementations have in common: the calls and their questions.
 
-use plan_register::{Orders, Pruned};
+use plan_register::{Fitted, Orders, Placed, Pruned};
 use reference::grid::rank;
 
 /// The call represent: m, n, top, the grid, the output.
@@ -8,6 +8,12 @@ pub type Represent = fn(usize, usize, usize, &[u8], &mut [u8]) -> Orders;
 
 /// The call prune: m, n, top, the lows, the highs.
 pub type Prune = fn(usize, usize, usize, &mut [u8], &mut [u8]) -> Pruned;
+
+/// The calls enter and strike: the register, the grid.
+pub type Change = fn(&mut [u8], &[u8]) -> Placed;
+
+/// The call fit: the register, the lows, the highs.
+pub type Fit = fn(&[u8], &[u8], &[u8]) -> Fitted;
 
 /// The number of the first of represent's questions, 1, 2, 3, 6, 7, that gets a no, or 0.
 pub fn first_no(m: usize, n: usize, top: usize, grid: &[u8], out: &[u8]) -> u32 {

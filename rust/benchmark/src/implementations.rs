@@ -1,9 +1,10 @@
 //! The implementations that are compared, and the ratios of their times.
 
-use crate::call::{Prune, Represent};
+use crate::call::{Change, Fit, Prune, Represent};
+use crate::register_calls::Pass;
 use crate::table::Table;
 use crate::{branch_and_bound, packed_theorem_1, same_search, theorem_1};
-use crate::{same_pruning, value_by_value};
+use crate::{plain_register, same_pruning, value_by_value};
 
 /// Represent: in the first two ratios the library's time is the divisor.
 pub const REPRESENT: Table<Represent, 5> = Table {
@@ -25,4 +26,49 @@ pub const PRUNE: Table<Prune, 3> = Table {
         ("same method in plain Rust", same_pruning::prune),
     ],
     ratios: &[(0, 1), (1, 2)],
+};
+
+/// The calls on a register by one implementation, and represent, which enter and strike rest on.
+#[derive(Clone, Copy)]
+pub struct RegisterCalls {
+    pub enter: Change,
+    pub strike: Change,
+    pub fit: Fit,
+    pub represent: Represent,
+}
+
+pub const LIBRARY: RegisterCalls = RegisterCalls {
+    enter: plan_register::enter,
+    strike: plan_register::strike,
+    fit: plan_register::fit,
+    represent: plan_register::represent,
+};
+
+pub const PLAIN: RegisterCalls = RegisterCalls {
+    enter: plain_register::enter,
+    strike: plain_register::strike,
+    fit: plain_register::fit,
+    represent: same_search::represent,
+};
+
+/// Question 5 and fit, beside a copy of the register's bytes.
+pub const READING: Table<Pass, 3> = Table {
+    implementations: [
+        ("memcpy", Pass::Copy),
+        ("plan_register", Pass::Call(LIBRARY)),
+        ("plain Rust", Pass::Call(PLAIN)),
+    ],
+    ratios: &[(1, 0), (2, 0), (1, 2)],
+};
+
+/// Enter and strike, beside a copy of the register's bytes; then without their time in represent.
+pub const WRITING: Table<Pass, 5> = Table {
+    implementations: [
+        ("memcpy", Pass::Copy),
+        ("plan_register", Pass::Call(LIBRARY)),
+        ("plain Rust", Pass::Call(PLAIN)),
+        ("plan_register besides represent", Pass::Besides(LIBRARY)),
+        ("plain Rust besides represent", Pass::Besides(PLAIN)),
+    ],
+    ratios: &[(1, 0), (2, 0), (1, 2), (3, 0), (4, 0), (3, 4)],
 };

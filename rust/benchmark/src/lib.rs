@@ -1,5 +1,5 @@
-//! How fast represent and prune are: the verified library beside unverified implementations in
-//! Rust.
+//! How fast represent, prune and the calls on a register are: the verified library beside
+//! unverified implementations in Rust.
 //!
 //! | module             | what                                                         |
 //! |--------------------|--------------------------------------------------------------|
@@ -11,12 +11,20 @@
 //! | `value_by_value`   | prune by trying each value                                   |
 //! | `same_pruning`     | the library's own pruning, written in plain Rust             |
 //! | `values`           | what these two share: values and rows by rank                |
+//! | `plain_register`   | enter, strike and fit in plain Rust                          |
+//! | `scan`             | question 5 in these                                          |
+//! | `head`             | line 1 of a register in these                                |
+//! | `line`             | an entry's line in these, compared and written               |
+//! | `within`           | the counting of entries within bounds in these               |
 //! | `call`             | the calls and their questions                                |
 //! | `implementations`  | what is compared                                             |
 //! | `inputs`           | what the timing needs of inputs                              |
 //! | `grids`            | the grids that are timed                                     |
 //! | `bounds`           | the bounds that are timed                                    |
+//! | `registers`        | the registers on which calls are timed                       |
+//! | `register_calls`   | the calls on them that are timed                             |
 //! | `timing`           | medians over interleaved rounds                              |
+//! | `low_times`        | low percentiles over interleaved rounds                      |
 //! | `table`            | the printed tables                                           |
 
 mod bitonic;
@@ -24,13 +32,21 @@ pub mod bounds;
 pub mod branch_and_bound;
 pub mod call;
 pub mod grids;
+mod head;
 pub mod implementations;
 pub mod inputs;
+mod line;
+pub mod low_times;
 pub mod packed_theorem_1;
+pub mod plain_register;
+pub mod register_calls;
+pub mod registers;
 pub mod same_pruning;
 pub mod same_search;
+mod scan;
 pub mod table;
 pub mod theorem_1;
 pub mod timing;
 pub mod value_by_value;
 mod values;
+mod within;

@@ -3,7 +3,7 @@
 //! A slice is passed as its pointer and then its length. Nothing compares these declarations
 //! with the library's source; the tests compare the calls with the reference.
 
-use crate::{Orders, Pruned};
+use crate::{Fitted, Orders, Placed, Pruned};
 
 unsafe extern "C" {
     fn plan_register_represent(
@@ -35,6 +35,38 @@ unsafe extern "C" {
         high: *mut u8,
         high_length: usize,
     ) -> Pruned;
+
+    fn plan_register_open(
+        m: usize,
+        n: usize,
+        top: usize,
+        capacity: usize,
+        register: *mut u8,
+        register_length: usize,
+    ) -> Placed;
+
+    fn plan_register_enter(
+        register: *mut u8,
+        register_length: usize,
+        grid: *const u8,
+        grid_length: usize,
+    ) -> Placed;
+
+    fn plan_register_strike(
+        register: *mut u8,
+        register_length: usize,
+        grid: *const u8,
+        grid_length: usize,
+    ) -> Placed;
+
+    fn plan_register_fit(
+        register: *const u8,
+        register_length: usize,
+        low: *const u8,
+        low_length: usize,
+        high: *const u8,
+        high_length: usize,
+    ) -> Fitted;
 }
 
 // SAFETY, of every call here: the library is declared as it is compiled. It takes any numbers
@@ -58,4 +90,28 @@ pub fn prune(m: usize, n: usize, top: usize, low: &mut [u8], high: &mut [u8]) ->
     let (lows, highs) = (low.as_mut_ptr(), high.as_mut_ptr());
     // SAFETY: as above.
     unsafe { plan_register_prune(m, n, top, lows, low.len(), highs, high.len()) }
+}
+
+pub fn open(m: usize, n: usize, top: usize, capacity: usize, register: &mut [u8]) -> Placed {
+    let lines = register.as_mut_ptr();
+    // SAFETY: as above.
+    unsafe { plan_register_open(m, n, top, capacity, lines, register.len()) }
+}
+
+pub fn enter(register: &mut [u8], grid: &[u8]) -> Placed {
+    let lines = register.as_mut_ptr();
+    // SAFETY: as above.
+    unsafe { plan_register_enter(lines, register.len(), grid.as_ptr(), grid.len()) }
+}
+
+pub fn strike(register: &mut [u8], grid: &[u8]) -> Placed {
+    let lines = register.as_mut_ptr();
+    // SAFETY: as above.
+    unsafe { plan_register_strike(lines, register.len(), grid.as_ptr(), grid.len()) }
+}
+
+pub fn fit(register: &[u8], low: &[u8], high: &[u8]) -> Fitted {
+    let (lines, lows, highs) = (register.as_ptr(), low.as_ptr(), high.as_ptr());
+    // SAFETY: as above.
+    unsafe { plan_register_fit(lines, register.len(), lows, low.len(), highs, high.len()) }
 }

@@ -3,18 +3,11 @@
 
 mod common;
 
+use common::limits::{BIT_32, BIT_63, COLUMNS, ROWS, TOPS};
 use common::{check_one_class, check_prune, check_pruned, represented, starting, Lent};
 use plan_register::{represent, same, Pruned};
 use reference::questions::{self, Asked};
 use std::collections::BTreeSet;
-
-const BIT_32: usize = 1 << 32;
-const BIT_63: usize = 1 << 63;
-
-/// At and past the limits; the last three are such that their low bits alone would pass.
-const ROWS: [usize; 10] = [0, 1, 2, 8, 9, BIT_63, usize::MAX, 258, 65_538, BIT_32 + 2];
-const COLUMNS: [usize; 10] = [0, 1, 3, 16, 17, BIT_63, usize::MAX, 259, 65_539, BIT_32 + 3];
-const TOPS: [usize; 8] = [0, 3, 15, 16, usize::MAX, 256, 65_539, BIT_32 + 3];
 
 /// The numbers m, n and top of a call.
 #[derive(Clone, Copy, Debug)]

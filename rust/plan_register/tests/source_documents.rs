@@ -1,9 +1,11 @@
-//! The marked plans of document 01 and examples of documents 000 and 002.
+//! The marked plans and the printed run of document 01, and examples of documents 000 and 002.
 
 mod common;
 
+use common::calls::{answer, check_answer, check_call, opened};
 use common::{check_one_class, check_prune, check_pruned, check_two_classes, represented};
 use plan_register::{represent, same, Pruned};
+use reference::calls::Call;
 use reference::examples::{cells, plan};
 use reference::forms::written;
 
@@ -58,6 +60,33 @@ fn m9_loses_5_values() {
 #[test]
 fn m10_has_no_grid_with_allperm() {
     check_bounds(3, "23/01", 102, "23/01", 0);
+}
+
+#[test]
+fn the_printed_run() {
+    let mut register = opened(2, 2, 1, 2);
+    let form = (cells("00/00"), cells("01/11"));
+    for (call, number, place) in [
+        (Call::Enter(cells("10/01")), 0, 1),
+        (Call::Enter(cells("01/10")), 101, 1),
+        (Call::Strike(cells("00/11")), 10, 0),
+        (Call::Fit(form), 0, 1),
+        (Call::Enter(cells("00/11")), 0, 1),
+        (Call::Enter(cells("01/01")), 9, 0),
+    ] {
+        assert_eq!(check_call(&mut register, &call), answer(number, place));
+    }
+    let printed = b"     2     2     1     2     2\n  0  0  1  1\n  0  1  1  0\n";
+    assert_eq!(register, printed);
+}
+
+#[test]
+fn a_strike_leaves_no_last_line_behind() {
+    let before = b"     2     2     1     2     2\n  0  0  1  1\n  0  1  1  0\n";
+    let left = b"     2     2     1     2     1\n  0  1  1  0\n            \n";
+    check_answer(before, &Call::Strike(cells("11/00")), answer(0, 1), left);
+    let left = b"     2     2     1     2     1\n  0  0  1  1\n            \n";
+    check_answer(before, &Call::Strike(cells("10/01")), answer(0, 2), left);
 }
 
 #[test]

@@ -5,30 +5,38 @@
 //! grid in them, and by the extremal grid where these are too many; the machine
 //! is a set of least grids.
 //!
-//! | module        | part of document 01                                    |
-//! |---------------|--------------------------------------------------------|
-//! | `permutation` | orders: the starting one, following, reverse           |
-//! | `grid`        | grids, arrangements, classes; represent, same          |
-//! | `bounds`      | forms and allperm; prune                               |
-//! | `layout`      | the register's bytes                                   |
-//! | `questions`   | the questions, one function each                       |
-//! | `register`    | open, enter, strike, fit                               |
-//! | `machine`     | the plain machine of demand 3                          |
-//! | `planbook`    | the program, input bytes to output bytes               |
-//! | `random`      | a small generator for tests                            |
-//! | `examples`    | grids for tests                                        |
-//! | `designs`     | grids with much symmetry, for tests and benchmarks     |
-//! | `forms`       | bounds, for tests and benchmarks                       |
+//! | module         | part of document 01                                  |
+//! |----------------|------------------------------------------------------|
+//! | `permutation`  | orders: the starting one, following, reverse         |
+//! | `grid`         | grids, arrangements, classes; represent, same        |
+//! | `bounds`       | forms and allperm; prune                             |
+//! | `layout`       | the register's bytes                                 |
+//! | `questions`    | the questions, one function each                     |
+//! | `register`     | open, enter, strike, fit                             |
+//! | `machine`      | the plain machine of demand 3                        |
+//! | `calls`        | the calls of a list, on a register or on the machine |
+//! | `planbook`     | the program, input bytes to output bytes             |
+//! | `random`       | a small generator for tests                          |
+//! | `examples`     | grids for tests                                      |
+//! | `designs`      | grids with much symmetry, for tests and benchmarks   |
+//! | `forms`        | bounds, for tests and benchmarks                     |
+//! | `lists`        | random lists of calls, for tests                     |
+//! | `worked_cases` | the worked cases of the definitions, for tests       |
+//! | `antt_records` | how these are read                                   |
 
+mod antt_records;
 pub mod bounds;
+pub mod calls;
 pub mod designs;
 pub mod examples;
 pub mod forms;
 pub mod grid;
 pub mod layout;
+pub mod lists;
 pub mod machine;
 pub mod permutation;
 pub mod planbook;
 pub mod questions;
 pub mod random;
 pub mod register;
+pub mod worked_cases;

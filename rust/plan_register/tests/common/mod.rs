@@ -1,7 +1,11 @@
 //! What several tests share: the calls, with all their promises checked but the least itself.
 #![allow(dead_code)]
 
+pub mod book;
+pub mod calls;
 mod lent;
+pub mod limits;
+pub mod question_5;
 
 pub use lent::Lent;
 use plan_register::{prune, represent, same, Orders, Pruned};

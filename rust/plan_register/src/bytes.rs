@@ -1,0 +1,77 @@
+//! The calls on a register's bytes. A register of m rows, n columns and a capacity is
+//! 31 + capacity * (3 * m * n + 1) bytes of plain text: line 1 states rows, columns, top,
+//! capacity and count, the next lines hold an entry each, ascending, and the others are blank.
+
+use crate::sys;
+use crate::{Fitted, Placed};
+
+/// Open: writes an empty register, with count 0 and blank lines.
+///
+/// `m` rows 1 to 8, `n` columns 1 to 16, `top` 0 to 15, `capacity` 1 to 500; `register` has
+/// exactly a register's length, and what it held does not matter. Number 0. Otherwise a
+/// refusal, 1, 2, 3, 4 or 6, and `register` keeps its bytes. The place is 0.
+///
+/// ```
+/// let mut register = [0; 31 + 2 * 13];
+/// assert_eq!(plan_register::open(2, 2, 1, 2, &mut register).number, 0);
+/// assert_eq!(&register[..31], b"     2     2     1     2     0\n");
+/// assert_eq!(&register[31..], b"            \n            \n");
+/// assert_eq!(plan_register::open(2, 2, 1, 501, &mut register).number, 4);
+/// ```
+pub fn open(m: usize, n: usize, top: usize, capacity: usize, register: &mut [u8]) -> Placed {
+    sys::open(m, n, top, capacity, register)
+}
+
+/// Enter: the grid's class is held from then on.
+///
+/// `grid` has m times n cells of 0 to top, as `register` states them. Number 0 if the class is
+/// new: its representative is now an entry. 101 if it was held already, and no byte changes.
+/// With either the place is the entry's line, the first entry's being 1. Otherwise a refusal,
+/// 5, 6, 7 or 9, with place 0, and `register` keeps its bytes.
+///
+/// ```
+/// let mut register = [0; 31 + 2 * 13];
+/// plan_register::open(2, 2, 1, 2, &mut register);
+/// let entered = plan_register::enter(&mut register, &[1, 0, 0, 1]);
+/// assert_eq!((entered.number, entered.place), (0, 1));
+/// assert_eq!(&register[31..], b"  0  1  1  0\n            \n");
+/// let again = plan_register::enter(&mut register, &[0, 1, 1, 0]);
+/// assert_eq!((again.number, again.place), (101, 1));
+/// ```
+pub fn enter(register: &mut [u8], grid: &[u8]) -> Placed {
+    sys::enter(register, grid)
+}
+
+/// Strike: the entry of the grid's class goes, and the later ones move up.
+///
+/// `grid` is as for [`enter`]. Number 0 with the line that the entry had. Otherwise a refusal,
+/// 5, 6, 7 or 10, with place 0, and `register` keeps its bytes.
+///
+/// ```
+/// let mut register = *b"     1     2     3     2     1\n  0  3\n      \n";
+/// let struck = plan_register::strike(&mut register, &[3, 0]);
+/// assert_eq!((struck.number, struck.place), (0, 1));
+/// assert_eq!(&register, b"     1     2     3     2     0\n      \n      \n");
+/// assert_eq!(plan_register::strike(&mut register, &[3, 0]).number, 10);
+/// ```
+pub fn strike(register: &mut [u8], grid: &[u8]) -> Placed {
+    sys::strike(register, grid)
+}
+
+/// Fit: counts the entries within the bounds, once these are pruned as [`prune`] does.
+///
+/// `low` and `high` have m times n bounds of 0 to top each, as `register` states them. Number 0
+/// with the count of entries; 102 where no grid within the bounds has allperm. Otherwise a
+/// refusal, 5, 6, 7 or 8. No byte changes.
+///
+/// ```
+/// let register = *b"     1     2     3     2     2\n  0  3\n  1  1\n";
+/// let fitted = plan_register::fit(&register, &[0, 1], &[0, 3]);
+/// assert_eq!((fitted.number, fitted.count), (0, 1));
+/// assert_eq!(plan_register::fit(&register, &[0, 3], &[0, 1]).number, 8);
+/// ```
+///
+/// [`prune`]: crate::prune
+pub fn fit(register: &[u8], low: &[u8], high: &[u8]) -> Fitted {
+    sys::fit(register, low, high)
+}

@@ -1,0 +1,29 @@
+//! What open, enter and strike return.
+
+/// A number and a place.
+///
+/// | `number` | what it means                                            | by which call |
+/// |----------|----------------------------------------------------------|---------------|
+/// | 0        | done: the register is open, the class entered or struck  | all           |
+/// | 1        | refused: the rows are not 1 to 8                         | open          |
+/// | 2        | refused: the columns are not 1 to 16                     | open          |
+/// | 3        | refused: top is not 0 to 15                              | open          |
+/// | 4        | refused: the capacity is not 1 to 500                    | open          |
+/// | 5        | refused: the bytes are not laid out as a register        | enter, strike |
+/// | 6        | refused: a slice has not its exact length                | all           |
+/// | 7        | refused: a cell is above top                             | enter, strike |
+/// | 9        | refused: the class is not held, and the register is full | enter         |
+/// | 10       | refused: the class is not held                           | strike        |
+/// | 101      | the class was held already; this is no refusal           | enter         |
+///
+/// Of several refusals the first in this list is returned. With any number but 0 the register
+/// is unchanged.
+#[repr(C)]
+#[derive(Clone, Copy, Debug, PartialEq, Eq)]
+pub struct Placed {
+    /// 0, or what kept the call from being done.
+    pub number: u32,
+    /// The line that the class's entry has, or had before the strike, the first entry's being 1.
+    /// 0 by open, and with a refusal.
+    pub place: u32,
+}

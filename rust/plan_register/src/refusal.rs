@@ -1,0 +1,101 @@
+//! Why a call is refused.
+
+use std::error::Error;
+use std::fmt;
+
+/// The question that a call did not pass. Of several it is the first, in this order.
+///
+/// ```
+/// use plan_register::{Refusal, Register};
+///
+/// let refusal = Register::open(2, 2, 16, 500).unwrap_err();
+/// assert_eq!(refusal, Refusal::Top);
+/// assert_eq!(refusal.number(), 3);
+/// assert_eq!(refusal.to_string(), "top is not 0 to 15 (number 3)");
+/// ```
+#[derive(Clone, Copy, Debug, PartialEq, Eq, PartialOrd, Ord, Hash)]
+#[repr(u32)]
+pub enum Refusal {
+    /// 1: the rows are not 1 to 8.
+    Rows = 1,
+    /// 2: the columns are not 1 to 16.
+    Columns = 2,
+    /// 3: top is not 0 to 15.
+    Top = 3,
+    /// 4: the capacity is not 1 to 500.
+    Capacity = 4,
+    /// 5: the bytes are not laid out as a register.
+    Layout = 5,
+    /// 6: a slice has not its exact length.
+    Length = 6,
+    /// 7: a cell or a bound is above top.
+    Cell = 7,
+    /// 8: a low is above its high.
+    Bounds = 8,
+    /// 9: the class is not held, and the register is full.
+    Full = 9,
+    /// 10: the class is not held.
+    NotHeld = 10,
+}
+
+impl Refusal {
+    /// Every refusal, by number.
+    pub const ALL: [Refusal; 10] = [
+        Refusal::Rows,
+        Refusal::Columns,
+        Refusal::Top,
+        Refusal::Capacity,
+        Refusal::Layout,
+        Refusal::Length,
+        Refusal::Cell,
+        Refusal::Bounds,
+        Refusal::Full,
+        Refusal::NotHeld,
+    ];
+
+    /// The question's number, 1 to 10.
+    pub fn number(self) -> u32 {
+        self as u32
+    }
+
+    /// The refusal with this number. `None` where it is no refusal's, as 0, 101, 102 and 103.
+    ///
+    /// ```
+    /// use plan_register::Refusal;
+    ///
+    /// let orders = plan_register::represent(2, 2, 1, &[0, 0, 2, 1], &mut [0; 4]);
+    /// assert_eq!(Refusal::numbered(orders.number), Some(Refusal::Cell));
+    /// assert_eq!(Refusal::numbered(0), None);
+    /// ```
+    pub fn numbered(number: u32) -> Option<Refusal> {
+        Refusal::ALL.into_iter().find(|r| r.number() == number)
+    }
+
+    /// The refusal with this number, which a call answered.
+    pub(crate) fn answered(number: u32) -> Refusal {
+        Refusal::numbered(number).expect("the number is a refusal's")
+    }
+
+    fn words(self) -> &'static str {
+        match self {
+            Refusal::Rows => "the rows are not 1 to 8",
+            Refusal::Columns => "the columns are not 1 to 16",
+            Refusal::Top => "top is not 0 to 15",
+            Refusal::Capacity => "the capacity is not 1 to 500",
+            Refusal::Layout => "the bytes are not laid out as a register",
+            Refusal::Length => "a slice has not its exact length",
+            Refusal::Cell => "a cell or a bound is above top",
+            Refusal::Bounds => "a low is above its high",
+            Refusal::Full => "the class is not held, and the register is full",
+            Refusal::NotHeld => "the class is not held",
+        }
+    }
+}
+
+impl fmt::Display for Refusal {
+    fn fmt(&self, formatter: &mut fmt::Formatter) -> fmt::Result {
+        write!(formatter, "{} (number {})", self.words(), self.number())
+    }
+}
+
+impl Error for Refusal {}

@@ -1,0 +1,244 @@
+//! A register that owns its bytes.
+
+use crate::fields::{cells, number};
+use crate::{enter, fit, open, strike};
+use crate::{Entered, Refusal};
+use std::fmt;
+
+/// Line 1: five fields, each 6 wide, and a line feed.
+const FIRST_LINE: usize = 31;
+const FIELD: usize = 6;
+
+/// A register. Its bytes are always laid out as one, so no call on it is refused by number 5.
+///
+/// Grids and bounds are m times n bytes, row after row, as for the calls on slices.
+///
+/// ```
+/// use plan_register::{Entered, Refusal, Register};
+///
+/// # fn main() -> Result<(), Refusal> {
+/// let mut register = Register::open(2, 2, 1, 2)?;
+/// assert_eq!(register.enter(&[1, 0, 0, 1])?, Entered::New { place: 1 });
+/// assert_eq!(register.enter(&[0, 1, 1, 0])?, Entered::Held { place: 1 });
+/// assert_eq!(register.strike(&[0, 0, 1, 1]), Err(Refusal::NotHeld));
+/// assert_eq!(register.fit(&[0, 0, 0, 0], &[0, 1, 1, 1])?, Some(1));
+/// assert_eq!(register.enter(&[0, 0, 1, 1])?, Entered::New { place: 1 });
+/// assert_eq!(register.enter(&[0, 1, 0, 1]), Err(Refusal::Full));
+/// assert_eq!(register.count(), 2);
+/// assert_eq!(register.bytes(), b"     2     2     1     2     2
+///   0  0  1  1
+///   0  1  1  0
+/// ");
+/// # Ok(())
+/// # }
+/// ```
+#[derive(Clone, PartialEq, Eq)]
+pub struct Register {
+    bytes: Vec<u8>,
+}
+
+impl Register {
+    /// An empty register of `m` rows, `n` columns, cells of 0 to `top`, and this capacity.
+    /// Refused by number 1, 2, 3 or 4.
+    ///
+    /// ```
+    /// use plan_register::{Refusal, Register};
+    ///
+    /// let register = Register::open(8, 16, 15, 500).unwrap();
+    /// assert_eq!((register.count(), register.bytes().len()), (0, 192_531));
+    /// assert_eq!(Register::open(9, 16, 15, 500), Err(Refusal::Rows));
+    /// ```
+    pub fn open(m: usize, n: usize, top: usize, capacity: usize) -> Result<Register, Refusal> {
+        // No register is empty, so an empty slice is refused by 6 where the limits are right.
+        match Refusal::answered(open(m, n, top, capacity, &mut []).number) {
+            Refusal::Length => {}
+            limit => return Err(limit),
+        }
+        let mut bytes = vec![0; FIRST_LINE + capacity * (3 * m * n + 1)];
+        match open(m, n, top, capacity, &mut bytes).number {
+            0 => Ok(Register { bytes }),
+            number => Err(Refusal::answered(number)),
+        }
+    }
+
+    /// The register with these bytes. Refused by number 5 where they are not laid out as one.
+    ///
+    /// ```
+    /// use plan_register::{Refusal, Register};
+    ///
+    /// let text = "     1     2     3     2     1\n  0  3\n      \n";
+    /// let register = Register::from_bytes(text.into()).unwrap();
+    /// assert_eq!(register.entry(1), Some(vec![0, 3]));
+    /// assert_eq!(Register::from_bytes(text[1..].into()), Err(Refusal::Layout));
+    /// ```
+    pub fn from_bytes(bytes: Vec<u8>) -> Result<Register, Refusal> {
+        // No grid is empty, so with empty bounds a register is refused by 6.
+        match Refusal::answered(fit(&bytes, &[], &[]).number) {
+            Refusal::Length => Ok(Register { bytes }),
+            layout => Err(layout),
+        }
+    }
+
+    /// The bytes, plain text.
+    ///
+    /// ```
+    /// let register = plan_register::Register::open(1, 1, 9, 2).unwrap();
+    /// assert_eq!(register.bytes(), b"     1     1     9     2     0\n   \n   \n");
+    /// ```
+    pub fn bytes(&self) -> &[u8] {
+        &self.bytes
+    }
+
+    /// The bytes, to be kept or sent.
+    ///
+    /// ```
+    /// use plan_register::Register;
+    ///
+    /// let register = Register::open(1, 1, 9, 2).unwrap();
+    /// let kept = register.clone().into_bytes();
+    /// assert_eq!(Register::from_bytes(kept), Ok(register));
+    /// ```
+    pub fn into_bytes(self) -> Vec<u8> {
+        self.bytes
+    }
+
+    /// The rows of a grid, 1 to 8.
+    ///
+    /// ```
+    /// let register = plan_register::Register::open(2, 3, 15, 500).unwrap();
+    /// assert_eq!((register.rows(), register.columns()), (2, 3));
+    /// assert_eq!((register.top(), register.capacity()), (15, 500));
+    /// assert_eq!(register.count(), 0);
+    /// ```
+    pub fn rows(&self) -> usize {
+        self.stated(0)
+    }
+
+    /// The columns of a grid, 1 to 16.
+    pub fn columns(&self) -> usize {
+        self.stated(1)
+    }
+
+    /// The greatest cell, 0 to 15.
+    pub fn top(&self) -> usize {
+        self.stated(2)
+    }
+
+    /// The most entries, 1 to 500.
+    pub fn capacity(&self) -> usize {
+        self.stated(3)
+    }
+
+    /// The number of entries, 0 to the capacity.
+    pub fn count(&self) -> usize {
+        self.stated(4)
+    }
+
+    /// The number in this field of line 1.
+    fn stated(&self, field: usize) -> usize {
+        number(&self.bytes[field * FIELD..(field + 1) * FIELD])
+    }
+
+    /// The entries, ascending.
+    ///
+    /// ```
+    /// let mut register = plan_register::Register::open(1, 2, 3, 5).unwrap();
+    /// for grid in [[2, 1], [3, 0], [0, 0]] {
+    ///     register.enter(&grid).unwrap();
+    /// }
+    /// assert!(register.entries().eq([[0, 0], [0, 3], [1, 2]]));
+    /// ```
+    pub fn entries(&self) -> impl DoubleEndedIterator<Item = Vec<u8>> + ExactSizeIterator + '_ {
+        let line = 3 * self.rows() * self.columns() + 1;
+        let lines = self.bytes[FIRST_LINE..].chunks_exact(line);
+        lines.take(self.count()).map(cells)
+    }
+
+    /// The entry with this place, the first entry's being 1. `None` where there is none.
+    ///
+    /// ```
+    /// let mut register = plan_register::Register::open(1, 2, 3, 5).unwrap();
+    /// let entered = register.enter(&[3, 0]).unwrap();
+    /// assert_eq!(register.entry(entered.place()), Some(vec![0, 3]));
+    /// assert_eq!(register.entry(2), None);
+    /// ```
+    pub fn entry(&self, place: usize) -> Option<Vec<u8>> {
+        self.entries().nth(place.checked_sub(1)?)
+    }
+
+    /// Enters the grid's class, as [`enter`] does. Refused by number 6, 7 or 9.
+    ///
+    /// ```
+    /// use plan_register::{Entered, Refusal, Register};
+    ///
+    /// let mut register = Register::open(1, 2, 3, 1).unwrap();
+    /// assert_eq!(register.enter(&[3, 0]), Ok(Entered::New { place: 1 }));
+    /// assert_eq!(register.enter(&[0, 3]), Ok(Entered::Held { place: 1 }));
+    /// assert_eq!(register.enter(&[0, 0]), Err(Refusal::Full));
+    /// assert_eq!(register.enter(&[0, 4]), Err(Refusal::Cell));
+    /// ```
+    pub fn enter(&mut self, grid: &[u8]) -> Result<Entered, Refusal> {
+        let entered = enter(&mut self.bytes, grid);
+        let place = entered.place as usize;
+        match entered.number {
+            0 => Ok(Entered::New { place }),
+            101 => Ok(Entered::Held { place }),
+            number => Err(Refusal::answered(number)),
+        }
+    }
+
+    /// Strikes the grid's class, as [`strike`] does: the line that its entry had. Refused by
+    /// number 6, 7 or 10.
+    ///
+    /// ```
+    /// use plan_register::{Refusal, Register};
+    ///
+    /// let mut register = Register::open(1, 2, 3, 1).unwrap();
+    /// register.enter(&[0, 3]).unwrap();
+    /// assert_eq!(register.strike(&[3, 0]), Ok(1));
+    /// assert_eq!(register.strike(&[3, 0]), Err(Refusal::NotHeld));
+    /// ```
+    pub fn strike(&mut self, grid: &[u8]) -> Result<usize, Refusal> {
+        let struck = strike(&mut self.bytes, grid);
+        match struck.number {
+            0 => Ok(struck.place as usize),
+            number => Err(Refusal::answered(number)),
+        }
+    }
+
+    /// Counts the entries within the bounds, as [`fit`] does. `None` where no grid within the
+    /// bounds has allperm, number 102. Refused by number 6, 7 or 8.
+    ///
+    /// ```
+    /// use plan_register::{Refusal, Register};
+    ///
+    /// let mut register = Register::open(2, 1, 3, 5).unwrap();
+    /// register.enter(&[0, 3]).unwrap();
+    /// assert_eq!(register.fit(&[0, 0], &[3, 3]), Ok(Some(1)));
+    /// assert_eq!(register.fit(&[0, 0], &[3, 2]), Ok(Some(0)));
+    /// assert_eq!(register.fit(&[2, 0], &[3, 1]), Ok(None));
+    /// assert_eq!(register.fit(&[2, 0], &[1, 1]), Err(Refusal::Bounds));
+    /// ```
+    pub fn fit(&self, low: &[u8], high: &[u8]) -> Result<Option<usize>, Refusal> {
+        let fitted = fit(&self.bytes, low, high);
+        match fitted.number {
+            0 => Ok(Some(fitted.count as usize)),
+            102 => Ok(None),
+            number => Err(Refusal::answered(number)),
+        }
+    }
+}
+
+impl fmt::Debug for Register {
+    fn fmt(&self, formatter: &mut fmt::Formatter) -> fmt::Result {
+        let entries: Vec<Vec<u8>> = self.entries().collect();
+        formatter
+            .debug_struct("Register")
+            .field("rows", &self.rows())
+            .field("columns", &self.columns())
+            .field("top", &self.top())
+            .field("capacity", &self.capacity())
+            .field("entries", &entries)
+            .finish()
+    }
+}

@@ -1,0 +1,182 @@
+//! `Register`, a register that owns its bytes.
+
+mod common;
+
+use common::calls::{distinct_grids, holding};
+use common::limits::{every_numbers, Numbers};
+use plan_register::{Entered, Refusal, Register};
+use reference::calls::Call;
+use reference::examples::{cells, shapes_up_to};
+use reference::layout::Contents;
+use reference::lists::Pool;
+use reference::machine::Machine;
+use reference::questions::{self, Asked};
+use reference::random::Random;
+
+/// The number of the first of questions 1 to 4 that gets a no.
+fn first_no([m, n, top, capacity]: Numbers) -> Asked {
+    questions::rows(m as u64)?;
+    questions::columns(n as u64)?;
+    questions::top(top as u64)?;
+    questions::capacity(capacity as u64)
+}
+
+#[test]
+fn open_asks_the_limits_in_order() {
+    // Numbers of any size: nothing overflows, and nothing is allocated for what is refused.
+    for numbers in every_numbers() {
+        let [m, n, top, capacity] = numbers;
+        match Register::open(m, n, top, capacity) {
+            Err(refusal) => assert_eq!(Err(refusal.number()), first_no(numbers)),
+            Ok(register) => {
+                assert_eq!(first_no(numbers), Ok(()));
+                let empty = holding(m, n, top as u8, capacity, &[]);
+                assert!(register.bytes() == empty.bytes());
+            }
+        }
+    }
+}
+
+#[test]
+fn what_a_register_states() {
+    let mut random = Random::new(131);
+    for (m, n) in shapes_up_to(128) {
+        let (top, capacity) = (random.between(1, 15), random.between(2, 40));
+        let entries = distinct_grids(&mut random, m * n, top as u8, 2);
+        let contents = holding(m, n, top as u8, capacity as usize, &entries);
+        let register = Register::from_bytes(contents.bytes()).unwrap();
+        assert_eq!((register.rows(), register.columns()), (m, n));
+        assert_eq!(register.top() as u64, top);
+        assert_eq!(register.capacity() as u64, capacity);
+        assert_eq!(register.count(), 2);
+        assert!(register.entries().eq(entries));
+        assert!(register.bytes() == contents.bytes());
+        assert!(register.into_bytes() == contents.bytes());
+    }
+}
+
+#[test]
+fn entries_by_place_and_from_both_ends() {
+    let entries: Vec<Vec<u8>> = (0..16).map(|v| vec![v, 15 - v]).collect();
+    for count in 0..=16 {
+        let bytes = holding(1, 2, 15, 16, &entries[..count]).bytes();
+        let register = Register::from_bytes(bytes).unwrap();
+        assert_eq!(register.count(), count);
+        assert_eq!(register.entries().len(), count);
+        let backwards = entries[..count].iter().rev().cloned();
+        assert!(register.entries().rev().eq(backwards));
+        assert_eq!(register.entry(0), None);
+        assert_eq!(register.entry(count + 1), None);
+        assert_eq!(register.entry(usize::MAX), None);
+        for place in 1..=count {
+            assert_eq!(register.entry(place).as_ref(), Some(&entries[place - 1]));
+        }
+    }
+}
+
+#[test]
+fn other_bytes_are_refused() {
+    let bytes = holding(2, 2, 3, 2, &[cells("00/01")]).bytes();
+    let shorter = bytes[1..].to_vec();
+    for other in [vec![], vec![0], vec![b' '; bytes.len()], shorter] {
+        assert_eq!(Register::from_bytes(other), Err(Refusal::Layout));
+    }
+    assert!(Register::from_bytes(bytes).is_ok());
+}
+
+/// What the register answers: the number, and the place or count.
+fn answered(register: &mut Register, call: &Call) -> (u32, u64) {
+    let (number, place) = match call {
+        Call::Enter(grid) => match register.enter(grid) {
+            Ok(entered @ Entered::New { .. }) => (0, entered.place()),
+            Ok(entered @ Entered::Held { .. }) => (101, entered.place()),
+            Err(refusal) => (refusal.number(), 0),
+        },
+        Call::Strike(grid) => match register.strike(grid) {
+            Ok(place) => (0, place),
+            Err(refusal) => (refusal.number(), 0),
+        },
+        Call::Fit((low, high)) => match register.fit(low, high) {
+            Ok(Some(count)) => (0, count),
+            Ok(None) => (102, 0),
+            Err(refusal) => (refusal.number(), 0),
+        },
+    };
+    (number, place as u64)
+}
+
+#[test]
+fn lists_of_calls_answer_as_the_machine() {
+    let mut random = Random::new(132);
+    let mut met = [0; 103];
+    for _ in 0..200 {
+        let (m, n) = (random.between(1, 3) as usize, random.between(1, 3) as usize);
+        let (top, capacity) = (random.between(0, 2) as u8, random.between(1, 5) as usize);
+        let pool = Pool::drawn(&mut random, m, n, top, capacity + 3);
+        let mut register = Register::open(m, n, top.into(), capacity).unwrap();
+        let mut machine = Machine::opened(m as u64, n as u64, top.into(), capacity as u64);
+        for _ in 0..40 {
+            let call = pool.call(&mut random);
+            let expected = call.on_machine(&mut machine);
+            let before = register.clone();
+            let (number, place) = answered(&mut register, &call);
+            assert_eq!(
+                (number, place),
+                (expected.number, expected.place),
+                "{call:?}"
+            );
+            assert_eq!(register.bytes(), machine.bytes());
+            assert_eq!(register.count(), machine.classes.len());
+            assert!(number == 0 || register == before);
+            met[number as usize] += 1;
+        }
+    }
+    for number in [0, 6, 7, 8, 9, 10, 101, 102] {
+        assert!(met[number] > 20, "{number}");
+    }
+}
+
+#[test]
+fn an_entry_stands_at_the_place_answered() {
+    let mut random = Random::new(133);
+    let mut register = Register::open(2, 3, 4, 30).unwrap();
+    for _ in 0..60 {
+        let grid = random.cells(6, 4);
+        if let Ok(entered) = register.enter(&grid) {
+            let entry = register.entry(entered.place()).unwrap();
+            assert_eq!(plan_register::same(2, 3, 4, &grid, &entry).number, 0);
+        }
+    }
+    assert_eq!(register.count(), 30);
+}
+
+#[test]
+fn registers_are_compared_by_their_bytes() {
+    let open = || Register::open(1, 2, 3, 4).unwrap();
+    let (mut one, mut other) = (open(), open());
+    assert_eq!(one, other);
+    one.enter(&[3, 0]).unwrap();
+    assert_ne!(one, other);
+    other.enter(&[0, 3]).unwrap();
+    assert_eq!(one, other);
+    assert_ne!(open(), Register::open(2, 1, 3, 4).unwrap());
+}
+
+#[test]
+fn what_is_printed_of_a_register() {
+    let mut register = Register::open(1, 2, 15, 4).unwrap();
+    register.enter(&[12, 0]).unwrap();
+    let expected = "Register { rows: 1, columns: 2, top: 15, capacity: 4, entries: [[0, 12]] }";
+    assert_eq!(format!("{register:?}"), expected);
+}
+
+#[test]
+fn registers_may_be_sent_to_other_threads() {
+    let mut register = Register::open(1, 2, 15, 4).unwrap();
+    let filled = std::thread::spawn(move || {
+        register.enter(&[12, 0]).unwrap();
+        register
+    });
+    let contents = Contents::read(filled.join().unwrap().bytes());
+    assert_eq!(contents.unwrap().entries, [[0, 12]]);
+}

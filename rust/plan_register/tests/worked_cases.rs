@@ -1,0 +1,42 @@
+//! The worked cases of the definitions, answered by the library.
+
+mod common;
+
+use common::calls::{answer, check_answer, placed};
+use common::Lent;
+use plan_register::{open, Register};
+use reference::worked_cases::{books, openings, registers};
+
+#[test]
+fn question_5_answers_as_the_table_says() {
+    for case in registers() {
+        let taken = Register::from_bytes(case.bytes.clone());
+        assert_eq!(taken.is_ok(), case.answer, "{case:?}");
+    }
+}
+
+#[test]
+fn opens_answer_as_the_table_says() {
+    for opening in openings() {
+        let [m, n, top, capacity] = opening.shape.map(|number| number as usize);
+        let mut lent = Lent::holding(&opening.slice);
+        let opened = open(m, n, top, capacity, lent.slice_mut());
+        assert_eq!(placed(opened), answer(opening.number, 0), "{opening:?}");
+        lent.check(&opening.leaves);
+    }
+}
+
+#[test]
+fn books_are_kept_as_the_table_says() {
+    for book in books() {
+        let mut register = book.before.clone();
+        for (call, answer) in &book.calls {
+            // The table has the bytes after the last call; the reference those after each.
+            let mut left = register.clone();
+            assert_eq!(call.on_register(&mut left), *answer, "{call:?}");
+            check_answer(&register, call, *answer, &left);
+            register = left;
+        }
+        assert_eq!(register, book.leaves, "{book:?}");
+    }
+}

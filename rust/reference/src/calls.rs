@@ -1,0 +1,42 @@
+//! The calls of a list, as values.
+
+use crate::forms::Form;
+use crate::machine::Machine;
+use crate::register::{enter, fit, strike, Answer};
+
+/// A call on an opened register: a grid, or the bounds of a form.
+#[derive(Clone, Debug, PartialEq, Eq)]
+pub enum Call {
+    Enter(Vec<u8>),
+    Strike(Vec<u8>),
+    Fit(Form),
+}
+
+impl Call {
+    /// The name of the call.
+    pub fn name(&self) -> &'static str {
+        match self {
+            Call::Enter(_) => "enter",
+            Call::Strike(_) => "strike",
+            Call::Fit(_) => "fit",
+        }
+    }
+
+    /// Makes the call on a register's bytes.
+    pub fn on_register(&self, register: &mut [u8]) -> Answer {
+        match self {
+            Call::Enter(grid) => enter(register, grid),
+            Call::Strike(grid) => strike(register, grid),
+            Call::Fit((low, high)) => fit(register, low, high),
+        }
+    }
+
+    /// Makes the call on the plain machine.
+    pub fn on_machine(&self, machine: &mut Machine) -> Answer {
+        match self {
+            Call::Enter(grid) => machine.enter(grid),
+            Call::Strike(grid) => machine.strike(grid),
+            Call::Fit((low, high)) => machine.fit(low, high),
+        }
+    }
+}

@@ -1,0 +1,112 @@
+//! Random lists of calls for tests. The grids come from a pool of a few classes, so that a class
+//! is often entered again, struck again, or entered into a full register.
+
+use crate::calls::Call;
+use crate::designs::{equal_columns, equal_rows, two_rows, zero};
+use crate::forms::{around, close, ordered, Form};
+use crate::grid::arrangement;
+use crate::random::Random;
+
+/// The grids that the calls of a list send, each in any arrangement.
+#[derive(Clone, Debug)]
+pub struct Pool {
+    pub m: usize,
+    pub n: usize,
+    pub top: u8,
+    pub grids: Vec<Vec<u8>>,
+}
+
+impl Pool {
+    /// A pool of so many grids: symmetric ones, random ones, and ones that differ from the one
+    /// before in a cell.
+    pub fn drawn(random: &mut Random, m: usize, n: usize, top: u8, size: usize) -> Pool {
+        let mut grids: Vec<Vec<u8>> = Vec::new();
+        for _ in 0..size {
+            let grid = match (random.below(4), grids.last()) {
+                (0, _) => symmetric(random, m, n, top),
+                (1, Some(last)) => with_one_cell_drawn(random, top, last),
+                _ => random.cells(m * n, top),
+            };
+            grids.push(grid);
+        }
+        Pool { m, n, top, grids }
+    }
+
+    /// A call that passes questions 6 to 8, most of the time.
+    pub fn call(&self, random: &mut Random) -> Call {
+        match random.below(8) {
+            0..=2 => Call::Enter(self.sent(random)),
+            3..=5 => Call::Strike(self.sent(random)),
+            _ => Call::Fit(self.sent_form(random)),
+        }
+    }
+
+    /// A grid of the pool, its rows and columns shuffled.
+    pub fn grid(&self, random: &mut Random) -> Vec<u8> {
+        let grid = &self.grids[random.below(self.grids.len() as u64) as usize];
+        let (rows, columns) = (random.permutation(self.m), random.permutation(self.n));
+        arrangement(self.m, self.n, &rows, &columns, grid)
+    }
+
+    /// Bounds of one kind or another, each low at most its high.
+    pub fn form(&self, random: &mut Random) -> Form {
+        let (cells, top) = (self.m * self.n, self.top);
+        match random.below(6) {
+            0 => (vec![0; cells], vec![top; cells]),
+            1 => (vec![0; cells], random.cells(cells, top)),
+            2 => ordered(self.grid(random), self.grid(random)),
+            3 => {
+                let grid = self.grid(random);
+                around(random, top, &grid)
+            }
+            4 => close(random, self.m, self.n, top),
+            _ => random.form(cells, top),
+        }
+    }
+
+    fn sent(&self, random: &mut Random) -> Vec<u8> {
+        let mut grid = self.grid(random);
+        spoil(random, self.top, &mut grid);
+        grid
+    }
+
+    fn sent_form(&self, random: &mut Random) -> Form {
+        let (mut low, mut high) = self.form(random);
+        if random.once_in(10) {
+            std::mem::swap(&mut low, &mut high);
+        }
+        spoil(random, self.top, &mut low);
+        spoil(random, self.top, &mut high);
+        (low, high)
+    }
+}
+
+fn symmetric(random: &mut Random, m: usize, n: usize, top: u8) -> Vec<u8> {
+    let design = match random.below(4) {
+        0 => zero(m, n),
+        1 => equal_rows(m, n),
+        2 => equal_columns(m, n),
+        _ => two_rows(m, n),
+    };
+    design.cells.iter().map(|&cell| cell % (top + 1)).collect()
+}
+
+fn with_one_cell_drawn(random: &mut Random, top: u8, grid: &[u8]) -> Vec<u8> {
+    let mut grid = grid.to_vec();
+    let k = random.below(grid.len() as u64) as usize;
+    grid[k] = random.between(0, top.into()) as u8;
+    grid
+}
+
+/// Now and then takes a cell off, adds one, or puts one above top.
+fn spoil(random: &mut Random, top: u8, slice: &mut Vec<u8>) {
+    match random.below(40) {
+        0 => slice.truncate(slice.len() - 1),
+        1 => slice.push(0),
+        2 | 3 => {
+            let k = random.below(slice.len() as u64) as usize;
+            slice[k] = random.between(u64::from(top) + 1, 255) as u8;
+        }
+        _ => {}
+    }
+}

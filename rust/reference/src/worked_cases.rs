@@ -1,0 +1,123 @@
+//! The worked cases of the definitions, read from the tables that are proved of them.
+
+use crate::antt_records::{field, numbers, records, text_bytes, without_comments};
+use crate::calls::Call;
+use crate::register::Answer;
+
+/// Bytes, and what question 5 answers to them.
+#[derive(Clone, Debug)]
+pub struct Bytes {
+    pub bytes: Vec<u8>,
+    pub answer: bool,
+}
+
+/// An open: its four numbers, the slice lent to it, its number, and the bytes that it leaves.
+#[derive(Clone, Debug)]
+pub struct Opening {
+    pub shape: [u64; 4],
+    pub slice: Vec<u8>,
+    pub number: u32,
+    pub leaves: Vec<u8>,
+}
+
+/// A register's bytes, calls on it with their answers, and the bytes that they leave.
+#[derive(Clone, Debug)]
+pub struct Book {
+    pub before: Vec<u8>,
+    pub calls: Vec<(Call, Answer)>,
+    pub leaves: Vec<u8>,
+}
+
+/// The byte strings of question 5.
+pub fn registers() -> Vec<Bytes> {
+    let cases = table("Registers", "registers", "answer = ");
+    let read = |case: &String| Bytes {
+        bytes: text_bytes(field(case, "lines")),
+        answer: field(case, "answer") == "true",
+    };
+    cases.iter().map(read).collect()
+}
+
+/// The opens.
+pub fn openings() -> Vec<Opening> {
+    let cases = table("Books", "openings", " slice = ");
+    let read = |case: &String| Opening {
+        shape: numbers(field(case, "shape"))
+            .try_into()
+            .expect("four numbers"),
+        slice: text_bytes(field(case, "slice")),
+        number: numbers(field(case, "number"))[0] as u32,
+        leaves: text_bytes(field(case, "leaves")),
+    };
+    cases.iter().map(read).collect()
+}
+
+/// The lists of calls.
+pub fn books() -> Vec<Book> {
+    let cases = table("Books", "books", " before = ");
+    let read = |case: &String| Book {
+        before: text_bytes(field(case, "before")),
+        calls: calls(case),
+        leaves: text_bytes(field(case, "leaves")),
+    };
+    cases.iter().map(read).collect()
+}
+
+/// The records of the list in the file. Each of them has the mark once.
+fn table(file: &str, list: &str, mark: &str) -> Vec<String> {
+    let path = format!(
+        "{}/../../crates/worked_cases/specs/{file}.antt",
+        env!("CARGO_MANIFEST_DIR")
+    );
+    let text = std::fs::read_to_string(&path).unwrap_or_else(|error| panic!("{path}: {error}"));
+    let text = without_comments(&text);
+    let records = records(&text, list);
+    assert_eq!(records.len(), text.matches(mark).count(), "{path}: {list}");
+    records
+}
+
+/// The calls of a book, each with its answer.
+fn calls(book: &str) -> Vec<(Call, Answer)> {
+    let calls = call_texts(field(book, "calls"));
+    let numbers_of = |name: &str| numbers(field(book, name));
+    let (numbers, places) = (numbers_of("numbers"), numbers_of("places"));
+    assert_eq!((numbers.len(), places.len()), (calls.len(), calls.len()));
+    let answers = numbers.iter().zip(places).map(|(&number, place)| Answer {
+        number: number as u32,
+        place,
+    });
+    calls.into_iter().map(call).zip(answers).collect()
+}
+
+/// The calls of a list, each from its name to the next one's.
+fn call_texts(value: &str) -> Vec<&str> {
+    let names = ["enter", "strike", "fit"];
+    let mut starts: Vec<usize> = names
+        .iter()
+        .flat_map(|name| value.match_indices(name).map(|(i, _)| i))
+        .collect();
+    starts.sort_unstable();
+    let ends = starts[1..].iter().copied().chain([value.len()]);
+    starts
+        .iter()
+        .zip(ends)
+        .map(|(&i, j)| &value[i..j])
+        .collect()
+}
+
+fn call(text: &str) -> Call {
+    let mut grids = grids(text).into_iter();
+    let mut next = || grids.next().expect("a grid");
+    match text.split_whitespace().next() {
+        Some("enter") => Call::Enter(next()),
+        Some("strike") => Call::Strike(next()),
+        Some("fit") => Call::Fit((next(), next())),
+        _ => panic!("a call: {text}"),
+    }
+}
+
+/// The grids or bounds in a text, each in parentheses.
+fn grids(value: &str) -> Vec<Vec<u8>> {
+    let grid = |part: &str| numbers(part).iter().map(|&v| v as u8).collect();
+    value.split('(').skip(1).map(grid).collect()
+}
