@@ -3,10 +3,9 @@
 --   Sized size es     ==  every grid of es has so many cells
 --   insert-layout     ==  the lines from p on moved one line further, the line of a grid put at p and the count one higher: the grid is put in at p
 --   remove-layout     ==  the lines after p moved one line back, a blank line after them and the count one lower: entry p is taken out
---   start-inside, start-inside-removed, start-past-head  ==  the lines that are moved lie inside the bytes, and after line 1
 --   Opened s k b      ==  b is as long as the shape says, and begins with line 1 of an empty register and k blank lines
 --   opened-head, opened-next, opened-all  ==  line 1 is written, then each blank line, and then all is the layout of an empty register
---   opened-head-part, opened-next-part  ==  the same of bytes given by equations
+--   opened-head-part  ==  the same of line 1 put back after it is written
 --   opened-inside     ==  the next blank line lies inside the bytes
 use mathlib.Core.Path.{_≡_, refl, sym, ap, ap₂, _∙_}
 use mathlib.Core.List.{List, [], _∷_, _++_, map, flatten, append-assoc, append-nil, map-append, List·Memᴰ, Memᴰ·append-left, Memᴰ·append-right}
@@ -20,7 +19,7 @@ use Rattle.layout.specs.Decimal.{field}
 use Rattle.layout.specs.Layout.{Shape, Register, cells, fields, headLength, lineLength, entryLine, blankLine, headLine, layout, layoutLength}
 use Rattle.layout.specs.Lines.{lineStart}
 use Rattle.layout.proofs.DecimalLaws.{length-field}
-use Rattle.layout.proofs.LayoutLaws.{length-fields, length-entry, length-blank, length-head, length-entries, length-blanks, length-layout}
+use Rattle.layout.proofs.LayoutLaws.{length-fields, length-entry, length-blank, length-head, length-entries, length-blanks}
 
 abbrev Grids : Type 0
 Grids = List (List ℕ)
@@ -200,26 +199,6 @@ remove-layout r b b₁ p sized e fits inside d =
 -- ---- inside the bytes
 
 -- k lines and one more from line p on, of c lines
-inside-lines : (w c p k : ℕ) → p + k < c → headLength + p * w + k * w + w ≤ headLength + c * w
-inside-lines w c p k h = let q : (p + k + 1) * w ≤ c * w = mul-le-mul-right w (omega arith) in omega (arith, add-mul (p + k) 1 w, add-mul p k w)
-
-module _ (r : Register) (b : List ℕ) (p : ℕ) (sized : Sized (cells (r .shape)) (r .entries)) (e : b ≡ layout r) where
-  pub start-inside : length (r .entries) < r .shape .capacity → p ≤ length (r .entries) →
-      lineStart (cells (r .shape)) p + (length (r .entries) - p) * lineLength (cells (r .shape)) + lineLength (cells (r .shape)) ≤ length b
-  unfolding lineStart layoutLength
-  start-inside room inside =
-      rw (e, length-layout r sized (omega arith)) (inside-lines (lineLength (cells (r .shape))) (r .shape .capacity) p (length (r .entries) - p) (omega arith))
-
-  pub start-inside-removed : length (r .entries) ≤ r .shape .capacity → p < length (r .entries) →
-      lineStart (cells (r .shape)) p + (length (r .entries) - (p + 1)) * lineLength (cells (r .shape)) + lineLength (cells (r .shape)) ≤ length b
-  unfolding lineStart layoutLength
-  start-inside-removed fits inside =
-      rw (e, length-layout r sized fits) (inside-lines (lineLength (cells (r .shape))) (r .shape .capacity) p (length (r .entries) - (p + 1)) (omega arith))
-
-pub start-past-head : (size p : ℕ) → headLength ≤ lineStart size p
-unfolding lineStart
-start-past-head size p = omega arith
-
 -- ---- a new register
 
 -- b is as long as the shape says, and begins with line 1 of an empty register and k blank lines
@@ -284,13 +263,9 @@ opened-next {s} {k} {b} o room = record {
       ∙ ap (λ (l : List ℕ). headLine s 0 ++ l) (blanks-snoc (cells s) k (drop (lineLength (cells s)) (o .rest)));
 }
 
--- the same of bytes given by equations, in the form of a part put back after it is written
+-- the same in the form of a part put back after it is written
 pub opened-head-part : {s : Shape} (b : List ℕ) {b₁ ys : List ℕ} → length b ≡ layoutLength s → ys ≡ headLine s 0 → b₁ ≡ take 0 b ++ (ys ++ drop (31 - 0) (drop 0 b)) → Opened s 0 b₁
 opened-head-part b sized e d = rw (d, e) (opened-head b sized)
-
-pub opened-next-part : {s : Shape} {k start end : ℕ} {b b₁ ys : List ℕ} → Opened s k b → k < s .capacity →
-    start ≡ lineStart (cells s) k → end ≡ start + lineLength (cells s) → ys ≡ blankLine (cells s) → b₁ ≡ take start b ++ (ys ++ drop (end - start) (drop start b)) → Opened s (k + 1) b₁
-opened-next-part {s} {k} {start} {end} o room at to e d = let w : end - start ≡ lineLength (cells s) = omega arith in rw (d, e, w, at) (opened-next o room)
 
 pub opened-all : {s : Shape} {b : List ℕ} → Opened s (s .capacity) b → b ≡ layout (record { shape = s; entries = [] })
 unfolding lineStart layoutLength flatten

@@ -37,8 +37,8 @@ fn enter_least(register: &mut [u8], capacity: usize, count: usize, least: &[u8])
     }
 }
 
-// Enters the class of a grid: 0 where it is new, 101 where it was held already, with the place of its entry. Where a question gets a no:
-// its number, and the register as it was.
+// Enters the class of a grid: 0 where it is new, 101 where it was held already, with the place of its entry. Where a question gets
+// a no: its number with place 0, and the register as it was.
 pub fn enter(register: &mut [u8], grid: &[u8]) -> Placed
     ensures { λ r. ⌜ placed (r .number) (r .place) (now (register .exit)) ≡ entered (now (register .entry)) (now (grid .entry)) ⌝ }
 {

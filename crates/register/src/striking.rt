@@ -31,7 +31,8 @@ fn strike_least(register: &mut [u8], count: usize, least: &[u8]) -> Placed
     }
 }
 
-// Strikes the class of a grid, with the place that its entry had. Where a question gets a no: its number, and the register as it was.
+// Strikes the class of a grid: 0 with the place that its entry had. Where a question gets a no: its number with place 0, and the
+// register as it was.
 pub fn strike(register: &mut [u8], grid: &[u8]) -> Placed
     ensures { λ r. ⌜ placed (r .number) (r .place) (now (register .exit)) ≡ struck (now (register .entry)) (now (grid .entry)) ⌝ }
 {

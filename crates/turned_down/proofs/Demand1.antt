@@ -14,7 +14,7 @@ use Rattle.machine.specs.Calls.{Outcome}
 use Rattle.machine.specs.CallLists.{enter, fit, called, accepted}
 use Rattle.machine.specs.Machine.{shown}
 use Rattle.machine.specs.Demand1.{Demand1}
-use Rattle.turned_down.specs.RegisterFaults.{OpensNothing, EntersNothing, GrowsSlice, OpenGrowsSlice, FitWrites, HeldWrites, OpenWritesRefusing, OpensCapacity0, AsksCellsFirst, AsksRegisterLast}
+use Rattle.turned_down.specs.RegisterFaults.{OpensNothing, EntersNothing, GrowsSlice, OpenGrowsSlice, FitWrites, HeldWrites, OpenWritesRefusing, OpensCapacity0, AsksCellsFirst, AsksRegisterLast, TrustsBytes}
 use Rattle.turned_down.specs.TurnedDown.{fault, Turned}
 use Rattle.turned_down.proofs.Differences.{unequal}
 use Rattle.turned_down.proofs.RegisterCases.{cell, zero, one, rowless, roomless, computed, limits, plain, entering, opening-by}
@@ -109,4 +109,12 @@ asks-register-last = record {
       let z = f [] zero zero (computed .length-differs) in
       let e = ap (λ (x : Outcome). x .number) (d .refuses [] (fit zero zero) 4 (computed .register-asked)) in
       omega arith;
+}
+
+pub trusts-bytes : Turned (fault Demand1 TrustsBytes)
+unfolding TrustsBytes called
+trusts-bytes = record {
+  example = plain 0 0;
+  done = λ b g h z. omega arith;
+  refused = λ i f d. f [] zero (computed .nothing-unlaid) (ap (λ (x : Outcome). x .number) (d .refuses [] (enter zero) 4 (computed .nothing-asked)));
 }

@@ -18,10 +18,11 @@ use Rattle.machine.specs.Demand3.{liveAfter, live, Demand3}
 use Rattle.machine.proofs.LiveLaws.{live-machine}
 use Rattle.machine.proofs.LiveLists.{counts-live, fits-live}
 use Rattle.machine.proofs.FollowLaws.{after-open, follows-open, lists-after}
-use Rattle.turned_down.specs.RegisterFaults.{StoresFirst, FullUnlooked, NotHeldUnlooked, InventsCount, InventsFit, lastEntry, LeavesLastLine, AppendsEntries, PlacesFromZero, OpensNothing, EntersNothing, OpensAnySlice, RefusesOwnBytes}
+use Rattle.turned_down.specs.RegisterFaults.{StoresFirst, FullUnlooked, NotHeldUnlooked, InventsCount, InventsFit, lastEntry, LeavesLastLine, AppendsEntries, PlacesFromZero, InsertsLate, OpensNothing, EntersNothing, OpensAnySlice, RefusesOwnBytes}
 use Rattle.turned_down.specs.TurnedDown.{fault, Turned}
 use Rattle.turned_down.proofs.Differences.{unequal}
 use Rattle.turned_down.proofs.RegisterCases.{cell, zero, one, computed, limits, slice, opening, first-enter, second-enter, held-enter, lower-enter, first-strike, none-fit, zero-fit, number-is, place-is, bytes-are, plain, entering}
+use Rattle.turned_down.proofs.LateEntry.{enteredLate, late-line}
 
 pub stores-first : Turned (fault Demand3 StoresFirst)
 unfolding StoresFirst left called
@@ -125,6 +126,18 @@ places-from-zero = record {
       let none = f (shown cell []) zero (number-is _ _ (first-enter i d)) (computed .none-counted) in
       let first = place-is _ _ (first-enter i d) in
       omega arith;
+}
+
+pub inserts-late : Turned (fault Demand3 InsertsLate)
+unfolding InsertsLate
+inserts-late = record {
+  example = entering enteredLate;
+  done = λ b g z h p. late-line b g z p;
+  refused = λ i f d.
+      let b = shown cell (one ∷ []) in
+      let e = lower-enter i d in
+      let late = f b zero (number-is _ _ e) (omega (arith, computed .one-counted)) (omega (arith, place-is _ _ e, computed .one-counted)) in
+      unequal _ _ (computed .line-early) (rw (bytes-are _ _ e, place-is _ _ e) at late);
 }
 
 pub opens-nothing : Turned (fault Demand3 OpensNothing)

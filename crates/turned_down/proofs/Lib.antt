@@ -6,6 +6,8 @@ pub mod Represent
 pub mod Same
 pub mod Prune
 pub mod RegisterCases
+pub mod LateEntry
 pub mod Demand3
 pub mod Demand1
+pub mod Fit
 pub mod TurnedDown

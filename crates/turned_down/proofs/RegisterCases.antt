@@ -77,12 +77,15 @@ pub record Computed : Type 0 where
   pub one-absent : holds (leastIn cell one) (afterwards cell [] (enter zero ∷ [])) ≡ false
   pub one-lives : holds (leastIn cell one) (afterwards cell [] (enter zero ∷ enter one ∷ [])) ≡ true
   pub line-left : equal (drop (lastEntry (shown cell (zero ∷ []))) (shown cell [])) (drop (lastEntry (shown cell (zero ∷ []))) (shown cell (zero ∷ []))) ≡ false
+  pub line-early : equal (entryAt (cells (decodeShape (shown cell (one ∷ [])))) (shown cell (zero ∷ one ∷ [])) 1) (leastIn (decodeShape (shown cell (one ∷ []))) zero) ≡ false
   pub none-length : length (shown cell []) ≡ 39
   pub none-laid : laidOut (shown cell []) ≡ true
   pub above-top : capped (decodeShape (shown cell []) .top) (2 ∷ 2 ∷ []) ≡ false
   pub length-asked : firstNo (questionsOf (shown cell []) (enter (2 ∷ 2 ∷ []))) ≡ 6
   pub length-differs : eqb (length zero) (cells (decodeShape [])) ≡ false
   pub register-asked : firstNo (questionsOf [] (fit zero zero)) ≡ 5
+  pub nothing-unlaid : laidOut [] ≡ false
+  pub nothing-asked : firstNo (questionsOf [] (enter zero)) ≡ 5
   pub open-asked : firstNo (openQuestions cell (shown cell [])) ≡ 0
   pub enter-asked : firstNo (questionsOf (shown cell []) (enter zero)) ≡ 0
   pub rows-asked : firstNo (openQuestions rowless zero) ≡ 1
@@ -113,12 +116,15 @@ computed = record {
   one-absent = refl;
   one-lives = refl;
   line-left = refl;
+  line-early = refl;
   none-length = refl;
   none-laid = refl;
   above-top = refl;
   length-asked = refl;
   length-differs = refl;
   register-asked = refl;
+  nothing-unlaid = refl;
+  nothing-asked = refl;
   open-asked = refl;
   enter-asked = refl;
   rows-asked = refl;

@@ -11,6 +11,7 @@ use Rattle.canonical.proofs.CallLaws.{represent-answers, represent-least, same-
 use Rattle.bounds.specs.Prune.{pruned}
 use Rattle.bounds.specs.Demand2.{MeetsPrune}
 use Rattle.bounds.proofs.PruneLaws.{prunes, prune-exact}
+use Rattle.machine.specs.Calls.{fitted}
 use Rattle.machine.specs.CallLists.{registerCalls, Meets}
 use Rattle.machine.proofs.Demand1Laws.{demand1}
 use Rattle.machine.proofs.Demand3Laws.{demand3}
@@ -20,12 +21,13 @@ use Rattle.turned_down.proofs.Permutations.{orders-turned}
 use Rattle.turned_down.proofs.Represent.{hands-back, one-for-all, refuses-all, sorts-by-turns, follows-first, orders-backwards, pads-with-zeros, ignores-length, ignores-cells, writes-refusing, moves-refusing}
 use Rattle.turned_down.proofs.Same.{never-same, judges-by-row-sums, compares-sorted, orders-from-b, ignores-b, moves-with-103}
 use Rattle.turned_down.proofs.Prune.{never-prunes, never-empty, removes-nothing, raises-no-low, lowers-no-high, prunes-unsorted, invents-removed, writes-empty, shortens-bounds, leaves-above-top, ignores-order, prune-writes-refusing}
-use Rattle.turned_down.proofs.Demand3.{stores-first, full-unlooked, not-held-unlooked, invents-count, invents-fit, leaves-last-line, appends-entries, places-from-zero, opens-nothing, enters-nothing, opens-any-slice, refuses-own-bytes}
-use Rattle.turned_down.proofs.Demand1.{refuses-opens, refuses-enters, grows-slice, open-grows-slice, fit-writes, held-writes, open-writes-refusing, opens-capacity-0, asks-cells-first, asks-register-last}
+use Rattle.turned_down.proofs.Demand3.{stores-first, full-unlooked, not-held-unlooked, invents-count, invents-fit, leaves-last-line, appends-entries, places-from-zero, inserts-late, opens-nothing, enters-nothing, opens-any-slice, refuses-own-bytes}
+use Rattle.turned_down.proofs.Demand1.{refuses-opens, refuses-enters, grows-slice, open-grows-slice, fit-writes, held-writes, open-writes-refusing, opens-capacity-0, asks-cells-first, asks-register-last, trusts-bytes}
+use Rattle.turned_down.proofs.Fit.{fits-as-sent, prunes-lent-bounds}
 
 pub turned-down : TurnedDown
 unfolding TurnedDown table
-turned-down = (hands-back, (one-for-all, (refuses-all, (sorts-by-turns, (follows-first, (orders-backwards, (pads-with-zeros, (ignores-length, (ignores-cells, (writes-refusing, (moves-refusing, (never-same, (judges-by-row-sums, (compares-sorted, (orders-from-b, (ignores-b, (moves-with-103, (never-prunes, (never-empty, (removes-nothing, (raises-no-low, (lowers-no-high, (prunes-unsorted, (invents-removed, (writes-empty, (shortens-bounds, (leaves-above-top, (ignores-order, (prune-writes-refusing, (stores-first, (full-unlooked, (not-held-unlooked, (invents-count, (invents-fit, (leaves-last-line, (appends-entries, (places-from-zero, (opens-nothing, (enters-nothing, (opens-any-slice, (refuses-own-bytes, (refuses-opens, (refuses-enters, (grows-slice, (open-grows-slice, (fit-writes, (held-writes, (open-writes-refusing, (opens-capacity-0, (asks-cells-first, (asks-register-last, all-append Turned (orderFaults 8) (orderFaults 16) (orders-turned 8 (omega arith)) (orders-turned 16 (omega arith)))))))))))))))))))))))))))))))))))))))))))))))))))))
+turned-down = (hands-back, (one-for-all, (refuses-all, (sorts-by-turns, (follows-first, (orders-backwards, (pads-with-zeros, (ignores-length, (ignores-cells, (writes-refusing, (moves-refusing, (never-same, (judges-by-row-sums, (compares-sorted, (orders-from-b, (ignores-b, (moves-with-103, (never-prunes, (never-empty, (removes-nothing, (raises-no-low, (lowers-no-high, (prunes-unsorted, (invents-removed, (writes-empty, (shortens-bounds, (leaves-above-top, (ignores-order, (prune-writes-refusing, (stores-first, (full-unlooked, (not-held-unlooked, (invents-count, (invents-fit, (leaves-last-line, (appends-entries, (places-from-zero, (inserts-late, (opens-nothing, (enters-nothing, (opens-any-slice, (refuses-own-bytes, (refuses-opens, (refuses-enters, (grows-slice, (open-grows-slice, (fit-writes, (held-writes, (open-writes-refusing, (opens-capacity-0, (asks-cells-first, (asks-register-last, (trusts-bytes, (fits-as-sent, (prunes-lent-bounds, all-append Turned (orderFaults 8) (orderFaults 16) (orders-turned 8 (omega arith)) (orders-turned 16 (omega arith)))))))))))))))))))))))))))))))))))))))))))))))))))))))))
 
 ours : Meets registerCalls
 unfolding registerCalls
@@ -54,5 +56,9 @@ met = record {
   composes = λ width. (composedPadded width, λ n p k r. refl);
   inverts = λ width. (inversePadded width, λ n p. refl);
   tests = λ width. (isSound width, λ n p. refl);
-  keeps = (registerCalls, demand1 registerCalls ours, demand3 registerCalls ours);
+  keeps = (registerCalls, ours, demand1 registerCalls ours, demand3 registerCalls ours);
+  fits = (
+    λ b low high. record { outcome = fitted b low high; low = low; high = high },
+    record { answers = λ b low high. refl; low-kept = λ b low high. refl; high-kept = λ b low high. refl },
+  );
 }

@@ -1,4 +1,5 @@
--- Faults of programs for open, enter, strike and fit. The first are against demand 3, the others against demand 1.
+-- Faults of programs for open, enter, strike and fit. The first are against demand 3, the others against demand 1; the last two, of fit alone, are
+-- against its contract.
 --
 --   StoresFirst i        ==  the first plan is stored, and the others are only acknowledged
 --   FullUnlooked i       ==  a register with capacity entries accepts no enter, whether or not the class is held
@@ -9,6 +10,7 @@
 --   LeavesLastLine i     ==  after a strike the bytes from the last entry's line on are left behind
 --   AppendsEntries i     ==  a new entry goes behind the others
 --   PlacesFromZero i     ==  the first entry's place is 0
+--   InsertsLate i        ==  a new entry that others come behind stands one line late
 --   OpensNothing i       ==  every open is refused
 --   EntersNothing i      ==  every enter is refused
 --   OpensAnySlice i      ==  a slice of any length is accepted by open
@@ -21,16 +23,26 @@
 --   OpensCapacity0 i     ==  capacity 0 is accepted
 --   AsksCellsFirst i     ==  question 7 before question 6
 --   AsksRegisterLast i   ==  fit asks question 6 before question 5
+--   TrustsBytes i        ==  enter does not ask question 5
+--   FitsAsSent i         ==  fit counts the entries in the bounds as sent, also those that are no representatives
+--   prunedBy b low high  ==  what prune leaves of the bounds, with the register's numbers
+--   PrunesLentBounds f   ==  a fit leaves the pruned bounds in low, or in high
 use mathlib.Core.Path.{_≡_}
 use mathlib.Core.List.{List, _∷_}
 use mathlib.Core.Bool.{true, false}
+use mathlib.Core.Logic.{_⊎_}
 use Prim.Native.Nat.{ℕ, suc, _+_, _-_, _*_, _≤_}
 use lib.ListN.{length, drop}
 use lib.Dec.{eqb}
+use Rattle.permutations.specs.Lists.{select}
 use Rattle.grids.specs.Grids.{capped}
 use Rattle.grids.specs.Questions.{Limits}
-use Rattle.layout.specs.Layout.{Shape, cells, headLength, lineLength, layoutLength, count, decodeShape, InLimits, laidOut}
+use Rattle.bounds.specs.Bounds.{inBounds}
+use Rattle.bounds.specs.Prune.{Pruned, pruned}
+use Rattle.layout.specs.Layout.{Shape, cells, headLength, lineLength, layoutLength, count, entryAt, decodeShape, decode, InLimits, laidOut}
+use Rattle.machine.specs.Calls.{leastIn}
 use Rattle.machine.specs.CallLists.{Implementation, accepted}
+use Rattle.machine.specs.FitSlices.{Fitting}
 
 unfoldable pub StoresFirst : Implementation → Type 0
 StoresFirst i = (b g : List ℕ) → 1 ≤ count b → i .enters b g .bytes ≡ b
@@ -61,6 +73,11 @@ AppendsEntries i = (b g : List ℕ) → i .enters b g .number ≡ 0 → i .enter
 unfoldable pub PlacesFromZero : Implementation → Type 0
 PlacesFromZero i = (b g : List ℕ) → i .enters b g .number ≡ 0 → count b ≡ 0 → i .enters b g .place ≡ 0
 
+unfoldable pub InsertsLate : Implementation → Type 0
+InsertsLate i =
+    (b g : List ℕ) → i .enters b g .number ≡ 0 → 1 ≤ count b → i .enters b g .place ≤ count b →
+    entryAt (cells (decodeShape b)) (i .enters b g .bytes) (i .enters b g .place) ≡ leastIn (decodeShape b) g
+
 unfoldable pub OpensNothing : Implementation → Type 0
 OpensNothing i = (s : Shape) (b : List ℕ) → i .opens s b .number ≡ 0 → ⊥
 
@@ -86,6 +103,9 @@ AsksCellsFirst i = (b g : List ℕ) → laidOut b ≡ true → capped (decodeSha
 unfoldable pub AsksRegisterLast : Implementation → Type 0
 AsksRegisterLast i = (b low high : List ℕ) → eqb (length low) (cells (decodeShape b)) ≡ false → i .fits b low high .number ≡ 6
 
+unfoldable pub TrustsBytes : Implementation → Type 0
+TrustsBytes i = (b g : List ℕ) → laidOut b ≡ false → i .enters b g .number ≡ 5 → ⊥
+
 unfoldable pub GrowsSlice : Implementation → Type 0
 GrowsSlice i = (b g : List ℕ) → length (i .enters b g .bytes) ≡ suc (length b)
 
@@ -100,3 +120,15 @@ pub record HeldWrites (i : Implementation) : Type 0 where
   pub grid : List ℕ
   pub held : i .enters before grid .number ≡ 101
   pub changed : i .enters before grid .bytes ≡ before → ⊥
+
+unfoldable pub FitsAsSent : Implementation → Type 0
+FitsAsSent i =
+    (b low high : List ℕ) → i .fits b low high .number ≡ 0 →
+    i .fits b low high .place ≡ length (select (inBounds (cells (decodeShape b)) (decodeShape b .top) low high) (decode b .entries))
+
+abbrev pub prunedBy : List ℕ → List ℕ → List ℕ → Pruned
+prunedBy b low high = pruned (decodeShape b .rows) (decodeShape b .columns) (decodeShape b .top) low high
+
+unfoldable pub PrunesLentBounds : Fitting → Type 0
+PrunesLentBounds f =
+    (b low high : List ℕ) → f b low high .outcome .number ≡ 0 → (f b low high .low ≡ prunedBy b low high .low) ⊎ (f b low high .high ≡ prunedBy b low high .high)

@@ -13,14 +13,15 @@ use Rattle.permutations.specs.Lists.{All}
 use Rattle.canonical.specs.Programs.{Representing, MeetsRepresent, Comparing, MeetsSame}
 use Rattle.canonical.specs.Demand2.{RepresentLeast}
 use Rattle.bounds.specs.Demand2.{Pruning, PruneExact, MeetsPrune}
-use Rattle.machine.specs.CallLists.{Implementation}
+use Rattle.machine.specs.CallLists.{Implementation, Meets}
+use Rattle.machine.specs.FitSlices.{Fitting, MeetsFit}
 use Rattle.machine.specs.Demand1.{Demand1}
 use Rattle.machine.specs.Demand3.{Demand3}
 use Rattle.turned_down.specs.PermutationFaults.{Composing, Inverting, Testing, Composes, Inverts, Tests, ComposesBackwards, AcceptsRepeats, AcceptsTooLarge, AcceptsOtherSizes, ReturnsArgument, AcceptsSize0, AcceptsPast}
 use Rattle.turned_down.specs.RepresentFaults.{HandsBack, OneForAll, RefusesAll, SortsByTurns, FollowsFirst, OrdersBackwards, PadsWithZeros, IgnoresLength, IgnoresCells, WritesRefusing, MovesRefusing}
 use Rattle.turned_down.specs.SameFaults.{NeverSame, JudgesByRowSums, ComparesSorted, OrdersFromB, IgnoresB, MovesWith103}
 use Rattle.turned_down.specs.PruneFaults.{NeverPrunes, NeverEmpty, RemovesNothing, RaisesNoLow, LowersNoHigh, PrunesUnsorted, InventsRemoved, WritesEmpty, ShortensBounds, LeavesAboveTop, IgnoresOrder, PruneWritesRefusing}
-use Rattle.turned_down.specs.RegisterFaults.{StoresFirst, FullUnlooked, NotHeldUnlooked, InventsCount, InventsFit, LeavesLastLine, AppendsEntries, PlacesFromZero, OpensNothing, EntersNothing, OpensAnySlice, RefusesOwnBytes, GrowsSlice, OpenGrowsSlice, FitWrites, HeldWrites, OpenWritesRefusing, OpensCapacity0, AsksCellsFirst, AsksRegisterLast}
+use Rattle.turned_down.specs.RegisterFaults.{StoresFirst, FullUnlooked, NotHeldUnlooked, InventsCount, InventsFit, LeavesLastLine, AppendsEntries, PlacesFromZero, InsertsLate, OpensNothing, EntersNothing, OpensAnySlice, RefusesOwnBytes, GrowsSlice, OpenGrowsSlice, FitWrites, HeldWrites, OpenWritesRefusing, OpensCapacity0, AsksCellsFirst, AsksRegisterLast, TrustsBytes, FitsAsSent, PrunesLentBounds}
 
 pub record Fault : Type 1 where
   pub Program : Type 0
@@ -94,12 +95,13 @@ table =
     ∷ fault Demand3 LeavesLastLine
     ∷ fault Demand3 AppendsEntries
     ∷ fault Demand3 PlacesFromZero
+    ∷ fault Demand3 InsertsLate
     -- refusing all, or too little, or one's own register
     ∷ fault Demand3 OpensNothing
     ∷ fault Demand3 EntersNothing
     ∷ fault Demand3 OpensAnySlice
     ∷ fault Demand3 RefusesOwnBytes
-    -- by demand 1: refusing all; what a call writes; the order of the questions
+    -- by demand 1: refusing all; what a call writes; the order of the questions, and question 5 not asked
     ∷ fault Demand1 OpensNothing
     ∷ fault Demand1 EntersNothing
     ∷ fault Demand1 GrowsSlice
@@ -110,6 +112,10 @@ table =
     ∷ fault Demand1 OpensCapacity0
     ∷ fault Demand1 AsksCellsFirst
     ∷ fault Demand1 AsksRegisterLast
+    ∷ fault Demand1 TrustsBytes
+    -- by the contract of fit: entries that are no representatives counted in the bounds as sent; the bounds that it is lent pruned
+    ∷ fault Meets FitsAsSent
+    ∷ fault MeetsFit PrunesLentBounds
     -- orders that follow each other, and their reverses
     ∷ (orderFaults 8 ++ orderFaults 16)
 
@@ -123,4 +129,5 @@ pub record Met : Type 0 where
   pub composes : (width : ℕ) → (f : Composing) × Composes width f
   pub inverts : (width : ℕ) → (f : Inverting) × Inverts width f
   pub tests : (width : ℕ) → (f : Testing) × Tests width f
-  pub keeps : (i : Implementation) × Demand1 i × Demand3 i
+  pub keeps : (i : Implementation) × Meets i × Demand1 i × Demand3 i
+  pub fits : (f : Fitting) × MeetsFit f

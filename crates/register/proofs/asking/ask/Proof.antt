@@ -1,8 +1,9 @@
-use Rattle.register.proofs.AskSteps.{laid-head, head-size, asked-no, asked-yes}
-use mathlib.Core.Path.{_≡_, sym, _∙_}
-use borrow.Author.Tests.{not-true, not-false}
+-- `ask` meets its contract: question 5 gets a no, or what represent answers is the first no of questions 6 and 7.
+use mathlib.Core.Path.{sym, _∙_}
 use native.Mathlib.Omega.{arith}
 use borrow.Author.Needs.{needs}
+use borrow.Author.Tests.{not-true, not-false}
+use Rattle.register.proofs.AskSteps.{laid-head, head-size, asked-no, asked-yes}
 use Rattle.register.proofs.asking.ask.Statement.{statement}
 use Rattle.register.proofs.asking.ask.Tie as tie
 

@@ -1,5 +1,6 @@
-use Rattle.machine.specs.CallLists.{called, registerCalls}
+-- `call` meets its contract: each arm makes the call that its command names.
 use borrow.Author.Needs.{needs}
+use Rattle.machine.specs.CallLists.{called, registerCalls}
 use Rattle.register.proofs.calling.call.Statement.{statement}
 use Rattle.register.proofs.calling.call.Tie as tie
 

@@ -1,9 +1,8 @@
-use Rattle.register.proofs.AskSteps.{asked-fits, asked-book, call-refused, call-least}
-use Rattle.machine.proofs.LeastSteps.{entered-asked}
-use Rattle.machine.specs.Books.{enteredLeast}
-use mathlib.Core.Path.{_≡_, refl, sym, _∙_}
-use native.Mathlib.Omega.{arith}
+-- `enter` meets its contract: a refusal of questions 5, 6 and 7, or what entering the least grid gives.
 use borrow.Author.Needs.{needs}
+use Rattle.machine.specs.Books.{enteredLeast}
+use Rattle.machine.proofs.LeastSteps.{entered-asked}
+use Rattle.register.proofs.AskSteps.{asked-fits, asked-book, call-refused, call-least}
 use Rattle.register.proofs.entering.enter.Statement.{statement}
 use Rattle.register.proofs.entering.enter.Tie as tie
 

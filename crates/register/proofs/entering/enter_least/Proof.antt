@@ -1,12 +1,10 @@
-use Rattle.machine.proofs.BookMoves.{put-fits}
-use borrow.Rule.Slice.PartMut.{same-len-mid}
-use Rattle.machine.proofs.BookSteps.{place-small, enter-held, enter-full, enter-new}
-use Rattle.machine.proofs.BookMoves.{room-insert, room-part, count-part}
-use Rattle.machine.proofs.BookLaws.{book-sizes}
-use lib.ListN.{length}
-use mathlib.Core.Path.{_≡_, refl, sym, ap, _∙_}
+-- `enter_least` meets its contract: the grid stands at its place, or the register is full, or its line is put in there and the count goes up.
+use mathlib.Core.Path.{sym}
 use native.Mathlib.Omega.{arith}
 use borrow.Author.Needs.{needs}
+use Rattle.machine.proofs.BookLaws.{book-sizes}
+use Rattle.machine.proofs.BookMoves.{put-fits, room-insert, room-part, count-part}
+use Rattle.machine.proofs.BookSteps.{place-small, enter-held, enter-full, enter-new}
 use Rattle.register.proofs.entering.enter_least.Statement.{statement}
 use Rattle.register.proofs.entering.enter_least.Tie as tie
 

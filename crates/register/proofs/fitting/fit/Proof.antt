@@ -1,12 +1,13 @@
-use Rattle.register.proofs.FitParts.{part-kept, count-small, lengths-differ, fit-refused, fit-ready, fit-placed}
-use Rattle.register.proofs.AskSteps.{laid-head, head-size, head-book}
-use Rattle.machine.proofs.FitSteps.{fit-unlaid}
-use Rattle.permutations.proofs.ListLaws.{part-within}
+-- `fit` meets its contract: question 5 or 6 gets a no, prune's number is not 0, or the entries in the pruned copies are counted.
+use mathlib.Core.Path.{sym, _∙_}
 use Prim.Native.Nat.{_*_}
-use mathlib.Core.Path.{_≡_, sym, _∙_}
-use borrow.Author.Tests.{not-true, not-false}
 use native.Mathlib.Omega.{arith}
 use borrow.Author.Needs.{needs}
+use borrow.Author.Tests.{not-true, not-false}
+use Rattle.permutations.proofs.ListLaws.{part-within}
+use Rattle.machine.proofs.FitSteps.{fit-unlaid}
+use Rattle.register.proofs.AskSteps.{laid-head, head-size, head-book}
+use Rattle.register.proofs.FitParts.{part-kept, count-small, lengths-differ, fit-refused, fit-ready, fit-placed}
 use Rattle.register.proofs.fitting.fit.Statement.{statement}
 use Rattle.register.proofs.fitting.fit.Tie as tie
 

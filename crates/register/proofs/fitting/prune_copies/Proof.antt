@@ -1,8 +1,8 @@
-use Rattle.machine.proofs.FitSteps.{copies-pruned}
-use Rattle.bounds.proofs.NarrowSteps.{copied}
-use Rattle.bounds.specs.Prune.{Pruned}
-use mathlib.Core.Path.{_≡_, refl, sym, ap, _∙_}
+-- `prune_copies` meets its contract: the copies are the bounds, and prune leaves what it leaves of them.
+use mathlib.Core.Path.{sym, _∙_}
 use borrow.Author.Needs.{needs}
+use Rattle.bounds.proofs.NarrowSteps.{copied}
+use Rattle.machine.proofs.FitSteps.{copies-pruned}
 use Rattle.register.proofs.fitting.prune_copies.Statement.{statement}
 use Rattle.register.proofs.fitting.prune_copies.Tie as tie
 

@@ -1,8 +1,8 @@
-use mathlib.Core.Path.{_≡_, sym, _∙_}
-use Rattle.register.proofs.OpenSteps.{rows-no, columns-no, top-no, capacity-no, length-no, open-yes, length-is, open-small}
-use Rattle.grids.proofs.QuestionLaws.{size-fits}
-use native.Mathlib.Nat.{mul-le-mul}
+-- `open_no` meets its contract: each return has passed the questions before it, and gives the number of the one that got a no.
+use mathlib.Core.Path.{sym, _∙_}
 use native.Mathlib.Omega.{arith}
+use Rattle.grids.proofs.QuestionLaws.{size-fits}
+use Rattle.register.proofs.OpenSteps.{rows-no, columns-no, top-no, capacity-no, length-no, open-yes, length-is, open-small}
 use Rattle.register.proofs.opening.open_no.Statement.{statement}
 use Rattle.register.proofs.opening.open_no.Tie as tie
 

@@ -1,6 +1,6 @@
-use Rattle.register.proofs.OpenSteps.{opened-no, opened-passes, opened-yes}
-use mathlib.Core.Path.{_≡_, refl}
+-- `open_register` meets its contract: a refusal, or the register without entries is written.
 use borrow.Author.Needs.{needs}
+use Rattle.register.proofs.OpenSteps.{opened-no, opened-passes, opened-yes}
 use Rattle.register.proofs.opening.open_register.Statement.{statement}
 use Rattle.register.proofs.opening.open_register.Tie as tie
 

@@ -1,14 +1,12 @@
-use Rattle.machine.proofs.BookMoves.{room-part}
-use lib.Seq.{length-take-le}
-use Rattle.register.proofs.OpenSteps.{Filling, filling-head, filling-next, filling-all, filling-room, limits-size, head-fits}
-use Rattle.machine.specs.Books.{shape}
-use Rattle.layout.specs.Layout.{lineLength}
-use Rattle.grids.proofs.QuestionLaws.{size-fits}
-use lib.ListN.{length}
-use Prim.Native.Nat.{_+_, _-_, _*_, _≤_}
-use mathlib.Core.Path.{_≡_, refl, sym, ap, _∙_}
-use borrow.Author.Needs.{needs}
+-- `write_empty` meets its contract. The loop's invariant: line 1 and the blank lines before line e are written. The measure is what is left of the capacity.
+use mathlib.Core.Path.{sym, _∙_}
+use Prim.Native.Nat.{_-_}
 use native.Mathlib.Omega.{arith}
+use lib.Seq.{length-take-le}
+use borrow.Author.Needs.{needs}
+use Rattle.machine.specs.Books.{shape}
+use Rattle.machine.proofs.BookMoves.{room-part}
+use Rattle.register.proofs.OpenSteps.{Filling, filling-head, filling-next, filling-all, filling-room, limits-size, head-fits}
 use Rattle.register.proofs.opening.write_empty.Statement.{statement}
 use Rattle.register.proofs.opening.write_empty.Tie as tie
 

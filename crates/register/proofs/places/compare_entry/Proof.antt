@@ -1,9 +1,10 @@
-use Rattle.register.proofs.PlaceSteps.{part-length, entry-line, entry-length, entry-compared}
-use Rattle.machine.proofs.BookLaws.{book-sizes, entry-fits}
-use Rattle.permutations.proofs.ListLaws.{part-within}
-use lib.ListN.{length}
+-- `compare_entry` meets its contract: what is read from the line is the entry.
 use native.Mathlib.Omega.{arith}
+use lib.ListN.{length}
 use borrow.Author.Needs.{needs}
+use Rattle.permutations.proofs.ListLaws.{part-within}
+use Rattle.machine.proofs.BookLaws.{book-sizes, entry-fits}
+use Rattle.register.proofs.PlaceSteps.{part-length, entry-line, entry-length, entry-compared}
 use Rattle.register.proofs.places.compare_entry.Statement.{statement}
 use Rattle.register.proofs.places.compare_entry.Tie as tie
 

@@ -1,9 +1,9 @@
-use Rattle.grids.proofs.ComparisonLaws.{less-yes, less-no}
-use borrow.Author.Tests.{not-true, not-false}
-use Rattle.register.proofs.PlaceSteps.{halved-low, halved-high}
-use Rattle.machine.proofs.BookLaws.{book-ascends, book-count}
+-- `halved` meets its contract: the entry in the middle says in which half the place is.
 use native.Mathlib.Omega.{arith}
 use borrow.Author.Needs.{needs}
+use Rattle.grids.proofs.ComparisonLaws.{less-yes, less-no}
+use Rattle.machine.proofs.BookLaws.{book-ascends, book-count}
+use Rattle.register.proofs.PlaceSteps.{halved-low, halved-high}
 use Rattle.register.proofs.places.halved.Statement.{statement}
 use Rattle.register.proofs.places.halved.Tie as tie
 

@@ -1,6 +1,6 @@
-use Rattle.register.proofs.PlaceSteps.{past-entry, at-entry}
-use Rattle.grids.proofs.ComparisonLaws.{equal-yes, equal-no}
+-- `is_entry` meets its contract: no line, or the comparison with its entry.
 use borrow.Author.Needs.{needs}
+use Rattle.register.proofs.PlaceSteps.{past-entry, at-entry}
 use Rattle.register.proofs.places.is_entry.Statement.{statement}
 use Rattle.register.proofs.places.is_entry.Tie as tie
 

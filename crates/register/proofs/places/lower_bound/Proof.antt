@@ -1,11 +1,10 @@
-use lib.ListN.{length}
-use mathlib.Core.Path.{_≡_}
-use Rattle.machine.proofs.BookLaws.{book-count}
-use Rattle.machine.proofs.PlaceLaws.{between-start, between-lower}
-use Rattle.machine.specs.Places.{Between}
-use Rattle.layout.specs.Layout.{decode}
+-- `lower_bound` meets its contract. The loop's invariant: the place is in the span. The measure is the span's length.
 use Prim.Native.Nat.{_-_}
 use native.Mathlib.Omega.{arith}
+use Rattle.layout.specs.Layout.{decode}
+use Rattle.machine.specs.Places.{Between}
+use Rattle.machine.proofs.BookLaws.{book-count}
+use Rattle.machine.proofs.PlaceLaws.{between-start, between-lower}
 use Rattle.register.proofs.places.lower_bound.Statement.{statement}
 use Rattle.register.proofs.places.lower_bound.Tie as tie
 

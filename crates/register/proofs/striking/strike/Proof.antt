@@ -1,9 +1,8 @@
-use Rattle.register.proofs.AskSteps.{asked-fits, asked-book, call-refused, call-least}
-use Rattle.machine.proofs.LeastSteps.{struck-asked}
-use Rattle.machine.specs.Books.{struckLeast}
-use mathlib.Core.Path.{_≡_, refl, sym, _∙_}
-use native.Mathlib.Omega.{arith}
+-- `strike` meets its contract: a refusal of questions 5, 6 and 7, or what striking the least grid gives.
 use borrow.Author.Needs.{needs}
+use Rattle.machine.specs.Books.{struckLeast}
+use Rattle.machine.proofs.LeastSteps.{struck-asked}
+use Rattle.register.proofs.AskSteps.{asked-fits, asked-book, call-refused, call-least}
 use Rattle.register.proofs.striking.strike.Statement.{statement}
 use Rattle.register.proofs.striking.strike.Tie as tie
 

@@ -1,11 +1,11 @@
-use borrow.Author.Tests.{not-true, not-false}
-use Rattle.machine.proofs.BookSteps.{place-small, place-stands, strike-none, strike-held}
-use Rattle.machine.proofs.BookMoves.{room-remove, room-part, put-fits, count-part}
-use Rattle.machine.proofs.BookLaws.{book-sizes}
-use lib.ListN.{length}
-use mathlib.Core.Path.{_≡_, refl, sym, ap, _∙_}
+-- `strike_least` meets its contract: the grid does not stand at its place, or its line is taken out there and the count goes down.
+use mathlib.Core.Path.{sym}
 use native.Mathlib.Omega.{arith}
 use borrow.Author.Needs.{needs}
+use borrow.Author.Tests.{not-true, not-false}
+use Rattle.machine.proofs.BookLaws.{book-sizes}
+use Rattle.machine.proofs.BookMoves.{room-remove, room-part, put-fits, count-part}
+use Rattle.machine.proofs.BookSteps.{place-small, place-stands, strike-none, strike-held}
 use Rattle.register.proofs.striking.strike_least.Statement.{statement}
 use Rattle.register.proofs.striking.strike_least.Tie as tie
 
