@@ -2,17 +2,18 @@
 --
 --   place-small           ==  the place is a small number
 --   held-found, place-stands  ==  what is found at the place says whether the grid is held, and that it stands there
+--   enter-room, strike-room, strike-place  ==  there is room for the lines that are moved; a grid that is struck stands at its place
 --   enter-held, enter-full, enter-new  ==  the ways out of enter
 --   strike-none, strike-held           ==  the ways out of strike
 use mathlib.Core.Path.{_≡_, refl, sym, ap, ap₂, _∙_}
 use mathlib.Core.List.{List, [], _∷_, _++_}
-use mathlib.Core.Bool.{Bool, true, false, _&&_}
+use mathlib.Core.Bool.{Bool, true, false, not, _&&_}
 use Prim.Native.Nat.{ℕ, suc, _+_, _-_, _*_, _≤_, _<_}
 use native.Mathlib.Numerals.{add-one}
 use native.Mathlib.Omega.{arith}
 use lib.ListN.{length, getD, take, drop}
 use lib.Dec.{ltb}
-use borrow.Author.Tests.{ltb-true}
+use borrow.Author.Tests.{ltb-true, not-false}
 use borrow.Rule.Slice.PartMut.{midOf, putMid}
 use Rattle.permutations.proofs.BoolLaws.{and-yes}
 use Rattle.grids.specs.Order.{equal}
@@ -24,11 +25,14 @@ use Rattle.machine.specs.Places.{Lower}
 use Rattle.machine.specs.Books.{placed, Book, enteredLeast, struckLeast}
 use Rattle.machine.proofs.BookLaws.{book-count, book-ascends, book-sizes}
 use Rattle.machine.proofs.LeastSteps.{held-there, entered-held, entered-full, entered-new, struck-none, struck-held}
-use Rattle.machine.proofs.BookMoves.{bytes-inserted, bytes-removed}
+use Rattle.machine.proofs.BookMoves.{Room, room-insert, room-remove, bytes-inserted, bytes-removed}
 
 module _ {n p : ℕ} {b g : List ℕ} (k : Book (length g) n b) (h : Lower (decode b .entries) g p) where
   pub place-small : (p ≤ n) × (n ≤ 500)
   place-small = let z = book-sizes k in (omega (arith, h .within, book-count k), omega (arith, z .count-fits, z .capacity-fits))
+
+  pub enter-room : {capacity w : ℕ} → capacity ≡ decodeShape b .capacity → n < capacity → w ≡ lineLength (length g) → Room b (31 + p * w) ((n - p) * w) w
+  enter-room {capacity} {w} c r q = room-insert k p w q (place-small .0) (rw c at r)
 
   shape-capacity : decodeShape b .capacity ≡ decode b .shape .capacity
   unfolding decode
@@ -40,6 +44,13 @@ module _ {n p : ℕ} {b g : List ℕ} (k : Book (length g) n b) (h : Lower (deco
 
     pub place-stands : t ≡ true → (p < n) × (getD (decode b .entries) p [] ≡ g)
     place-stands y = let e = and-yes (ltb p n) (equal (getD (decode b .entries) p []) g) (sym found ∙ y) in (ltb-true p n (e .0), equal-eq (getD (decode b .entries) p []) g (e .1))
+
+    -- the same of a test that it does not stand there
+    pub strike-place : not t ≡ false → p < n
+    strike-place y = place-stands (not-false t y) .0
+
+    pub strike-room : not t ≡ false → {w : ℕ} → w ≡ lineLength (length g) → Room b (31 + p * w) ((n - (p + 1)) * w) w
+    strike-room y {w} q = room-remove k p w q (strike-place y)
 
     pub enter-held : t ≡ true → placed 101 (p + 1) b ≡ enteredLeast b g
     enter-held y = rw add-one (sym (entered-held b (book-ascends k) h (sym held-found ∙ y)))

@@ -1,5 +1,6 @@
 -- Questions 5, 6 and 7, from what the code finds to what is asked.
 --
+--   laid-yes          ==  question 5 got a yes
 --   laid-head         ==  a register is longer than line 1
 --   head-rows, head-columns, head-top, head-capacity  ==  line 1 as the code holds it
 --   head-limits, head-size, head-book  ==  its numbers are within the limits, and the register has them
@@ -10,13 +11,13 @@
 --   call-refused, call-least  ==  a call that asks these first, and then goes by the least grid
 use mathlib.Core.Path.{_≡_, refl, sym, ap, ap₂, _∙_}
 use mathlib.Core.List.{List, [], _∷_, _++_}
-use mathlib.Core.Bool.{true, false}
+use mathlib.Core.Bool.{Bool, true, false, not}
 use Prim.Native.Nat.{ℕ, _+_, _-_, _*_, _≤_, _<_}
 use native.Mathlib.Omega.{arith}
 use lib.ListN.{length, take, drop}
 use lib.Seq.{take-at}
 use lib.Dec.{eqb}
-use borrow.Author.Tests.{eq-eqb}
+use borrow.Author.Tests.{eq-eqb, not-false}
 use borrow.Rule.Slice.PartMut.{midOf, putMid, same-len-mid}
 use Rattle.grids.specs.Least.{least}
 use Rattle.grids.specs.Questions.{firstNo, Limits, question1, question2, question3, question6, question7}
@@ -34,6 +35,9 @@ use Rattle.machine.proofs.BookLaws.{book-sizes}
 use Rattle.register.specs.declared.asking.Asked.{Asked}
 use Rattle.register.specs.Asked.{Asks}
 use Rattle.register.proofs.PlaceSteps.{part-length}
+
+pub laid-yes : {t : Bool} (b : List ℕ) → t ≡ laidOut b → not t ≡ false → laidOut b ≡ true
+laid-yes {t} b e y = sym e ∙ not-false t y
 
 pub laid-head : (b : List ℕ) → laidOut b ≡ true → 31 ≤ length b
 unfolding layoutLength

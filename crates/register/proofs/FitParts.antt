@@ -1,6 +1,6 @@
 -- Fit, from what the code finds to the outcome: the copies of the bounds are the first elements of arrays.
 --
---   part-kept     ==  the first elements of an array, put back after a call
+--   copy-fits, copy-part  ==  the copies of the bounds, the first elements of arrays, put back after a call
 --   lengths-differ  ==  a slice of another length than the register's grids
 --   fit-refused   ==  prune's number is not 0
 --   fit-ready     ==  what the count requires
@@ -13,7 +13,7 @@ use Prim.Native.Nat.{ℕ, _-_, _*_, _≤_}
 use native.Mathlib.Omega.{arith}
 use lib.ListN.{length, take}
 use Rattle.permutations.specs.Lists.{select}
-use Rattle.permutations.proofs.ListLaws.{part-is, length-select}
+use Rattle.permutations.proofs.ListLaws.{part-within, part-is, length-select}
 use Rattle.bounds.specs.Bounds.{IsBounds, inBounds}
 use Rattle.layout.specs.Layout.{Shape, cells, decodeShape, decode, laidOut}
 use Rattle.lines.specs.declared.head.Head.{Head}
@@ -22,14 +22,22 @@ use Rattle.machine.specs.Calls.{fitted}
 use Rattle.machine.specs.Books.{placed, Book, PrunesCopies}
 use Rattle.machine.proofs.BookLaws.{book-count, book-sizes}
 use Rattle.machine.proofs.FitSteps.{fit-lengths, fit-none, fit-bounds, fit-counts, pruned-sizes}
-use Rattle.register.proofs.AskSteps.{head-book}
+use Rattle.register.proofs.AskSteps.{head-size, head-book}
 use Rattle.register.proofs.PlaceSteps.{part-length}
-
-pub part-kept : (z x x′ : List ℕ) (k : ℕ) → k ≤ length z → length x ≡ length (take (k - 0) z) → (length x ≡ k) × (take (k - 0) (x ++ x′) ≡ x)
-part-kept z x x′ k h e = let l : length x ≡ k = e ∙ part-length z k h in (l, part-is x x′ k l)
 
 pub count-small : {size n : ℕ} {b : List ℕ} → Book size n b → (t : List ℕ → Bool) {r : ℕ} → r ≡ length (select t (decode b .entries)) → r ≤ 500
 count-small {b = b} k t e = let z = book-sizes k in omega (arith, e, length-select t (decode b .entries), book-count k, z .count-fits, z .capacity-fits)
+
+-- the copies of the bounds are the first elements of arrays z, put back as x after a call
+module _ {b : List ℕ} {h : Head} (laid : laidOut b ≡ true) (st : States b h) (z x x′ : List ℕ) (wide : 128 ≤ length z) (kept : length x ≡ length (take (h .rows * h .columns - 0) z)) where
+  copy-length : length x ≡ h .rows * h .columns
+  copy-length = kept ∙ part-length z (h .rows * h .columns) (omega (arith, head-size laid st))
+
+  pub copy-fits : h .rows * h .columns ≤ length (x ++ x′)
+  copy-fits = part-within x x′ (h .rows * h .columns) copy-length
+
+  pub copy-part : take (h .rows * h .columns - 0) (x ++ x′) ≡ x
+  copy-part = part-is x x′ (h .rows * h .columns) copy-length
 
 module _ {b : List ℕ} {h : Head} (laid : laidOut b ≡ true) (st : States b h) (low high : List ℕ) where
   sized : cells (decode b .shape) ≡ h .rows * h .columns

@@ -2,8 +2,8 @@
 use mathlib.Core.Path.{sym, _∙_}
 use native.Mathlib.Omega.{arith}
 use borrow.Author.Needs.{needs}
-use borrow.Author.Tests.{not-true, not-false}
-use Rattle.register.proofs.AskSteps.{laid-head, head-size, asked-no, asked-yes}
+use borrow.Author.Tests.{not-true}
+use Rattle.register.proofs.AskSteps.{laid-yes, laid-head, head-size, asked-no, asked-yes}
 use Rattle.register.proofs.asking.ask.Statement.{statement}
 use Rattle.register.proofs.asking.ask.Tie as tie
 
@@ -19,14 +19,10 @@ returns c =
     asked-no (sym (t .ensures) ∙ not-true (t .result) (c .before .if1 .taken)) (c .before .before .before .before .before .before .pre) (c .refusal .ensures)
 
 read-head-requires : tie.Need-read-head-requires
-read-head-requires c κs = let t = c .before .is-laid-out in laid-head _ (sym (t .ensures) ∙ not-false (t .result) (c .if1 .left))
+read-head-requires c κs = laid-head _ (laid-yes _ (c .before .is-laid-out .ensures) (c .if1 .left))
 
 mul-size : tie.Need-mul-size
-mul-size c =
-    let t = c .before .before .before .is-laid-out in
-    let laid = sym (t .ensures) ∙ not-false (t .result) (c .before .before .if1 .left) in
-    let h = c .before .read-head in
-    omega (arith, head-size laid (h .ensures))
+mul-size c = omega (arith, head-size (laid-yes _ (c .before .before .before .is-laid-out .ensures) (c .before .before .if1 .left)) (c .before .read-head .ensures))
 
 sub-represent : tie.Need-sub-represent
 sub-represent c = search needs
@@ -35,11 +31,7 @@ part-represent-start : tie.Need-part-represent-start
 part-represent-start c = search needs
 
 part-represent-end : tie.Need-part-represent-end
-part-represent-end c =
-    let t = c .before .before .before .is-laid-out in
-    let laid = sym (t .ensures) ∙ not-false (t .result) (c .before .before .if1 .left) in
-    let h = c .before .read-head in
-    omega (arith, head-size laid (h .ensures), c .before .before .before .before .before .before .before .pre)
+part-represent-end c = omega (arith, head-size (laid-yes _ (c .before .before .before .is-laid-out .ensures) (c .before .before .if1 .left)) (c .before .read-head .ensures), c .before .before .before .before .before .before .before .pre)
 
 represent-requires : tie.Need-represent-requires
 represent-requires c κs = search needs
@@ -49,10 +41,9 @@ same-length c = search needs
 
 returns-2 : tie.Need-returns-2
 returns-2 c =
-    let t = c .before .before .before .before .before .before .before .is-laid-out in
-    let laid = sym (t .ensures) ∙ not-false (t .result) (c .before .before .before .before .before .before .if1 .left) in
-    let h = c .before .before .before .before .before .read-head in
-    asked-yes laid (h .ensures) _ (c .before .before .before .before .before .before .before .before .before .before .before .args .least .now) (c .before .before .represent .last .1 .1 .1 .1 .0) (c .before .before .before .before .before .before .before .before .before .before .before .pre) (c .before .before .represent .kept .1 .1 .1 .1 .0) (c .before .before .represent .ensures)
+    let a = c .before .before .before .before .before .before .before .before .before .before .before in
+    let r = c .before .before .represent in
+    asked-yes (laid-yes _ (c .before .before .before .before .before .before .before .is-laid-out .ensures) (c .before .before .before .before .before .before .if1 .left)) (c .before .before .before .before .before .read-head .ensures) _ (a .args .least .now) (r .last .1 .1 .1 .1 .0) (a .pre) (r .kept .1 .1 .1 .1 .0) (r .ensures)
 
 pub ask-spec : {M : Type 1} → statement M
 ask-spec =

@@ -3,8 +3,8 @@ use mathlib.Core.Path.{sym}
 use native.Mathlib.Omega.{arith}
 use borrow.Author.Needs.{needs}
 use Rattle.machine.proofs.BookLaws.{book-sizes}
-use Rattle.machine.proofs.BookMoves.{put-fits, room-insert, room-part, count-part}
-use Rattle.machine.proofs.BookSteps.{place-small, enter-held, enter-full, enter-new}
+use Rattle.machine.proofs.BookMoves.{put-fits, room-part, count-part}
+use Rattle.machine.proofs.BookSteps.{enter-room, place-small, enter-held, enter-full, enter-new}
 use Rattle.register.proofs.entering.enter_least.Statement.{statement}
 use Rattle.register.proofs.entering.enter_least.Tie as tie
 
@@ -48,16 +48,10 @@ line-length-requires : tie.Need-line-length-requires
 line-length-requires c κs = book-sizes (c .before .before .before .before .before .before .before .before .pre .0) .cells-fit
 
 mul-start : tie.Need-mul-start
-mul-start c =
-    let a = c .before .before .before .before .before .before .before .before .before in
-    let r = room-insert (a .pre .0) (c .before .before .before .before .before .lower-bound .result) (c .line-length .result) (c .line-length .ensures .0) (place-small (a .pre .0) (c .before .before .before .before .before .lower-bound .ensures) .0) (omega (arith, a .pre .1)) in
-    omega (arith, r .small)
+mul-start c = omega (arith, (enter-room (c .before .before .before .before .before .before .before .before .before .pre .0) (c .before .before .before .before .before .lower-bound .ensures) (c .before .before .before .before .before .before .before .before .before .pre .1) (c .before .if2 .left) (c .line-length .ensures .0)) .small)
 
 add-start : tie.Need-add-start
-add-start c =
-    let a = c .before .before .before .before .before .before .before .before .before in
-    let r = room-insert (a .pre .0) (c .before .before .before .before .before .lower-bound .result) (c .line-length .result) (c .line-length .ensures .0) (place-small (a .pre .0) (c .before .before .before .before .before .lower-bound .ensures) .0) (omega (arith, a .pre .1)) in
-    omega (arith, r .small)
+add-start c = omega (arith, (enter-room (c .before .before .before .before .before .before .before .before .before .pre .0) (c .before .before .before .before .before .lower-bound .ensures) (c .before .before .before .before .before .before .before .before .before .pre .1) (c .before .if2 .left) (c .line-length .ensures .0)) .small)
 
 sub-moved : tie.Need-sub-moved
 sub-moved c =
@@ -65,32 +59,19 @@ sub-moved c =
     place-small (a .pre .0) (c .before .before .before .before .before .lower-bound .ensures) .0
 
 mul-moved : tie.Need-mul-moved
-mul-moved c =
-    let a = c .before .before .before .before .before .before .before .before .before in
-    let r = room-insert (a .pre .0) (c .before .before .before .before .before .lower-bound .result) (c .line-length .result) (c .line-length .ensures .0) (place-small (a .pre .0) (c .before .before .before .before .before .lower-bound .ensures) .0) (omega (arith, a .pre .1)) in
-    omega (arith, r .small)
+mul-moved c = omega (arith, (enter-room (c .before .before .before .before .before .before .before .before .before .pre .0) (c .before .before .before .before .before .lower-bound .ensures) (c .before .before .before .before .before .before .before .before .before .pre .1) (c .before .if2 .left) (c .line-length .ensures .0)) .small)
 
 sub-insert-line : tie.Need-sub-insert-line
-sub-insert-line c =
-    let a = c .before .before .before .before .before .before .before .before .before in
-    let r = room-insert (a .pre .0) (c .before .before .before .before .before .lower-bound .result) (c .line-length .result) (c .line-length .ensures .0) (place-small (a .pre .0) (c .before .before .before .before .before .lower-bound .ensures) .0) (omega (arith, a .pre .1)) in
-    r .start-inside
+sub-insert-line c = (enter-room (c .before .before .before .before .before .before .before .before .before .pre .0) (c .before .before .before .before .before .lower-bound .ensures) (c .before .before .before .before .before .before .before .before .before .pre .1) (c .before .if2 .left) (c .line-length .ensures .0)) .start-inside
 
 part-insert-line-start : tie.Need-part-insert-line-start
-part-insert-line-start c =
-    let a = c .before .before .before .before .before .before .before .before .before in
-    let r = room-insert (a .pre .0) (c .before .before .before .before .before .lower-bound .result) (c .line-length .result) (c .line-length .ensures .0) (place-small (a .pre .0) (c .before .before .before .before .before .lower-bound .ensures) .0) (omega (arith, a .pre .1)) in
-    r .start-inside
+part-insert-line-start c = (enter-room (c .before .before .before .before .before .before .before .before .before .pre .0) (c .before .before .before .before .before .lower-bound .ensures) (c .before .before .before .before .before .before .before .before .before .pre .1) (c .before .if2 .left) (c .line-length .ensures .0)) .start-inside
 
 part-insert-line-end : tie.Need-part-insert-line-end
 part-insert-line-end c = search needs
 
 insert-line-requires : tie.Need-insert-line-requires
-insert-line-requires c κs =
-    let a = c .before .before .before .before .before .before .before .before .before .before in
-    let l = c .before .line-length in
-    let r = room-insert (a .pre .0) (c .before .before .before .before .before .before .lower-bound .result) (l .result) (l .ensures .0) (place-small (a .pre .0) (c .before .before .before .before .before .before .lower-bound .ensures) .0) (omega (arith, a .pre .1)) in
-    (book-sizes (a .pre .0) .cells-fit, room-part r (sym (l .ensures .0)))
+insert-line-requires c κs = (book-sizes (c .before .before .before .before .before .before .before .before .before .before .pre .0) .cells-fit, room-part (enter-room (c .before .before .before .before .before .before .before .before .before .before .pre .0) (c .before .before .before .before .before .before .lower-bound .ensures) (c .before .before .before .before .before .before .before .before .before .before .pre .1) (c .before .before .if2 .left) (c .before .line-length .ensures .0)) (sym (c .before .line-length .ensures .0)))
 
 sub-write-number : tie.Need-sub-write-number
 sub-write-number c = search needs
@@ -100,12 +81,8 @@ part-write-number-start c = search needs
 
 part-write-number-end : tie.Need-part-write-number-end
 part-write-number-end c =
-    let a = c .before .before .before .before .before .before .before .before .before .before .before .before .before in
-    let l = c .before .before .before .before .line-length in
-    let p = c .before .before .before .before .before .before .before .before .before .lower-bound in
-    let r = room-insert (a .pre .0) (p .result) (l .result) (l .ensures .0) (place-small (a .pre .0) (p .ensures) .0) (omega (arith, a .pre .1)) in
     let d = c .before .before .insert-line in
-    omega (arith, put-fits r (d .last .0) (d .kept .0))
+    omega (arith, put-fits (enter-room (c .before .before .before .before .before .before .before .before .before .before .before .before .before .pre .0) (c .before .before .before .before .before .before .before .before .before .lower-bound .ensures) (c .before .before .before .before .before .before .before .before .before .before .before .before .before .pre .1) (c .before .before .before .before .before .if2 .left) (c .before .before .before .before .line-length .ensures .0)) (d .last .0) (d .kept .0))
 
 add-write-number : tie.Need-add-write-number
 add-write-number c = search needs
@@ -130,11 +107,10 @@ returns-3 : tie.Need-returns-3
 returns-3 c =
     let a = c .before .before .before .before .before .before .before .before .before .before .before .before .before .before .before .before .before in
     let l = c .before .before .before .before .before .before .before .before .line-length in
-    let p = c .before .before .before .before .before .before .before .before .before .before .before .before .before .lower-bound in
-    let r = room-insert (a .pre .0) (p .result) (l .result) (l .ensures .0) (place-small (a .pre .0) (p .ensures) .0) (omega (arith, a .pre .1)) in
     let d = c .before .before .before .before .before .before .insert-line in
     let f = c .before .before .write-number in
-    enter-new (a .pre .0) (p .ensures) (c .before .before .before .before .before .before .before .before .before .before .before .is-entry .ensures) (c .before .before .before .before .before .before .before .before .before .before .if1 .left) (omega (arith, a .pre .1)) (l .result) (l .ensures .0) (d .last .0) (f .last .0) (d .ensures) (f .ensures) (count-part r (d .last .0) (d .kept .0))
+    enter-new (a .pre .0) (c .before .before .before .before .before .before .before .before .before .before .before .before .before .lower-bound .ensures) (c .before .before .before .before .before .before .before .before .before .before .before .is-entry .ensures) (c .before .before .before .before .before .before .before .before .before .before .if1 .left) (omega (arith, a .pre .1)) (l .result) (l .ensures .0) (d .last .0) (f .last .0) (d .ensures) (f .ensures)
+    (count-part (enter-room (c .before .before .before .before .before .before .before .before .before .before .before .before .before .before .before .before .before .pre .0) (c .before .before .before .before .before .before .before .before .before .before .before .before .before .lower-bound .ensures) (c .before .before .before .before .before .before .before .before .before .before .before .before .before .before .before .before .before .pre .1) (c .before .before .before .before .before .before .before .before .before .if2 .left) (c .before .before .before .before .before .before .before .before .line-length .ensures .0)) (d .last .0) (d .kept .0))
 
 pub enter-least-spec : {M : Type 1} → statement M
 enter-least-spec =

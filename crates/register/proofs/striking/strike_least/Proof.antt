@@ -4,8 +4,8 @@ use native.Mathlib.Omega.{arith}
 use borrow.Author.Needs.{needs}
 use borrow.Author.Tests.{not-true, not-false}
 use Rattle.machine.proofs.BookLaws.{book-sizes}
-use Rattle.machine.proofs.BookMoves.{room-remove, room-part, put-fits, count-part}
-use Rattle.machine.proofs.BookSteps.{place-small, place-stands, strike-none, strike-held}
+use Rattle.machine.proofs.BookMoves.{room-part, put-fits, count-part}
+use Rattle.machine.proofs.BookSteps.{strike-place, strike-room, place-small, strike-none, strike-held}
 use Rattle.register.proofs.striking.strike_least.Statement.{statement}
 use Rattle.register.proofs.striking.strike_least.Tie as tie
 
@@ -31,95 +31,31 @@ line-length-requires : tie.Need-line-length-requires
 line-length-requires c κs = book-sizes (c .before .before .before .before .before .before .before .pre) .cells-fit
 
 mul-start : tie.Need-mul-start
-mul-start c =
-    let a = c .before .before .before .before .before .before .before .before in
-    let l = c .line-length in
-    let p = c .before .before .before .before .lower-bound in
-    let t = c .before .before .is-entry in
-    let y = not-false (t .result) (c .before .if1 .left) in
-    let s = place-stands (a .pre) (p .ensures) (t .ensures) y in
-    let r = room-remove (a .pre) (p .result) (l .result) (l .ensures .0) (s .0) in
-    omega (arith, r .small)
+mul-start c = omega (arith, (strike-room (c .before .before .before .before .before .before .before .before .pre) (c .before .before .before .before .lower-bound .ensures) (c .before .before .is-entry .ensures) (c .before .if1 .left) (c .line-length .ensures .0)) .small)
 
 add-start : tie.Need-add-start
-add-start c =
-    let a = c .before .before .before .before .before .before .before .before in
-    let l = c .line-length in
-    let p = c .before .before .before .before .lower-bound in
-    let t = c .before .before .is-entry in
-    let y = not-false (t .result) (c .before .if1 .left) in
-    let s = place-stands (a .pre) (p .ensures) (t .ensures) y in
-    let r = room-remove (a .pre) (p .result) (l .result) (l .ensures .0) (s .0) in
-    omega (arith, r .small)
+add-start c = omega (arith, (strike-room (c .before .before .before .before .before .before .before .before .pre) (c .before .before .before .before .lower-bound .ensures) (c .before .before .is-entry .ensures) (c .before .if1 .left) (c .line-length .ensures .0)) .small)
 
 add-moved : tie.Need-add-moved
-add-moved c =
-    let a = c .before .before .before .before .before .before .before .before in
-    let l = c .line-length in
-    let p = c .before .before .before .before .lower-bound in
-    let t = c .before .before .is-entry in
-    let y = not-false (t .result) (c .before .if1 .left) in
-    let s = place-stands (a .pre) (p .ensures) (t .ensures) y in
-    let r = room-remove (a .pre) (p .result) (l .result) (l .ensures .0) (s .0) in
-    omega (arith, s .0, book-sizes (a .pre) .count-fits, book-sizes (a .pre) .capacity-fits)
+add-moved c = omega (arith, strike-place (c .before .before .before .before .before .before .before .before .pre) (c .before .before .before .before .lower-bound .ensures) (c .before .before .is-entry .ensures) (c .before .if1 .left), place-small (c .before .before .before .before .before .before .before .before .pre) (c .before .before .before .before .lower-bound .ensures))
 
 sub-moved : tie.Need-sub-moved
-sub-moved c =
-    let a = c .before .before .before .before .before .before .before .before in
-    let l = c .line-length in
-    let p = c .before .before .before .before .lower-bound in
-    let t = c .before .before .is-entry in
-    let y = not-false (t .result) (c .before .if1 .left) in
-    let s = place-stands (a .pre) (p .ensures) (t .ensures) y in
-    let r = room-remove (a .pre) (p .result) (l .result) (l .ensures .0) (s .0) in
-    omega (arith, s .0)
+sub-moved c = omega (arith, strike-place (c .before .before .before .before .before .before .before .before .pre) (c .before .before .before .before .lower-bound .ensures) (c .before .before .is-entry .ensures) (c .before .if1 .left))
 
 mul-moved : tie.Need-mul-moved
-mul-moved c =
-    let a = c .before .before .before .before .before .before .before .before in
-    let l = c .line-length in
-    let p = c .before .before .before .before .lower-bound in
-    let t = c .before .before .is-entry in
-    let y = not-false (t .result) (c .before .if1 .left) in
-    let s = place-stands (a .pre) (p .ensures) (t .ensures) y in
-    let r = room-remove (a .pre) (p .result) (l .result) (l .ensures .0) (s .0) in
-    omega (arith, r .small)
+mul-moved c = omega (arith, (strike-room (c .before .before .before .before .before .before .before .before .pre) (c .before .before .before .before .lower-bound .ensures) (c .before .before .is-entry .ensures) (c .before .if1 .left) (c .line-length .ensures .0)) .small)
 
 sub-remove-line : tie.Need-sub-remove-line
-sub-remove-line c =
-    let a = c .before .before .before .before .before .before .before .before in
-    let l = c .line-length in
-    let p = c .before .before .before .before .lower-bound in
-    let t = c .before .before .is-entry in
-    let y = not-false (t .result) (c .before .if1 .left) in
-    let s = place-stands (a .pre) (p .ensures) (t .ensures) y in
-    let r = room-remove (a .pre) (p .result) (l .result) (l .ensures .0) (s .0) in
-    r .start-inside
+sub-remove-line c = (strike-room (c .before .before .before .before .before .before .before .before .pre) (c .before .before .before .before .lower-bound .ensures) (c .before .before .is-entry .ensures) (c .before .if1 .left) (c .line-length .ensures .0)) .start-inside
 
 part-remove-line-start : tie.Need-part-remove-line-start
-part-remove-line-start c =
-    let a = c .before .before .before .before .before .before .before .before in
-    let l = c .line-length in
-    let p = c .before .before .before .before .lower-bound in
-    let t = c .before .before .is-entry in
-    let y = not-false (t .result) (c .before .if1 .left) in
-    let s = place-stands (a .pre) (p .ensures) (t .ensures) y in
-    let r = room-remove (a .pre) (p .result) (l .result) (l .ensures .0) (s .0) in
-    r .start-inside
+part-remove-line-start c = (strike-room (c .before .before .before .before .before .before .before .before .pre) (c .before .before .before .before .lower-bound .ensures) (c .before .before .is-entry .ensures) (c .before .if1 .left) (c .line-length .ensures .0)) .start-inside
 
 part-remove-line-end : tie.Need-part-remove-line-end
 part-remove-line-end c = search needs
 
 remove-line-requires : tie.Need-remove-line-requires
-remove-line-requires c κs =
-    let a = c .before .before .before .before .before .before .before .before .before in
-    let l = c .before .line-length in
-    let p = c .before .before .before .before .before .lower-bound in
-    let t = c .before .before .before .is-entry in
-    let y = not-false (t .result) (c .before .before .if1 .left) in
-    let s = place-stands (a .pre) (p .ensures) (t .ensures) y in
-    let r = room-remove (a .pre) (p .result) (l .result) (l .ensures .0) (s .0) in
-    (book-sizes (a .pre) .cells-fit, room-part r (sym (l .ensures .0)))
+remove-line-requires c κs = (book-sizes (c .before .before .before .before .before .before .before .before .before .pre) .cells-fit, room-part (strike-room (c .before .before .before .before .before .before .before .before .before .pre) (c .before .before .before .before .before .lower-bound .ensures) (c .before .before .before .is-entry .ensures) (c .before .before .if1 .left) (c .before .line-length .ensures .0)) (sym (c .before .line-length .ensures .0)))
 
 sub-write-number : tie.Need-sub-write-number
 sub-write-number c = search needs
@@ -129,55 +65,32 @@ part-write-number-start c = search needs
 
 part-write-number-end : tie.Need-part-write-number-end
 part-write-number-end c =
-    let a = c .before .before .before .before .before .before .before .before .before .before .before .before in
-    let l = c .before .before .before .before .line-length in
-    let p = c .before .before .before .before .before .before .before .before .lower-bound in
-    let t = c .before .before .before .before .before .before .is-entry in
-    let y = not-false (t .result) (c .before .before .before .before .before .if1 .left) in
-    let s = place-stands (a .pre) (p .ensures) (t .ensures) y in
-    let r = room-remove (a .pre) (p .result) (l .result) (l .ensures .0) (s .0) in
     let d = c .before .before .remove-line in
-    omega (arith, put-fits r (d .last .0) (d .kept .0))
+    omega (arith, put-fits (strike-room (c .before .before .before .before .before .before .before .before .before .before .before .before .pre) (c .before .before .before .before .before .before .before .before .lower-bound .ensures) (c .before .before .before .before .before .before .is-entry .ensures) (c .before .before .before .before .before .if1 .left) (c .before .before .before .before .line-length .ensures .0)) (d .last .0) (d .kept .0))
 
 sub-write-number-2 : tie.Need-sub-write-number-2
-sub-write-number-2 c =
-    let a = c .before .before .before .before .before .before .before .before .before .before .before .before .before in
-    let l = c .before .before .before .before .before .line-length in
-    let p = c .before .before .before .before .before .before .before .before .before .lower-bound in
-    let t = c .before .before .before .before .before .before .before .is-entry in
-    let y = not-false (t .result) (c .before .before .before .before .before .before .if1 .left) in
-    let s = place-stands (a .pre) (p .ensures) (t .ensures) y in
-    let r = room-remove (a .pre) (p .result) (l .result) (l .ensures .0) (s .0) in
-    omega (arith, s .0)
+sub-write-number-2 c = omega (arith, strike-place (c .before .before .before .before .before .before .before .before .before .before .before .before .before .pre) (c .before .before .before .before .before .before .before .before .before .lower-bound .ensures) (c .before .before .before .before .before .before .before .is-entry .ensures) (c .before .before .before .before .before .before .if1 .left))
 
 write-number-requires : tie.Need-write-number-requires
 write-number-requires c κs = search needs
 
 cast-t24 : tie.Need-cast-t24
-cast-t24 c =
-    let a = c .before .before .before .before .before .before .before .before .before .before .before .before .before .before .before .before in
-    omega (arith, place-small (a .pre) (c .before .before .before .before .before .before .before .before .before .before .before .before .lower-bound .ensures))
+cast-t24 c = omega (arith, place-small (c .before .before .before .before .before .before .before .before .before .before .before .before .before .before .before .before .pre) (c .before .before .before .before .before .before .before .before .before .before .before .before .lower-bound .ensures))
 
 add-t25 : tie.Need-add-t25
-add-t25 c =
-    let a = c .before .before .before .before .before .before .before .before .before .before .before .before .before .before .before .before in
-    omega (arith, place-small (a .pre) (c .before .before .before .before .before .before .before .before .before .before .before .before .lower-bound .ensures))
+add-t25 c = omega (arith, place-small (c .before .before .before .before .before .before .before .before .before .before .before .before .before .before .before .before .pre) (c .before .before .before .before .before .before .before .before .before .before .before .before .lower-bound .ensures))
 
 same-length-2 : tie.Need-same-length-2
 same-length-2 c = search needs
 
 returns-2 : tie.Need-returns-2
 returns-2 c =
-    let a = c .before .before .before .before .before .before .before .before .before .before .before .before .before .before .before .before in
-    let l = c .before .before .before .before .before .before .before .before .line-length in
-    let p = c .before .before .before .before .before .before .before .before .before .before .before .before .lower-bound in
     let t = c .before .before .before .before .before .before .before .before .before .before .is-entry in
-    let y = not-false (t .result) (c .before .before .before .before .before .before .before .before .before .if1 .left) in
-    let s = place-stands (a .pre) (p .ensures) (t .ensures) y in
-    let r = room-remove (a .pre) (p .result) (l .result) (l .ensures .0) (s .0) in
+    let l = c .before .before .before .before .before .before .before .before .line-length in
     let d = c .before .before .before .before .before .before .remove-line in
     let f = c .before .before .write-number in
-    strike-held (a .pre) (p .ensures) (t .ensures) y (l .result) (l .ensures .0) (d .last .0) (f .last .0) (d .ensures) (f .ensures) (count-part r (d .last .0) (d .kept .0))
+    strike-held (c .before .before .before .before .before .before .before .before .before .before .before .before .before .before .before .before .pre) (c .before .before .before .before .before .before .before .before .before .before .before .before .lower-bound .ensures) (t .ensures) (not-false (t .result) (c .before .before .before .before .before .before .before .before .before .if1 .left)) (l .result) (l .ensures .0) (d .last .0) (f .last .0) (d .ensures) (f .ensures)
+    (count-part (strike-room (c .before .before .before .before .before .before .before .before .before .before .before .before .before .before .before .before .pre) (c .before .before .before .before .before .before .before .before .before .before .before .before .lower-bound .ensures) (c .before .before .before .before .before .before .before .before .before .before .is-entry .ensures) (c .before .before .before .before .before .before .before .before .before .if1 .left) (c .before .before .before .before .before .before .before .before .line-length .ensures .0)) (d .last .0) (d .kept .0))
 
 pub strike-least-spec : {M : Type 1} → statement M
 strike-least-spec =
