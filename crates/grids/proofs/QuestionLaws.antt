@@ -5,10 +5,12 @@
 --   firstNo-has            ==  what holds of 0 and of each question's number holds of the first no
 --   first-no-zero          ==  no question gets a no exactly where every question gets a yes
 --   firstNo-pass, firstNo-stop  ==  a question that gets a yes is passed over; one that gets a no gives its number
+--   first-no-stays, first-no-next  ==  questions that follow a no, or follow yeses
 --   range-yes, yes-range   ==  what the test of a range says
 --   capped-at, at-capped, grid-of, grid-capped, grid-decides  ==  what the tests of cells and of a grid say
 --   all-one, all-two       ==  what holds of each of one or two slices holds of every slice of the list
 --   limits-asked           ==  questions 1 to 3 ask the limits
+--   limits-decide, limits-refuse, limits-pass  ==  the first no of questions 1 to 3, and of those that follow
 --   lengths-asked, cells-asked  ==  what questions 6 and 7 ask of slices
 --   slices-pass            ==  what questions 1, 2, 3, 6 and 7 together get a yes for
 --   size-fits              ==  a grid within the limits has at most 128 cells
@@ -33,7 +35,7 @@ use Rattle.permutations.specs.Lists.{every, All}
 use Rattle.permutations.proofs.BoolLaws.{and-yes, yes-and}
 use Rattle.permutations.proofs.ListLaws.{every-at, at-every, mem-at, of-mem}
 use Rattle.grids.specs.Grids.{IsGrid, capped, isGrid}
-use Rattle.grids.specs.Questions.{Question, firstNo, inRange, Limits, question1, question2, question3, question6, question7, shapeNo}
+use Rattle.grids.specs.Questions.{Question, firstNo, inRange, Limits, question1, question2, question3, limitsNo, question6, question7, shapeNo}
 
 abbrev pub AllYes : List Question → Type 0
 AllYes l = All (λ q. q .answer ≡ true) l
@@ -77,6 +79,24 @@ none-refused (q ∷ l) p e = go (none-refused l (p .1)) (q .answer) refl
 
 pub first-no-zero : (l : List Question) → Numbered l → (firstNo l ≡ 0) ↔ AllYes l
 first-no-zero l p = (none-refused l p, all-pass l)
+
+-- questions that follow a no, or follow yeses
+pub first-no-stays : (l r : List Question) → (firstNo l ≡ 0 → ⊥) → firstNo (l ++ r) ≡ firstNo l
+unfolding firstNo
+first-no-stays [] r h = absurd (h refl)
+first-no-stays (q ∷ l) r h = go (first-no-stays l r) (q .answer) refl
+  where
+    go : ((firstNo l ≡ 0 → ⊥) → firstNo (l ++ r) ≡ firstNo l) → (t : Bool) → q .answer ≡ t → firstNo (q ∷ (l ++ r)) ≡ firstNo (q ∷ l)
+    go ih true e = firstNo-pass q (l ++ r) e ∙ ih (λ z. h (firstNo-pass q l e ∙ z)) ∙ sym (firstNo-pass q l e)
+    go ih false e = firstNo-stop q (l ++ r) e ∙ sym (firstNo-stop q l e)
+
+pub first-no-next : (l r : List Question) → Numbered l → firstNo l ≡ 0 → firstNo (l ++ r) ≡ firstNo r
+first-no-next [] r p z = refl
+first-no-next (q ∷ l) r p z = go (first-no-next l r (p .1)) (q .answer) refl
+  where
+    go : (firstNo l ≡ 0 → firstNo (l ++ r) ≡ firstNo r) → (t : Bool) → q .answer ≡ t → firstNo (q ∷ (l ++ r)) ≡ firstNo r
+    go ih true e = firstNo-pass q (l ++ r) e ∙ ih (sym (firstNo-pass q l e) ∙ z)
+    go ih false e = let k = firstNo-stop q l e in absurd (omega (arith, p .0))
 
 -- ---- what the tests say
 
@@ -133,6 +153,26 @@ limits-asked m n top l = (
   λ h. (yes-range 1 8 m (h .0 .rows-limits), (yes-range 1 16 n (h .0 .column-limits), (yes-range 0 15 top (omega arith, h .0 .top-limit), h .1))),
 )
 
+module _ (m n top : ℕ) where
+  limits-numbered : Numbered (question1 m ∷ question2 n ∷ question3 top ∷ [])
+  unfolding question1 question2 question3
+  limits-numbered = (omega arith, (omega arith, (omega arith, tt)))
+
+  pub limits-decide : (limitsNo m n top ≡ 0) ↔ Limits m n top
+  unfolding limitsNo
+  limits-decide =
+      let z = first-no-zero (question1 m ∷ question2 n ∷ question3 top ∷ []) limits-numbered in
+      let a = limits-asked m n top [] in
+      (λ e. a .0 (z .0 e) .0, λ l. z .1 (a .1 (l, tt)))
+
+  pub limits-refuse : (l : List Question) → (limitsNo m n top ≡ 0 → ⊥) → firstNo (question1 m ∷ question2 n ∷ question3 top ∷ l) ≡ limitsNo m n top
+  unfolding limitsNo
+  limits-refuse l h = first-no-stays (question1 m ∷ question2 n ∷ question3 top ∷ []) l h
+
+  pub limits-pass : (l : List Question) → Limits m n top → firstNo (question1 m ∷ question2 n ∷ question3 top ∷ l) ≡ firstNo l
+  unfolding limitsNo
+  limits-pass l h = first-no-next (question1 m ∷ question2 n ∷ question3 top ∷ []) l limits-numbered (limits-decide .1 h)
+
 pub lengths-asked : (size : ℕ) (l : List (List ℕ)) → (question6 size l .answer ≡ true) ↔ ((s : List ℕ) → List·Memᴰ s l → length s ≡ size)
 unfolding question6
 lengths-asked size l =
@@ -167,24 +207,6 @@ pub size-fits : (m n : ℕ) → m ≤ 8 → n ≤ 16 → m * n ≤ 128
 size-fits m n a b = mul-le-mul a b
 
 -- ---- the first no, as a call finds it
-
--- questions that follow a no, or follow yeses
-first-no-stays : (l r : List Question) → (firstNo l ≡ 0 → ⊥) → firstNo (l ++ r) ≡ firstNo l
-unfolding firstNo
-first-no-stays [] r h = absurd (h refl)
-first-no-stays (q ∷ l) r h = go (first-no-stays l r) (q .answer) refl
-  where
-    go : ((firstNo l ≡ 0 → ⊥) → firstNo (l ++ r) ≡ firstNo l) → (t : Bool) → q .answer ≡ t → firstNo (q ∷ (l ++ r)) ≡ firstNo (q ∷ l)
-    go ih true e = firstNo-pass q (l ++ r) e ∙ ih (λ z. h (firstNo-pass q l e ∙ z)) ∙ sym (firstNo-pass q l e)
-    go ih false e = firstNo-stop q (l ++ r) e ∙ sym (firstNo-stop q l e)
-
-first-no-next : (l r : List Question) → Numbered l → firstNo l ≡ 0 → firstNo (l ++ r) ≡ firstNo r
-first-no-next [] r p z = refl
-first-no-next (q ∷ l) r p z = go (first-no-next l r (p .1)) (q .answer) refl
-  where
-    go : (firstNo l ≡ 0 → firstNo (l ++ r) ≡ firstNo r) → (t : Bool) → q .answer ≡ t → firstNo (q ∷ (l ++ r)) ≡ firstNo r
-    go ih true e = firstNo-pass q (l ++ r) e ∙ ih (sym (firstNo-pass q l e) ∙ z)
-    go ih false e = let k = firstNo-stop q l e in absurd (omega (arith, p .0))
 
 module _ (m n top : ℕ) (x y : List ℕ) where
   abbrev pub shapeThen : List Question → List Question

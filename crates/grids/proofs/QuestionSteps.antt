@@ -1,8 +1,9 @@
 -- The first no of a shape's questions, and the test of cells, as the code finds them.
 --
---   rows-no, columns-no, top-no, lengths-no  ==  the questions before get a yes, this one a no
---   shape-yes   ==  every question gets a yes
 --   range-no    ==  a number outside a range
+--   rows-no, columns-no, top-no  ==  of questions 1 to 3, those before get a yes, this one a no
+--   limits-yes  ==  each gets a yes
+--   shape-limits, lengths-no, shape-yes  ==  of a shape's questions, one of 1 to 3 gets a no, then 6; each gets a yes
 --   Greatest g i x  ==  x is the greatest of the first i cells of g, or 0
 --   greatest-none, greatest-next, greatest-capped  ==  at first, a cell further, and what it says of the test of cells
 use mathlib.Core.Path.{_≡_, sym, _∙_}
@@ -17,8 +18,8 @@ use lib.Dec.{eqb, leb}
 use borrow.Author.Tests.{eqb-true, eq-eqb, leb-true, le-leb}
 use Rattle.permutations.proofs.BoolLaws.{and-yes, yes-and, bool-ext, refuted}
 use Rattle.grids.specs.Grids.{capped}
-use Rattle.grids.specs.Questions.{Question, firstNo, inRange, question1, question2, question3, shapeNo}
-use Rattle.grids.proofs.QuestionLaws.{firstNo-pass, firstNo-stop, range-yes, yes-range, capped-at, at-capped}
+use Rattle.grids.specs.Questions.{Question, firstNo, inRange, Limits, question1, question2, question3, limitsNo, shapeNo}
+use Rattle.grids.proofs.QuestionLaws.{firstNo-pass, firstNo-stop, range-yes, yes-range, limits-decide, limits-refuse, limits-pass, capped-at, at-capped}
 
 pub range-no : (a b x : ℕ) → ((a ≤ x) × (x ≤ b) → ⊥) → inRange a b x ≡ false
 range-no a b x h = refuted (inRange a b x) (range-yes a b x, yes-range a b x) h
@@ -33,38 +34,42 @@ two-lengths-asked size x y = (
   λ h. yes-and (eqb x size) (eqb y size) (eq-eqb x size (h .0)) (eq-eqb y size (h .1)),
 )
 
-module _ (m n top x y : ℕ) where
-  pub rows-no : ((1 ≤ m) × (m ≤ 8) → ⊥) → 1 ≡ shapeNo m n top x y
-  unfolding shapeNo question1
-  rows-no h = sym (firstNo-stop (question1 m) (question2 n ∷ question3 top ∷ two-lengths (m * n) x y ∷ []) (range-no 1 8 m h))
+module _ (m n top : ℕ) where
+  pub rows-no : ((1 ≤ m) × (m ≤ 8) → ⊥) → 1 ≡ limitsNo m n top
+  unfolding limitsNo question1
+  rows-no h = sym (firstNo-stop (question1 m) _ (range-no 1 8 m h))
 
-  past-rows : (1 ≤ m) × (m ≤ 8) → shapeNo m n top x y ≡ firstNo (question2 n ∷ question3 top ∷ two-lengths (m * n) x y ∷ [])
-  unfolding shapeNo question1
-  past-rows h = firstNo-pass (question1 m) (question2 n ∷ question3 top ∷ two-lengths (m * n) x y ∷ []) (yes-range 1 8 m h)
+  past-rows : (1 ≤ m) × (m ≤ 8) → limitsNo m n top ≡ firstNo (question2 n ∷ question3 top ∷ [])
+  unfolding limitsNo question1
+  past-rows h = firstNo-pass (question1 m) _ (yes-range 1 8 m h)
 
-  pub columns-no : (1 ≤ m) × (m ≤ 8) → ((1 ≤ n) × (n ≤ 16) → ⊥) → 2 ≡ shapeNo m n top x y
+  pub columns-no : (1 ≤ m) × (m ≤ 8) → ((1 ≤ n) × (n ≤ 16) → ⊥) → 2 ≡ limitsNo m n top
   unfolding question2
-  columns-no h k = sym (past-rows h ∙ firstNo-stop (question2 n) (question3 top ∷ two-lengths (m * n) x y ∷ []) (range-no 1 16 n k))
+  columns-no h k = sym (past-rows h ∙ firstNo-stop (question2 n) _ (range-no 1 16 n k))
 
-  past-columns : (1 ≤ m) × (m ≤ 8) → (1 ≤ n) × (n ≤ 16) → shapeNo m n top x y ≡ firstNo (question3 top ∷ two-lengths (m * n) x y ∷ [])
-  unfolding question2
-  past-columns h k = past-rows h ∙ firstNo-pass (question2 n) (question3 top ∷ two-lengths (m * n) x y ∷ []) (yes-range 1 16 n k)
+  pub top-no : (1 ≤ m) × (m ≤ 8) → (1 ≤ n) × (n ≤ 16) → 15 < top → 3 ≡ limitsNo m n top
+  unfolding question2 question3
+  top-no h k l = sym (past-rows h ∙ firstNo-pass (question2 n) _ (yes-range 1 16 n k) ∙ firstNo-stop (question3 top) [] (range-no 0 15 top (λ r. omega arith)))
 
-  pub top-no : (1 ≤ m) × (m ≤ 8) → (1 ≤ n) × (n ≤ 16) → 15 < top → 3 ≡ shapeNo m n top x y
-  unfolding question3
-  top-no h k l = sym (past-columns h k ∙ firstNo-stop (question3 top) (two-lengths (m * n) x y ∷ []) (range-no 0 15 top (λ r. omega arith)))
+  pub limits-yes : Limits m n top → 0 ≡ limitsNo m n top
+  limits-yes l = sym (limits-decide m n top .1 l)
 
-  past-top : (1 ≤ m) × (m ≤ 8) → (1 ≤ n) × (n ≤ 16) → top ≤ 15 → shapeNo m n top x y ≡ firstNo (two-lengths (m * n) x y ∷ [])
-  unfolding question3
-  past-top h k l = past-columns h k ∙ firstNo-pass (question3 top) (two-lengths (m * n) x y ∷ []) (yes-range 0 15 top (omega arith, l))
+  module _ (x y : ℕ) where
+    pub shape-limits : {k : ℕ} → k ≡ limitsNo m n top → (k ≡ 0 → ⊥) → k ≡ shapeNo m n top x y
+    unfolding shapeNo
+    shape-limits e h = e ∙ sym (limits-refuse m n top (two-lengths (m * n) x y ∷ []) (λ z. h (e ∙ z)))
 
-  pub lengths-no : (1 ≤ m) × (m ≤ 8) → (1 ≤ n) × (n ≤ 16) → top ≤ 15 → ((x ≡ m * n) × (y ≡ m * n) → ⊥) → 6 ≡ shapeNo m n top x y
-  lengths-no h k l e =
-      sym (past-top h k l ∙ firstNo-stop (two-lengths (m * n) x y) [] (refuted (two-lengths (m * n) x y .answer) (two-lengths-asked (m * n) x y) e))
+    module _ (l : Limits m n top) where
+      past-limits : shapeNo m n top x y ≡ firstNo (two-lengths (m * n) x y ∷ [])
+      unfolding shapeNo
+      past-limits = limits-pass m n top (two-lengths (m * n) x y ∷ []) l
 
-  pub shape-yes : (1 ≤ m) × (m ≤ 8) → (1 ≤ n) × (n ≤ 16) → top ≤ 15 → x ≡ m * n → y ≡ m * n → 0 ≡ shapeNo m n top x y
-  unfolding firstNo
-  shape-yes h k l d e = sym (past-top h k l ∙ firstNo-pass (two-lengths (m * n) x y) [] (two-lengths-asked (m * n) x y .1 (d, e)))
+      pub lengths-no : ((x ≡ m * n) × (y ≡ m * n) → ⊥) → 6 ≡ shapeNo m n top x y
+      lengths-no e = sym (past-limits ∙ firstNo-stop (two-lengths (m * n) x y) [] (refuted (two-lengths (m * n) x y .answer) (two-lengths-asked (m * n) x y) e))
+
+      pub shape-yes : x ≡ m * n → y ≡ m * n → 0 ≡ shapeNo m n top x y
+      unfolding firstNo
+      shape-yes d e = sym (past-limits ∙ firstNo-pass (two-lengths (m * n) x y) [] (two-lengths-asked (m * n) x y .1 (d, e)))
 
 -- ---- question 7
 

@@ -7,6 +7,7 @@
 --   question1 m         ==  are the rows 1 to 8?
 --   question2 n         ==  are the columns 1 to 16?
 --   question3 top       ==  is top 0 to 15?
+--   limitsNo m n top    ==  the first no of questions 1, 2 and 3
 --   question6 size l    ==  has every slice of l its exact length?
 --   shapeNo m n top x y ==  the first no of questions 1, 2, 3 and 6, of two slices of lengths x and y
 --   question7 top l     ==  is every cell or bound of the slices of l at most top?
@@ -42,6 +43,9 @@ question2 n = record { number = 2; answer = inRange 1 16 n }
 
 unfoldable pub question3 : ℕ → Question
 question3 top = record { number = 3; answer = inRange 0 15 top }
+
+unfoldable pub limitsNo : ℕ → ℕ → ℕ → ℕ
+limitsNo m n top = firstNo (question1 m ∷ question2 n ∷ question3 top ∷ [])
 
 unfoldable pub question6 : ℕ → List (List ℕ) → Question
 question6 size l = record { number = 6; answer = every (λ s. eqb (length s) size) l }

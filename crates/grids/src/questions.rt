@@ -3,11 +3,11 @@ ghost use mathlib.Core.Path.{_≡_};
 ghost use mathlib.Core.Logic.{_⊎_};
 ghost use Prim.Native.Nat.{_≤_};
 ghost use Rattle.grids.specs.Grids.{capped};
-ghost use Rattle.grids.specs.Questions.{shapeNo};
+ghost use Rattle.grids.specs.Questions.{limitsNo, shapeNo};
 
-// Questions 1, 2, 3 and 6, of two slices' lengths: the number of the first that gets a no, or 0.
-pub fn shape_no(m: usize, n: usize, top: usize, first: usize, second: usize) -> u32
-    ensures { λ r. ⌜ r ≡ shapeNo m n top first second ⌝ }
+// Questions 1, 2 and 3: the number of the first that gets a no, or 0.
+pub fn limits_no(m: usize, n: usize, top: usize) -> u32
+    ensures { λ r. ⌜ r ≡ limitsNo m n top ⌝ }
 {
     if m < 1 {
         return 1;
@@ -23,6 +23,17 @@ pub fn shape_no(m: usize, n: usize, top: usize, first: usize, second: usize) -> 
     }
     if 15 < top {
         return 3;
+    }
+    0
+}
+
+// Questions 1, 2, 3 and 6, of two slices' lengths: the number of the first that gets a no, or 0.
+pub fn shape_no(m: usize, n: usize, top: usize, first: usize, second: usize) -> u32
+    ensures { λ r. ⌜ r ≡ shapeNo m n top first second ⌝ }
+{
+    let number = limits_no(m, n, top);
+    if number != 0 {
+        return number;
     }
     if first != m * n {
         return 6;

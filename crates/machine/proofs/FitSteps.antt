@@ -18,8 +18,8 @@ use lib.ListN.{length}
 use lib.Dec.{eqb}
 use Rattle.permutations.specs.Lists.{select}
 use Rattle.permutations.proofs.BoolLaws.{refuted, decided}
-use Rattle.grids.specs.Questions.{firstNo, Limits, question1, question2, question3, question6, question7}
-use Rattle.grids.proofs.QuestionLaws.{firstNo-pass, firstNo-stop, yes-range, lengths-asked}
+use Rattle.grids.specs.Questions.{firstNo, Limits, question6}
+use Rattle.grids.proofs.QuestionLaws.{firstNo-pass, firstNo-stop, limits-pass, lengths-asked}
 use Rattle.bounds.specs.Bounds.{IsBounds, inBounds}
 use Rattle.bounds.specs.Kept.{Obeyed, obeyed}
 use Rattle.bounds.specs.Allperm.{Allperm, allperm}
@@ -35,11 +35,7 @@ use Rattle.machine.specs.Books.{placed, PrunesCopies}
 use Rattle.machine.proofs.RefusalLaws.{fitted-refused}
 
 pub prune-asked : (m n top : ℕ) (low high : List ℕ) → Limits m n top → firstNo (pruneQuestions m n top low high) ≡ firstNo (boundsQuestions (m * n) top low high)
-unfolding question1 question2 question3
-prune-asked m n top low high l =
-    firstNo-pass (question1 m) _ (yes-range 1 8 m (l .rows-limits))
-    ∙ firstNo-pass (question2 n) _ (yes-range 1 16 n (l .column-limits))
-    ∙ firstNo-pass (question3 top) _ (yes-range 0 15 top (omega arith, l .top-limit))
+prune-asked m n top low high l = limits-pass m n top (boundsQuestions (m * n) top low high) l
 
 -- a number is 0, or follows another
 zero-or-suc : (k : ℕ) → (k ≡ 0) ⊎ ((j : ℕ) × (k ≡ suc j))

@@ -20,8 +20,8 @@ use lib.Dec.{eqb}
 use borrow.Author.Tests.{eq-eqb, not-false}
 use borrow.Rule.Slice.PartMut.{midOf, putMid, same-len-mid}
 use Rattle.grids.specs.Least.{least}
-use Rattle.grids.specs.Questions.{firstNo, Limits, question1, question2, question3, question6, question7}
-use Rattle.grids.proofs.QuestionLaws.{firstNo-pass, firstNo-stop, yes-range, size-fits}
+use Rattle.grids.specs.Questions.{firstNo, Limits, question6, question7}
+use Rattle.grids.proofs.QuestionLaws.{firstNo-pass, firstNo-stop, limits-pass, size-fits}
 use Rattle.permutations.specs.Lists.{every}
 use Rattle.canonical.specs.Represent.{representQuestions, Represented}
 use Rattle.layout.specs.Layout.{Shape, cells, layoutLength, decodeShape, decode, InLimits, laidOut}
@@ -54,12 +54,8 @@ asked-no {b} {g} out l n = record {
 }
 
 pub represent-asked : (m n top : ℕ) (g out : List ℕ) → Limits m n top → length out ≡ m * n → firstNo (representQuestions m n top g out) ≡ firstNo (question6 (m * n) (g ∷ []) ∷ question7 top (g ∷ []) ∷ [])
-unfolding representQuestions question1 question2 question3 question6 every
-represent-asked m n top g out l e =
-    firstNo-pass (question1 m) _ (yes-range 1 8 m (l .rows-limits))
-    ∙ firstNo-pass (question2 n) _ (yes-range 1 16 n (l .column-limits))
-    ∙ firstNo-pass (question3 top) _ (yes-range 0 15 top (omega arith, l .top-limit))
-    ∙ rw (eq-eqb (length out) (m * n) e) refl
+unfolding representQuestions question6 every
+represent-asked m n top g out l e = limits-pass m n top _ l ∙ rw (eq-eqb (length out) (m * n) e) refl
 
 module _ {b : List ℕ} {h : Head} (laid : laidOut b ≡ true) (st : States b h) where
   head-rows : h .rows ≡ decodeShape b .rows

@@ -1,6 +1,8 @@
 -- Open, from what the code finds to the outcome.
 --
---   rows-no, columns-no, top-no, capacity-no, length-no  ==  the questions before get a yes, this one a no
+--   open-limits               ==  one of questions 1 to 3 gets a no
+--   capacity-no, length-no    ==  the questions before get a yes, this one a no
+--   no-limits-size            ==  a grid within the limits has at most 128 cells
 --   open-yes                  ==  every question gets a yes
 --   length-is, open-small     ==  how long a register is
 --   open-asked                ==  what is asked of a slice is asked of its length
@@ -18,8 +20,8 @@ use lib.Dec.{eqb}
 use borrow.Author.Tests.{eq-eqb, ne-eqb}
 use borrow.Rule.Slice.PartMut.{midOf, putMid}
 use Rattle.permutations.specs.Lists.{every}
-use Rattle.grids.specs.Questions.{Question, firstNo, inRange, question1, question2, question3, question6}
-use Rattle.grids.proofs.QuestionLaws.{firstNo-pass, firstNo-stop, yes-range, size-fits}
+use Rattle.grids.specs.Questions.{Question, firstNo, limitsNo, question6}
+use Rattle.grids.proofs.QuestionLaws.{firstNo-pass, firstNo-stop, yes-range, limits-decide, limits-refuse, limits-pass, size-fits}
 use Rattle.grids.proofs.QuestionSteps.{range-no}
 use Rattle.layout.specs.Layout.{Shape, cells, entryWidth, lineLength, headLine, blankLine, layout, layoutLength, InLimits}
 use Rattle.layout.specs.Lines.{lineStart}
@@ -35,48 +37,36 @@ module _ (m n top capacity x : ℕ) where
   abbrev exact : Question
   exact = record { number = 6; answer = eqb x (layoutLength (shape m n top capacity)) }
 
-  pub rows-no : ((1 ≤ m) × (m ≤ 8) → ⊥) → 1 ≡ openNo (shape m n top capacity) x
-  unfolding openNo question1
-  rows-no h = sym (firstNo-stop (question1 m) _ (range-no 1 8 m h))
+  rest : List Question
+  rest = question4 capacity ∷ exact ∷ []
 
-  module _ (hm : (1 ≤ m) × (m ≤ 8)) where
-    past-rows : openNo (shape m n top capacity) x ≡ firstNo (question2 n ∷ question3 top ∷ question4 capacity ∷ exact ∷ [])
-    unfolding openNo question1
-    past-rows = firstNo-pass (question1 m) _ (yes-range 1 8 m hm)
+  pub open-limits : {k : ℕ} → k ≡ limitsNo m n top → (k ≡ 0 → ⊥) → k ≡ openNo (shape m n top capacity) x
+  unfolding openNo rest
+  open-limits e h = e ∙ sym (limits-refuse m n top rest (λ z. h (e ∙ z)))
 
-    pub columns-no : ((1 ≤ n) × (n ≤ 16) → ⊥) → 2 ≡ openNo (shape m n top capacity) x
-    unfolding question2
-    columns-no h = sym (past-rows ∙ firstNo-stop (question2 n) _ (range-no 1 16 n h))
+  module _ {k : ℕ} (e : k ≡ limitsNo m n top) (z : k ≡ 0) where
+    past-limits : openNo (shape m n top capacity) x ≡ firstNo (question4 capacity ∷ exact ∷ [])
+    unfolding openNo rest
+    past-limits = limits-pass m n top rest (limits-decide m n top .0 (sym e ∙ z))
 
-    module _ (hn : (1 ≤ n) × (n ≤ 16)) where
-      past-columns : openNo (shape m n top capacity) x ≡ firstNo (question3 top ∷ question4 capacity ∷ exact ∷ [])
-      unfolding question2
-      past-columns = past-rows ∙ firstNo-pass (question2 n) _ (yes-range 1 16 n hn)
+    pub capacity-no : ((1 ≤ capacity) × (capacity ≤ 500) → ⊥) → 4 ≡ openNo (shape m n top capacity) x
+    unfolding question4
+    capacity-no h = sym (past-limits ∙ firstNo-stop (question4 capacity) _ (range-no 1 500 capacity h))
 
-      pub top-no : 15 < top → 3 ≡ openNo (shape m n top capacity) x
-      unfolding question3
-      top-no h = sym (past-columns ∙ firstNo-stop (question3 top) _ (range-no 0 15 top (λ r. omega arith)))
+    module _ (hc : (1 ≤ capacity) × (capacity ≤ 500)) where
+      past-capacity : openNo (shape m n top capacity) x ≡ firstNo (exact ∷ [])
+      unfolding question4
+      past-capacity = past-limits ∙ firstNo-pass (question4 capacity) _ (yes-range 1 500 capacity hc)
 
-      module _ (ht : top ≤ 15) where
-        past-top : openNo (shape m n top capacity) x ≡ firstNo (question4 capacity ∷ exact ∷ [])
-        unfolding question3
-        past-top = past-columns ∙ firstNo-pass (question3 top) _ (yes-range 0 15 top (omega arith, ht))
+      pub length-no : (x ≡ layoutLength (shape m n top capacity) → ⊥) → 6 ≡ openNo (shape m n top capacity) x
+      length-no h = sym (past-capacity ∙ firstNo-stop exact [] (ne-eqb x (layoutLength (shape m n top capacity)) h))
 
-        pub capacity-no : ((1 ≤ capacity) × (capacity ≤ 500) → ⊥) → 4 ≡ openNo (shape m n top capacity) x
-        unfolding question4
-        capacity-no h = sym (past-top ∙ firstNo-stop (question4 capacity) _ (range-no 1 500 capacity h))
+      pub open-yes : x ≡ layoutLength (shape m n top capacity) → 0 ≡ openNo (shape m n top capacity) x
+      unfolding firstNo
+      open-yes d = sym (past-capacity ∙ firstNo-pass exact [] (eq-eqb x (layoutLength (shape m n top capacity)) d))
 
-        module _ (hc : (1 ≤ capacity) × (capacity ≤ 500)) where
-          past-capacity : openNo (shape m n top capacity) x ≡ firstNo (exact ∷ [])
-          unfolding question4
-          past-capacity = past-top ∙ firstNo-pass (question4 capacity) _ (yes-range 1 500 capacity hc)
-
-          pub length-no : (x ≡ layoutLength (shape m n top capacity) → ⊥) → 6 ≡ openNo (shape m n top capacity) x
-          length-no h = sym (past-capacity ∙ firstNo-stop exact [] (ne-eqb x (layoutLength (shape m n top capacity)) h))
-
-          pub open-yes : x ≡ layoutLength (shape m n top capacity) → 0 ≡ openNo (shape m n top capacity) x
-          unfolding firstNo
-          open-yes e = sym (past-capacity ∙ firstNo-pass exact [] (eq-eqb x (layoutLength (shape m n top capacity)) e))
+pub no-limits-size : (m n top : ℕ) {k : ℕ} → k ≡ limitsNo m n top → k ≡ 0 → m * n ≤ 128
+no-limits-size m n top e z = let l = limits-decide m n top .0 (sym e ∙ z) in size-fits m n (l .rows-limits .1) (l .column-limits .1)
 
 pub length-is : (m n top capacity : ℕ) {w : ℕ} → w ≡ lineLength (m * n) → layoutLength (shape m n top capacity) ≡ 31 + capacity * w
 unfolding layoutLength

@@ -1,6 +1,7 @@
 // The call open.
 use crate::answers;
 use crate::answers::Placed;
+use grids::questions;
 use lines::entries;
 use lines::head;
 use lines::head::Head;
@@ -15,20 +16,9 @@ ghost use Rattle.machine.specs.Books.{placed, openNo, shape};
 fn open_no(m: usize, n: usize, top: usize, capacity: usize, length: usize) -> u32
     ensures { λ r. ⌜ r ≡ openNo (shape m n top capacity) length ⌝ }
 {
-    if m < 1 {
-        return 1;
-    }
-    if 8 < m {
-        return 1;
-    }
-    if n < 1 {
-        return 2;
-    }
-    if 16 < n {
-        return 2;
-    }
-    if 15 < top {
-        return 3;
+    let number = questions::limits_no(m, n, top);
+    if number != 0 {
+        return number;
     }
     if capacity < 1 {
         return 4;

@@ -1,6 +1,7 @@
 // Question 5.
 use crate::blanks;
 use crate::equality;
+use grids::questions;
 use lines::head::Head;
 ghost use mathlib.Core.Path.{_≡_};
 ghost use mathlib.Core.Bool.{true};
@@ -15,19 +16,7 @@ ghost use Rattle.validation.specs.Limits.{WithinLimits};
 fn within_limits(rows: usize, columns: usize, top: usize, capacity: usize, count: usize) -> bool
     ensures { λ r. ⌜ ((r ≡ true) ↔ WithinLimits rows columns top capacity count) ⌝ }
 {
-    if rows < 1 {
-        return false;
-    }
-    if 8 < rows {
-        return false;
-    }
-    if columns < 1 {
-        return false;
-    }
-    if 16 < columns {
-        return false;
-    }
-    if 15 < top {
+    if questions::limits_no(rows, columns, top) != 0 {
         return false;
     }
     if capacity < 1 {
