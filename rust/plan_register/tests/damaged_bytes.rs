@@ -3,7 +3,8 @@
 mod common;
 
 use common::calls::{distinct_grids, holding};
-use common::question_5::{check, check_layout, likely_byte, register};
+use common::question_5::{check, check_layout, likely_byte};
+use reference::examples::register;
 use reference::examples::shapes_up_to;
 use reference::random::Random;
 

@@ -3,7 +3,8 @@
 mod common;
 
 use common::calls::holding;
-use common::question_5::{check, check_layout, register};
+use common::question_5::{check, check_layout};
+use reference::examples::register;
 use reference::layout::number;
 
 #[test]

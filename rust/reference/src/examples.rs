@@ -1,4 +1,6 @@
-//! Grids for tests: written ones, and every one of a small shape.
+//! Grids for tests: written ones, every one of a small shape, and registers of written ones.
+
+use crate::layout::Contents;
 
 /// The rows, columns and cells of a grid that is written with a slash between rows.
 pub fn plan(text: &str) -> (usize, usize, Vec<u8>) {
@@ -32,4 +34,16 @@ pub fn shapes_up_to(count: usize) -> Vec<(usize, usize)> {
         }
     }
     shapes
+}
+
+/// The bytes of a register with these written entries, as they stand here, and of any numbers.
+pub fn register(m: u64, n: u64, top: u64, capacity: u64, entries: &[&str]) -> Vec<u8> {
+    let contents = Contents {
+        rows: m,
+        columns: n,
+        top,
+        capacity,
+        entries: entries.iter().map(|text| cells(text)).collect(),
+    };
+    contents.bytes()
 }

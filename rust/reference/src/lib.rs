@@ -17,7 +17,7 @@
 //! | `calls`        | the calls of a list, on a register or on the machine |
 //! | `planbook`     | the program, input bytes to output bytes             |
 //! | `random`       | a small generator for tests                          |
-//! | `examples`     | grids for tests                                      |
+//! | `examples`     | grids and registers for tests                        |
 //! | `designs`      | grids with much symmetry, for tests and benchmarks   |
 //! | `forms`        | bounds, for tests and benchmarks                     |
 //! | `lists`        | random lists of calls, for tests                     |

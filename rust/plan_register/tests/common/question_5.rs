@@ -3,7 +3,6 @@
 use super::calls::check_call;
 use plan_register::{Refusal, Register};
 use reference::calls::Call;
-use reference::examples::cells;
 use reference::layout::Contents;
 use reference::random::Random;
 
@@ -39,18 +38,6 @@ fn check_with(bytes: &[u8], grid: &[u8]) -> bool {
         false => assert_eq!(taken, Err(Refusal::Layout)),
     }
     is_register
-}
-
-/// The bytes of a register with these written entries, as they stand here, and of any numbers.
-pub fn register(m: u64, n: u64, top: u64, capacity: u64, entries: &[&str]) -> Vec<u8> {
-    let contents = Contents {
-        rows: m,
-        columns: n,
-        top,
-        capacity,
-        entries: entries.iter().map(|text| cells(text)).collect(),
-    };
-    contents.bytes()
 }
 
 /// A byte that a register may have somewhere.
