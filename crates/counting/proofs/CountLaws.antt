@@ -21,7 +21,7 @@ use Rattle.permutations.proofs.ListLaws.{select-yes, select-no, length-select}
 use Rattle.bounds.specs.Bounds.{IsBounds, inBounds}
 use Rattle.layout.specs.Layout.{lineLength, decodeShape, decode}
 use Rattle.layout.specs.Lines.{lineStart, lineAt, EntryLine}
-use Rattle.layout.proofs.LineLaws.{laid-lines}
+use Rattle.layout.proofs.LineLaws.{laid-lines, start-zero, next-start, cells-inside}
 use Rattle.machine.specs.Books.{Book}
 use Rattle.machine.proofs.BookLaws.{book-count, book-line, book-sizes, entry-fits}
 use Rattle.counting.specs.Within.{LineOutcome, Ordered, Tables, oneMore}
@@ -46,14 +46,15 @@ select-snoc t (y ∷ l) x = go (t y) refl (select-snoc t l x)
 
 pub record Counting (b : List ℕ) (n : ℕ) (low high : List ℕ) (found from e : ℕ) : Type 0 where
   pub passed : e ≤ n
-  pub place : from ≡ 31 + e * (3 * length low + 1)
+  pub place : from ≡ lineStart (length low) e
   pub counted : found ≡ length (select (inBounds (length low) (decodeShape b .top) low high) (take e (decode b .entries)))
 
 pub record Room (size found from length : ℕ) : Type 0 where
   pub few : found < 500
   pub after-head : 31 ≤ from
-  pub inside : from + 3 * size + 1 ≤ length
-  pub small : from + 3 * size + 1 ≤ 192531
+  pub inside : from + lineLength size ≤ length
+  pub small : from + lineLength size ≤ 192531
+  pub wider : 3 * size < lineLength size
   pub narrow : 3 * size ≤ 384
 
 part-at : (b : List ℕ) (start n k : ℕ) → k < n → getD (take n (drop start b)) k 0 ≡ getD b (start + k) 0
@@ -68,8 +69,8 @@ entry-line {size} {n} {b} k e h =
 pub parts-fit : (size from found : ℕ) (b : List ℕ) → Room size found from (length b) →
     (length (take (from + 3 * size - from) (drop from b)) ≤ 384) × (length (take (from + 3 * size - from) (drop from b)) ≤ length (take (from + 3 * size - 1 - (from - 1)) (drop (from - 1) b)))
 parts-fit size from found b r =
-    let x = length-take-le (from + 3 * size - from) (drop from b) (omega (arith, r .inside, length-drop from b)) in
-    let y = length-take-le (from + 3 * size - 1 - (from - 1)) (drop (from - 1) b) (omega (arith, r .inside, r .after-head, length-drop (from - 1) b)) in
+    let x = length-take-le (from + 3 * size - from) (drop from b) (omega (arith, r .inside, r .wider, length-drop from b)) in
+    let y = length-take-le (from + 3 * size - 1 - (from - 1)) (drop (from - 1) b) (omega (arith, r .inside, r .wider, r .after-head, length-drop (from - 1) b)) in
     (omega (arith, x, r .narrow), omega (arith, x, y, r .after-head))
 
 pub bounds-ordered : {n top : ℕ} {b low high : List ℕ} → Book (length low) n b → IsBounds (length low) top low high → Ordered low high
@@ -78,29 +79,30 @@ bounds-ordered k i = record { few = book-sizes k .cells-fit; as-many = sym (i .h
 module _ {n : ℕ} {b low high : List ℕ} (k : Book (length low) n b) where
   pub counting-none : Counting b n low high 0 31 0
   unfolding select
-  counting-none = record { passed = omega arith; place = omega arith; counted = refl }
+  counting-none = record { passed = omega arith; place = sym (start-zero (length low)); counted = refl }
 
   pub counting-room : {found from e : ℕ} → Counting b n low high found from e → e < n → Room (length low) found from (length b)
+  unfolding lineStart
   counting-room {found} {from} {e} c h =
       let z = book-sizes k in
       let f = entry-fits k e (lineLength (length low)) h refl in
-      let w : e * lineLength (length low) ≡ e * (3 * length low + 1) = ap (λ (x : ℕ). e * x) (z .width-is) in
       record {
         few = omega (arith, c .counted, length-select (inBounds (length low) (decodeShape b .top) low high) (take e (decode b .entries)), length-take e (decode b .entries), z .count-fits, z .capacity-fits);
         after-head = omega (arith, c .place);
-        inside = omega (arith, c .place, f .0, z .width-is);
-        small = omega (arith, c .place, f .1, z .width-is);
+        inside = omega (arith, c .place, f .0);
+        small = omega (arith, c .place, f .1);
+        wider = cells-inside (length low);
         narrow = omega (arith, z .cells-fit);
       }
 
-  pub counting-next : {found from e : ℕ} {lows spans : List ℕ} {r : Bool} (more : ℕ) → Counting b n low high found from e → e < n →
+  pub counting-next : {found from e : ℕ} {lows spans : List ℕ} {r : Bool} (more width : ℕ) → width ≡ lineLength (length low) → Counting b n low high found from e → e < n →
       IsBounds (length low) (decodeShape b .top) low high → Tables (length low) low high lows spans →
       LineOutcome r (length (take (from + 3 * length low - from) (drop from b))) (take (from + 3 * length low - from) (drop from b)) (take (from + 3 * length low - 1 - (from - 1)) (drop (from - 1) b)) lows spans →
-      more ≡ oneMore found r → Counting b n low high more (from + 3 * length low + 1) (e + 1)
-  unfolding lineAt lineStart
-  counting-next {found} {from} {e} {lows} {spans} {r} more c h i t o m = record {
+      more ≡ oneMore found r → Counting b n low high more (from + width) (e + 1)
+  unfolding lineAt
+  counting-next {found} {from} {e} {lows} {spans} {r} more width w c h i t o m = record {
     passed = omega arith;
-    place = omega (arith, c .place);
+    place = omega (arith, c .place, next-start (length low) e);
     counted = m ∙ ap₂ oneMore (c .counted) within ∙ sym (select-snoc (inBounds (length low) (decodeShape b .top) low high) (take e (decode b .entries)) (getD (decode b .entries) e [])) ∙ ap (λ (x : List (List ℕ)). length (select (inBounds (length low) (decodeShape b .top) low high) x)) one-more;
   }
     where
@@ -117,13 +119,10 @@ module _ {n : ℕ} {b low high : List ℕ} (k : Book (length low) n b) where
       before = take (from + 3 * length low - 1 - (from - 1)) (drop (from - 1) b)
 
       wide : length line ≡ 3 * length low
-      wide = length-take-le (from + 3 * length low - from) (drop from b) (omega (arith, room .inside, length-drop from b)) ∙ omega arith
-
-      start : lineStart (length low) e ≡ from
-      start = ap (λ (w : ℕ). 31 + e * w) (book-sizes k .width-is) ∙ sym (c .place)
+      wide = length-take-le (from + 3 * length low - from) (drop from b) (omega (arith, room .inside, room .wider, length-drop from b)) ∙ omega arith
 
       stands : (j : ℕ) → j < 3 * length low → getD (lineAt (length low) b e) j 0 ≡ getD b (from + j) 0
-      stands j m = part-at b (lineStart (length low) e) (lineLength (length low)) j (omega (arith, book-sizes k .width-is)) ∙ ap (λ (s : ℕ). getD b (s + j) 0) start
+      stands j m = part-at b (lineStart (length low) e) (lineLength (length low)) j (omega (arith, room .wider)) ∙ ap (λ (s : ℕ). getD b (s + j) 0) (sym (c .place))
 
       same : (j : ℕ) → j < 3 * length low → getD line j 0 ≡ getD (lineAt (length low) b e) j 0
       same j m = part-at b from (from + 3 * length low - from) j (omega arith) ∙ sym (stands j m)

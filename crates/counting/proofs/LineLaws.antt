@@ -16,9 +16,11 @@ use Rattle.grids.proofs.QuestionLaws.{capped-at}
 use Rattle.bounds.specs.Bounds.{IsBounds, InBounds, inBounds}
 use Rattle.bounds.proofs.BoundsLaws.{inBounds-decides}
 use Rattle.layout.specs.Lines.{cellsOf, EntryLine}
-use Rattle.counting.specs.Within.{stated, passes, allPass, LineOutcome, Thirds, Tables}
+use Rattle.layout.proofs.LineLaws.{length-cells}
+use Rattle.lines.specs.Tables.{Thirds}
+use Rattle.counting.specs.Within.{stated, passes, allPass, LineOutcome, Tables}
 use Rattle.counting.proofs.PassLaws.{all-at, at-all, passes-any, passes-within, within-passes}
-use Rattle.counting.proofs.FieldLaws.{length-cells, stated-cell}
+use Rattle.counting.proofs.FieldLaws.{stated-cell}
 
 -- l is the entry's line, line its cells' bytes and before those a byte earlier
 module _ {size top : ℕ} {l lows spans low high : List ℕ} (line before : List ℕ) (c : EntryLine size top l) (small : top ≤ 15)

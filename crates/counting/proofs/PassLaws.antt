@@ -1,7 +1,6 @@
 -- Laws of bytes that pass.
 --
 --   ten-one, ten-other      ==  a 1, and another byte
---   above-is                ==  the number that, low added to it, wraps back to x
 --   stated-is               ==  what a byte and the one before it state, by the two parts
 --   passes-not, passes-yes  ==  the ways out of the test of a byte
 --   ranks-byte              ==  the rank of what is stated is a byte, since the code has it as one
@@ -22,7 +21,8 @@ use borrow.Author.Tests.{eq-eqb, ne-eqb, le-leb, leb-true}
 use Rattle.permutations.proofs.BoolLaws.{and-yes, yes-and}
 use Rattle.grids.specs.Order.{rank}
 use Rattle.bounds.proofs.PruneSteps.{order-fails, order-holds}
-use Rattle.counting.specs.Within.{ten, above, stated, passes, allPass, LineOutcome}
+use Rattle.lines.specs.Bytes.{above}
+use Rattle.counting.specs.Within.{ten, stated, passes, allPass, LineOutcome}
 
 pub ten-one : (x : ℕ) → x ≡ 49 → 10 ≡ ten x
 unfolding ten
@@ -31,10 +31,6 @@ ten-one x e = rw (eq-eqb x 49 e, ten) refl
 pub ten-other : (x : ℕ) → (x ≡ 49 → ⊥) → 0 ≡ ten x
 unfolding ten
 ten-other x n = rw (ne-eqb x 49 n, ten) refl
-
-pub above-is : (x low r : ℕ) → x < 256 → low < 256 → r < 256 → (r + low) % 2 ^ 8 ≡ x → r ≡ above x low
-unfolding above
-above-is x low r a b c e = omega arith
 
 pub stated-is : (byte before x t r : ℕ) → x ≡ above byte 48 → t ≡ ten before → r ≡ (x + t) % 2 ^ 8 → r ≡ stated byte before
 unfolding stated

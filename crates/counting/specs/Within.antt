@@ -2,12 +2,9 @@
 --
 --   ten byte                 ==  10 for a 1, 0 for another byte
 --   stated byte before       ==  the cell whose field ends with a byte and has another before it; round the 256 where they end none
---   above x low              ==  how far x is above low, round the 256
 --   passes byte before low span  ==  what the byte and the one before it state ranks above low by at most span
 --   allPass k line before lows spans  ==  the first k bytes of a line do, by tables of lows and spans; before is the line a byte earlier
 --   LineOutcome r k line before lows spans  ==  r says whether the first k bytes do, and the rank of what each states is a byte
---   put table k other last   ==  a table with three bytes written, those of cell k
---   Thirds table n other f   ==  the first 3 n bytes of a table are other, other and f k for each k < n
 --   Ordered low high         ==  at most 128 lows and as many highs, each low at most its high by rank
 --   Tables n low high lows spans  ==  the tables of the first n bounds: at a field's last byte the rank of the low and how far that of the high is
 --                               above it, at the other bytes what every byte passes by; the highs' ranks are bytes
@@ -15,16 +12,15 @@
 use mathlib.Core.Path.{_≡_}
 use mathlib.Core.List.{List}
 use mathlib.Core.Bool.{Bool, true, false, _&&_}
-use Prim.Native.Nat.{ℕ, zero, suc, _+_, _-_, _*_, _%_, _≤_, _<_}
-use lib.ListN.{length, getD, set}
+use Prim.Native.Nat.{ℕ, zero, suc, _+_, _-_, _%_, _≤_, _<_}
+use lib.ListN.{length, getD}
 use lib.Dec.{leb, eqb}
 use Rattle.grids.specs.Order.{rank}
+use Rattle.lines.specs.Bytes.{above}
+use Rattle.lines.specs.Tables.{Thirds}
 
 unfoldable pub ten : ℕ → ℕ
 ten byte = elim (eqb byte 49) [ true ↦ 10 | false ↦ 0 ]
-
-unfoldable pub above : ℕ → ℕ → ℕ
-above x low = (x + (256 - low)) % 256
 
 unfoldable pub stated : ℕ → ℕ → ℕ
 stated byte before = (above byte 48 + ten before) % 256
@@ -40,20 +36,14 @@ pub record LineOutcome (r : Bool) (k : ℕ) (line before lows spans : List ℕ) 
   pub answer : r ≡ allPass k line before lows spans
   pub ranked : (i : ℕ) → i < k → rank (stated (getD line i 0) (getD before i 0)) < 256
 
-unfoldable pub put : List ℕ → ℕ → ℕ → ℕ → List ℕ
-put table k other last = set (set (set table (3 * k) other) (3 * k + 1) other) (3 * k + 2) last
-
-unfoldable pub Thirds : List ℕ → ℕ → ℕ → (ℕ → ℕ) → Type 0
-Thirds table n other f = (k : ℕ) → k < n → (getD table (3 * k) 0 ≡ other) × (getD table (3 * k + 1) 0 ≡ other) × (getD table (3 * k + 2) 0 ≡ f k)
-
 pub record Ordered (low high : List ℕ) : Type 0 where
   pub few : length low ≤ 128
   pub as-many : length low ≡ length high
   pub in-order : (k : ℕ) → k < length low → rank (getD low k 0) ≤ rank (getD high k 0)
 
 pub record Tables (n : ℕ) (low high lows spans : List ℕ) : Type 0 where
-  pub low-ranks : Thirds lows n 0 (λ k. rank (getD low k 0))
-  pub high-spans : Thirds spans n 255 (λ k. rank (getD high k 0) - rank (getD low k 0))
+  pub low-ranks : Thirds lows n 0 0 (λ k. rank (getD low k 0))
+  pub high-spans : Thirds spans n 255 255 (λ k. rank (getD high k 0) - rank (getD low k 0))
   pub ranked : (k : ℕ) → k < n → rank (getD high k 0) < 256
 
 unfoldable pub oneMore : ℕ → Bool → ℕ

@@ -1,5 +1,8 @@
 // How many entries lie within bounds: each line is tested by its bytes, in a loop without a jump.
 use grids::cells;
+use lines::bytes::above;
+use lines::entries;
+use lines::tables::put;
 ghost use mathlib.Core.Path.{_≡_};
 ghost use mathlib.Core.Bool.{_&&_};
 ghost use Prim.Native.Nat.{_≤_, _<_};
@@ -9,20 +12,13 @@ ghost use Rattle.grids.specs.Order.{rank};
 ghost use Rattle.bounds.specs.Bounds.{IsBounds, inBounds};
 ghost use Rattle.layout.specs.Layout.{decodeShape, decode};
 ghost use Rattle.machine.specs.Books.{Book};
-ghost use Rattle.counting.specs.Within.{ten, above, stated, passes, LineOutcome, put, Ordered, Tables, oneMore};
+ghost use Rattle.counting.specs.Within.{ten, stated, passes, LineOutcome, Ordered, Tables, oneMore};
 
 // 10 for a 1, 0 for another byte.
 fn ten(byte: u8) -> u8
     ensures { λ r. ⌜ r ≡ ten byte ⌝ }
 {
     if byte == 49 { 10 } else { 0 }
-}
-
-// How far a number is above another, round the 256.
-fn above(x: u8, low: u8) -> u8
-    ensures { λ r. ⌜ r ≡ above x low ⌝ }
-{
-    std::num::wrapping_sub_u8(x, low)
 }
 
 // The cell whose field ends with a byte and has another before it; round the 256 where they end none.
@@ -57,16 +53,6 @@ fn line_within(line: &[u8], before: &[u8], lows: &[u8; 384], spans: &[u8; 384]) 
     within
 }
 
-// Writes three bytes of a table, those of cell k.
-fn put(table: &mut [u8; 384], k: usize, other: u8, last: u8)
-    requires { ⌜ (k < 128) × (length (now table) ≡ 384) ⌝ }
-    ensures { λ _. ⌜ now (table .exit) ≡ put (now (table .entry)) k other last ⌝ }
-{
-    table[3 * k] = other;
-    table[3 * k + 1] = other;
-    table[3 * k + 2] = last;
-}
-
 // Writes the tables of bounds.
 fn fill_tables(low: &[u8], high: &[u8], lows: &mut [u8; 384], spans: &mut [u8; 384])
     requires { ⌜ (length (now lows) ≡ 384) × (length (now spans) ≡ 384) × Ordered (now low) (now high) ⌝ }
@@ -76,8 +62,8 @@ fn fill_tables(low: &[u8], high: &[u8], lows: &mut [u8; 384], spans: &mut [u8; 3
     while k < low.len() {
         let least = cells::rank(low[k]);
         let greatest = cells::rank(high[k]);
-        put(lows, k, 0, least);
-        put(spans, k, 255, greatest - least);
+        put(lows, k, 0, 0, least);
+        put(spans, k, 255, 255, greatest - least);
         k += 1;
     }
 }
@@ -96,6 +82,7 @@ pub fn count_within(register: &[u8], count: usize, low: &[u8], high: &[u8]) -> u
     ensures { λ r. ⌜ r ≡ length (select (inBounds (length (now (low .entry))) (decodeShape (now (register .entry)) .top) (now (low .entry)) (now (high .entry))) (decode (now (register .entry)) .entries)) ⌝ }
 {
     let width = 3 * low.len();
+    let length = entries::line_length(low.len());
     let mut lows = [0u8; 384];
     let mut spans = [0u8; 384];
     fill_tables(low, high, &mut lows, &mut spans);
@@ -113,7 +100,7 @@ pub fn count_within(register: &[u8], count: usize, low: &[u8], high: &[u8]) -> u
             &spans,
         );
         found = one_more(found, within);
-        from = end + 1;
+        from = from + length;
         e += 1;
     }
     found

@@ -1,6 +1,7 @@
 -- Laws of decimal fields.
 --
 --   length-field                ==  a field of w bytes has w bytes
+--   value-append                ==  the digits of one list after those of another
 --   value-field, field-inj      ==  what is printed is read back
 --   Justified x s               ==  s is spaces and then digits, some unless x is 0, of which the first is no 0
 --   justified-field, zero-field ==  a field is spaces and then digits of which the first is no 0; for zero, spaces and one 0
@@ -14,7 +15,7 @@ use lib.Dec.{lit<}
 use borrow.Author.Tests.{ne-eqb}
 use Rattle.layout.specs.Decimal.{lead, field, digit, valueFrom, value}
 
-value-append : (acc : ℕ) (s t : List ℕ) → valueFrom acc (s ++ t) ≡ valueFrom (valueFrom acc s) t
+pub value-append : (acc : ℕ) (s t : List ℕ) → valueFrom acc (s ++ t) ≡ valueFrom (valueFrom acc s) t
 unfolding valueFrom
 value-append acc [] t = refl
 value-append acc (b ∷ s) t = value-append (digit acc b) s t

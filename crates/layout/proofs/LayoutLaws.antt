@@ -3,7 +3,7 @@
 --   Wide w ls         ==  every list of ls is w long
 --   wide-map, of-replicate  ==  when a mapped list is of lists of one length; what a list of copies holds
 --   piece, length-flatten  ==  one of several pieces of one length, put one after another
---   length-fields, fields-read  ==  numbers in fields of one width, and each read back
+--   length-fields, field-at, fields-read  ==  numbers in fields of one width; each field taken out, and read back
 --   length-entry, length-blank, length-head, length-entries, length-blanks, length-layout  ==  the lengths of the lines and of the whole
 --   Printable r       ==  the numbers and cells of r fit their fields
 --   decode-layout     ==  what the layout of a printable register states is that register
@@ -69,12 +69,14 @@ pub length-fields : (w : ℕ) (l : List ℕ) → length (fields w l) ≡ length 
 unfolding fields
 length-fields w l = length-flatten w (map (field w) l) (wide-fields w l) ∙ ap (λ (k : ℕ). k * w) (length-map l (field w))
 
-pub fields-read : (w : ℕ) (l t : List ℕ) (i : ℕ) → i < length l → getD l i 0 < 10 ^ suc w → value (take (suc w) (drop (i * suc w) (fields (suc w) l ++ t))) ≡ getD l i 0
+pub field-at : (w : ℕ) (l t : List ℕ) (i : ℕ) → i < length l → take w (drop (i * w) (fields w l ++ t)) ≡ field w (getD l i 0)
 unfolding fields
-fields-read w l t i h small =
-    let p = piece (suc w) (map (field (suc w)) l) t (wide-fields (suc w) l) i (omega (arith, length-map l (field (suc w)))) in
-    rw (p .1, at-map (field (suc w)) l i 0 [] h, take-at (field (suc w) (getD l i 0)) (p .0) (suc w) (length-field (suc w) (getD l i 0)))
-    (value-field w (getD l i 0) small)
+field-at w l t i h =
+    let p = piece w (map (field w) l) t (wide-fields w l) i (omega (arith, length-map l (field w))) in
+    rw (p .1, at-map (field w) l i 0 [] h) (take-at (field w (getD l i 0)) (p .0) w (length-field w (getD l i 0)))
+
+pub fields-read : (w : ℕ) (l t : List ℕ) (i : ℕ) → i < length l → getD l i 0 < 10 ^ suc w → value (take (suc w) (drop (i * suc w) (fields (suc w) l ++ t))) ≡ getD l i 0
+fields-read w l t i h small = ap value (field-at (suc w) l t i h) ∙ value-field w (getD l i 0) small
 
 -- ---- lines
 

@@ -2,8 +2,10 @@
 --
 --   drop-take, flatten-append   ==  of lists: a part without its first elements; lists put one after another, in two steps
 --   of-parts, at-parts          ==  a list is its parts of one length, put one after another; each of them taken out again
---   next-start                  ==  a line begins where the one before it ends
+--   start-zero, next-start      ==  where the first line begins; a line begins where the one before it ends
 --   length-line                 ==  how many bytes a line has, where there are bytes enough
+--   cells-inside, line-short    ==  they are more than those of its cells, and not many
+--   length-cells, cell-at       ==  the cells that a line states, by their places
 --   entry-cells                 ==  an entry is what its line states
 --   from-lines                  ==  a byte string is line 1 and then its lines
 --   linesOf r                   ==  the lines after line 1: those of the entries, and blank lines up to the capacity
@@ -90,6 +92,10 @@ module _ {A : Type 0} where
 
 -- ---- lines by their places
 
+pub start-zero : (size : ℕ) → lineStart size 0 ≡ headLength
+unfolding lineStart
+start-zero size = omega (arith, zero-mul (lineLength size))
+
 pub next-start : (size e : ℕ) → lineStart size (e + 1) ≡ lineStart size e + lineLength size
 unfolding lineStart
 next-start size e = omega arith
@@ -99,9 +105,24 @@ unfolding lineAt
 length-line size b e h =
     length-take-le (lineLength size) (drop (lineStart size e) b) (omega (arith, next-start size e, length-drop (lineStart size e) b))
 
-field-inside : (size k : ℕ) → k < size → 3 ≤ lineLength size - 3 * k
+pub cells-inside : (size : ℕ) → 3 * size < lineLength size
 unfolding lineLength entryWidth
-field-inside size k h = omega arith
+cells-inside size = omega arith
+
+pub line-short : (size : ℕ) → size ≤ 128 → lineLength size ≤ 385
+unfolding lineLength entryWidth
+line-short size h = omega arith
+
+field-inside : (size k : ℕ) → k < size → 3 ≤ lineLength size - 3 * k
+field-inside size k h = omega (arith, cells-inside size)
+
+pub length-cells : (size : ℕ) (l : List ℕ) → length (cellsOf size l) ≡ size
+unfolding cellsOf
+length-cells size l = length-tabulate 0 size (λ k. numberAt 3 (3 * k) l)
+
+pub cell-at : (size : ℕ) (l : List ℕ) (k : ℕ) → k < size → getD (cellsOf size l) k 0 ≡ numberAt 3 (3 * k) l
+unfolding cellsOf
+cell-at size l k h = at-tabulate size (λ k. numberAt 3 (3 * k) l) k 0 h
 
 pub entry-cells : (size : ℕ) (b : List ℕ) (e : ℕ) → entryAt size b e ≡ cellsOf size (lineAt size b e)
 unfolding entryAt cellsOf numberAt lineAt lineStart

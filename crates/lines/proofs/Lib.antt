@@ -1,4 +1,7 @@
+pub mod ByteLaws
+pub mod FieldLaws
 pub mod FillLaws
 pub mod HeadLaws
 pub mod LineLaws
 pub mod NumberLaws
+pub mod TableLaws

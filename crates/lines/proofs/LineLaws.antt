@@ -19,26 +19,17 @@ use native.Mathlib.Numerals.{add-one}
 use native.Mathlib.Omega.{arith}
 use lib.ListN.{length, take, drop, set, getD, replicate, length-take, length-drop, length-set, drop-of-length-le, replicate-append-replicate, List·getD-append, take-append-drop}
 use lib.Seq.{take-suc, take-all, drop-cons, set-at, take-at, drop-at, getD-take, getD-drop, getD-append-add, length-take-le, append-snoc, drop-drop}
-use Rattle.permutations.proofs.ListLaws.{length-tabulate, at-tabulate}
 use Rattle.grids.proofs.QuestionLaws.{capped-at}
 use Rattle.layout.specs.Decimal.{field}
 use Rattle.layout.specs.Layout.{fields, entryWidth, lineLength, entryLine, blankLine, numberAt}
 use Rattle.layout.specs.Lines.{cellsOf, EntryLine}
 use Rattle.layout.proofs.LayoutLaws.{length-entry}
+use Rattle.layout.proofs.LineLaws.{length-cells, cell-at}
 use Rattle.lines.proofs.FillLaws.{Filled, fill-none, fill, fill-part, filled, filled-whole}
 
 -- ---- a line is read
 
-length-cells : (size : ℕ) (l : List ℕ) → length (cellsOf size l) ≡ size
-unfolding cellsOf
-length-cells size l = length-tabulate 0 size (λ k. numberAt 3 (3 * k) l)
-
-cell-at : (size : ℕ) (l : List ℕ) (k : ℕ) → k < size → getD (cellsOf size l) k 0 ≡ numberAt 3 (3 * k) l
-unfolding cellsOf
-cell-at size l k h = at-tabulate size (λ k. numberAt 3 (3 * k) l) k 0 h
-
-pub length-line : {size top : ℕ} {l : List ℕ} → EntryLine size top l → length l ≡ 3 * size + 1
-unfolding lineLength entryWidth
+pub length-line : {size top : ℕ} {l : List ℕ} → EntryLine size top l → length l ≡ lineLength size
 length-line {size} {top} {l} e = ap length (e .bytes) ∙ length-entry (cellsOf size l) ∙ ap lineLength (length-cells size l)
 
 pub cell-small : {size top : ℕ} {l : List ℕ} (k : ℕ) → EntryLine size top l → k < size → numberAt 3 (3 * k) l ≤ top

@@ -1,7 +1,8 @@
 -- Numbers read and written byte by byte.
 --
 --   digit-space, digit-other  ==  what a space, and any other byte, does to the number before it
---   number-three, number-six  ==  three bytes, six bytes read one after another are the number that they state
+--   read-three                ==  three bytes read one after another, after a number
+--   number-three, number-six  ==  three bytes, and twice three bytes, so read are the number that they state
 --   no-field                  ==  a field without a place
 --   lead-none, lead-some      ==  the last place of a number of which nothing is left, and of another
 --   Written x w k y o         ==  the field of x, w wide, is written into o from place k on; y is what is left of x before k
@@ -11,10 +12,11 @@ use mathlib.Core.List.{List, [], _∷_, _++_, append-assoc}
 use Prim.Native.Nat.{ℕ, zero, suc, _+_, _-_, _*_, _/_, _%_, _≤_, _<_}
 use native.Mathlib.Omega.{arith}
 use lib.ListN.{length, getD, take, drop, set, length-set, drop-of-length-le}
-use lib.Seq.{drop-cons, drop-set-lt, getD-set-same}
+use lib.Seq.{take-add, drop-drop, drop-cons, drop-set-lt, getD-set-same}
 use borrow.Author.Tests.{ne-eqb}
 use Rattle.layout.specs.Decimal.{lead, field, digit, valueFrom, value}
 use Rattle.layout.specs.Layout.{numberAt}
+use Rattle.layout.proofs.DecimalLaws.{value-append}
 
 pub digit-space : (acc b : ℕ) → b ≡ 32 → acc ≡ digit acc b
 unfolding digit
@@ -31,27 +33,22 @@ next w acc i j x b h p e =
     let q : j ≡ suc i = omega arith in
     rw (drop-cons b i 0 (omega arith), q, e)
 
-three : (w u v x y i : ℕ) (b : List ℕ) → i + suc (suc (suc w)) ≤ length b → v ≡ digit u (getD b i 0) → x ≡ digit v (getD b (i + 1) 0) → y ≡ digit x (getD b (i + 2) 0) →
-    valueFrom u (take (suc (suc (suc w))) (drop i b)) ≡ valueFrom y (take w (drop (i + 3) b))
-three w u v x y i b h p q r =
-    next (suc (suc w)) u i (i + 1) v b (omega arith) refl p
-    ∙ next (suc w) v (i + 1) (i + 2) x b (omega arith) (omega arith) q
-    ∙ next w x (i + 2) (i + 3) y b (omega arith) (omega arith) r
+pub read-three : (u v x y i : ℕ) (b : List ℕ) → i + 3 ≤ length b → v ≡ digit u (getD b i 0) → x ≡ digit v (getD b (i + 1) 0) → y ≡ digit x (getD b (i + 2) 0) →
+    y ≡ valueFrom u (take 3 (drop i b))
+unfolding valueFrom
+read-three u v x y i b h p q r =
+    sym (next 2 u i (i + 1) v b (omega arith) refl p
+    ∙ next 1 v (i + 1) (i + 2) x b (omega arith) (omega arith) q
+    ∙ next 0 x (i + 2) (i + 3) y b (omega arith) (omega arith) r)
 
-pub number-three : (v x y i : ℕ) (b : List ℕ) → i + 3 ≤ length b → v ≡ digit 0 (getD b i 0) → x ≡ digit v (getD b (i + 1) 0) → y ≡ digit x (getD b (i + 2) 0) →
-    y ≡ numberAt 3 i b
-unfolding numberAt value valueFrom
-number-three v x y i b h p q r = sym (three 0 0 v x y i b h p q r)
+pub number-three : (y i : ℕ) (b : List ℕ) → y ≡ valueFrom 0 (take 3 (drop i b)) → y ≡ numberAt 3 i b
+unfolding numberAt value
+number-three y i b e = e
 
-pub number-six : (t u v x y z i : ℕ) (b : List ℕ) → i + 6 ≤ length b →
-    t ≡ digit 0 (getD b i 0) → u ≡ digit t (getD b (i + 1) 0) → v ≡ digit u (getD b (i + 2) 0) →
-    x ≡ digit v (getD b (i + 3) 0) → y ≡ digit x (getD b (i + 4) 0) → z ≡ digit y (getD b (i + 5) 0) →
-    z ≡ numberAt 6 i b
-unfolding numberAt value valueFrom
-number-six t u v x y z i b h p q r k l m =
-    let e : i + 3 + 1 ≡ i + 4 = omega arith in
-    let f : i + 3 + 2 ≡ i + 5 = omega arith in
-    sym (three 3 0 t u v i b h p q r ∙ three 0 v x y z (i + 3) b (omega arith) k (rw e l) (rw f m))
+pub number-six : (x y i : ℕ) (b : List ℕ) → x ≡ valueFrom 0 (take 3 (drop i b)) → y ≡ valueFrom x (take 3 (drop (i + 3) b)) → y ≡ numberAt 6 i b
+unfolding numberAt value
+number-six x y i b p q =
+    rw (take-add 3 3 (drop i b), drop-drop 3 i b, value-append 0 (take 3 (drop i b)) (take 3 (drop (i + 3) b)), ← p) q
 
 pub no-field : (l : List ℕ) (x : ℕ) → length l ≡ 0 → l ≡ field (length l) x
 unfolding field

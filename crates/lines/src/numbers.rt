@@ -1,23 +1,39 @@
 // Decimal numbers, right-justified in fields.
 ghost use mathlib.Core.Path.{_≡_};
 ghost use mathlib.Core.List.{[], _∷_};
-ghost use Prim.Native.Nat.{_+_, _*_, _≤_, _<_};
-ghost use lib.ListN.{length};
-ghost use Rattle.layout.specs.Decimal.{lead, field, digit};
+ghost use Prim.Native.Nat.{_+_, _-_, _*_, _≤_, _<_};
+ghost use lib.ListN.{length, take, drop};
+ghost use Rattle.layout.specs.Decimal.{lead, field, digit, valueFrom};
 ghost use Rattle.layout.specs.Layout.{numberAt};
+
+// What a byte adds to a number as its last digit.
+fn worth(byte: u8) -> usize
+    ensures { λ r. ⌜ (r ≡ byte - 48) × (r ≤ 207) ⌝ }
+{
+    if byte < 48 {
+        return 0;
+    }
+    (byte - 48) as usize
+}
 
 // A number followed by a digit; a space is passed over.
 fn digit(acc: usize, byte: u8) -> usize
     requires { ⌜ acc ≤ 10000000 ⌝ }
     ensures { λ r. ⌜ (r ≡ digit acc byte) × (r ≤ acc * 10 + 207) ⌝ }
 {
+    let more = acc * 10 + worth(byte);
     if byte == 32 {
         return acc;
     }
-    if byte < 48 {
-        return acc * 10;
-    }
-    acc * 10 + (byte - 48) as usize
+    more
+}
+
+// A number followed by the digits of three bytes.
+fn three_more(acc: usize, bytes: &[u8], at: usize) -> usize
+    requires { ⌜ (acc ≤ 22977) × (at + 3 ≤ length (now bytes)) ⌝ }
+    ensures { λ r. ⌜ (r ≡ valueFrom acc (take 3 (drop at (now (bytes .entry))))) × (r ≤ acc * 1000 + 22977) ⌝ }
+{
+    digit(digit(digit(acc, bytes[at]), bytes[at + 1]), bytes[at + 2])
 }
 
 // The number that six bytes state.
@@ -25,9 +41,7 @@ pub fn six_wide(bytes: &[u8], at: usize) -> usize
     requires { ⌜ at + 6 ≤ length (now bytes) ⌝ }
     ensures { λ r. ⌜ (r ≡ numberAt 6 at (now (bytes .entry))) × (r < 100000000) ⌝ }
 {
-    let a = digit(digit(0, bytes[at]), bytes[at + 1]);
-    let b = digit(digit(a, bytes[at + 2]), bytes[at + 3]);
-    digit(digit(b, bytes[at + 4]), bytes[at + 5])
+    three_more(three_more(0, bytes, at), bytes, at + 3)
 }
 
 // The number that three bytes state.
@@ -35,7 +49,7 @@ pub fn three_wide(bytes: &[u8], at: usize) -> usize
     requires { ⌜ at + 3 ≤ length (now bytes) ⌝ }
     ensures { λ r. ⌜ (r ≡ numberAt 3 at (now (bytes .entry))) × (r < 100000) ⌝ }
 {
-    digit(digit(digit(0, bytes[at]), bytes[at + 1]), bytes[at + 2])
+    three_more(0, bytes, at)
 }
 
 // The byte of the last digit of what is left of a number; a space where nothing is.

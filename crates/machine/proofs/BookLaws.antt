@@ -18,15 +18,15 @@ use Rattle.grids.specs.Grids.{capped}
 use Rattle.grids.proofs.OrderLaws.{equal-eq}
 use Rattle.grids.proofs.QuestionLaws.{size-fits, capped-at, at-capped}
 use Rattle.permutations.proofs.BoolLaws.{and-yes}
-use Rattle.layout.specs.Layout.{Register, cells, headLength, entryWidth, lineLength, layout, layoutLength, count, decodeShape, decode, Ascends, IsRegister, isRegister, laidOut}
+use Rattle.layout.specs.Layout.{Register, cells, headLength, lineLength, layout, layoutLength, count, decodeShape, decode, Ascends, IsRegister, isRegister, laidOut}
 use Rattle.layout.specs.Lines.{lineStart, lineAt, cellsOf, EntryLine, HeadLaid, EntriesLaid, BlanksLaid}
 use Rattle.layout.proofs.RegisterLaws.{register-decides}
-use Rattle.layout.proofs.LineLaws.{laid-lines, line-entry, entries-counted}
+use Rattle.layout.proofs.LineLaws.{laid-lines, line-entry, entries-counted, line-short}
 use Rattle.machine.specs.Books.{Book}
 
 pub record Sizes (size n capacity : ℕ) (b : List ℕ) : Type 0 where
   pub cells-fit : size ≤ 128
-  pub width-is : lineLength size ≡ 3 * size + 1
+  pub width-fits : lineLength size ≤ 385
   pub count-fits : n ≤ capacity
   pub capacity-fits : capacity ≤ 500
   pub length-is : length b ≡ 31 + capacity * lineLength size
@@ -59,20 +59,21 @@ module _ {size n : ℕ} {b : List ℕ} (k : Book size n b) where
       rw (k .sized) (record { bytes = x .bytes; at-most = capped-more _ 15 (cellsOf _ (lineAt _ b e)) l (x .at-most) }, sym (line-entry b (k .laid) e (omega (arith, k .counts))))
 
   pub book-sizes : Sizes size n (decodeShape b .capacity) b
-  unfolding layoutLength lineLength entryWidth decodeShape decode
+  unfolding layoutLength decodeShape decode
   book-sizes =
       let p = laid-lines b .0 (k .laid) .0 in
       let l = p .limits .grid-limits in
+      let fit : size ≤ 128 = omega (arith, k .sized, size-fits (decodeShape b .rows) (decodeShape b .columns) (l .rows-limits .1) (l .column-limits .1)) in
       record {
-        cells-fit = omega (arith, k .sized, size-fits (decodeShape b .rows) (decodeShape b .columns) (l .rows-limits .1) (l .column-limits .1));
-        width-is = refl;
+        cells-fit = fit;
+        width-fits = line-short size fit;
         count-fits = omega (arith, k .counts, p .count-fits);
         capacity-fits = p .limits .capacity-limits .1;
-        length-is = p .sized ∙ ap (λ (x : ℕ). 31 + decodeShape b .capacity * (3 * x + 1)) (sym (k .sized));
+        length-is = p .sized ∙ ap (λ (x : ℕ). 31 + decodeShape b .capacity * lineLength x) (sym (k .sized));
       }
 
   pub line-fits : (e w : ℕ) → e < decodeShape b .capacity → w ≡ lineLength size → (31 + e * w + w ≤ length b) × (31 + e * w + w ≤ 192531)
-  line-fits e w h q = let z = book-sizes in fits (decodeShape b .capacity) h (rw (← q) at (z .length-is)) (z .capacity-fits) (omega (arith, z .cells-fit, z .width-is))
+  line-fits e w h q = let z = book-sizes in fits (decodeShape b .capacity) h (rw (← q) at (z .length-is)) (z .capacity-fits) (omega (arith, z .width-fits))
     where
       fits : (c : ℕ) → e < c → length b ≡ 31 + c * w → c ≤ 500 → w ≤ 385 → (31 + e * w + w ≤ length b) × (31 + e * w + w ≤ 192531)
       fits c h l a d =

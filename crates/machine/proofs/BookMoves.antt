@@ -63,12 +63,12 @@ module _ {size n : ℕ} {b : List ℕ} (k : Book size n b) (p w : ℕ) (q : w �
   pub room-insert : p ≤ n → n < decodeShape b .capacity → Room b (31 + p * w) ((n - p) * w) w
   room-insert i h =
       let z = book-sizes k in
-      lines-fit b p (n - p) (decodeShape b .capacity) w (omega arith) (rw (← q) at (z .length-is)) (z .capacity-fits) (omega (arith, z .width-is, z .cells-fit))
+      lines-fit b p (n - p) (decodeShape b .capacity) w (omega arith) (rw (← q) at (z .length-is)) (z .capacity-fits) (omega (arith, z .width-fits))
 
   pub room-remove : p < n → Room b (31 + p * w) ((n - (p + 1)) * w) w
   room-remove h =
       let z = book-sizes k in
-      lines-fit b p (n - (p + 1)) (decodeShape b .capacity) w (omega (arith, z .count-fits)) (rw (← q) at (z .length-is)) (z .capacity-fits) (omega (arith, z .width-is, z .cells-fit))
+      lines-fit b p (n - (p + 1)) (decodeShape b .capacity) w (omega (arith, z .count-fits)) (rw (← q) at (z .length-is)) (z .capacity-fits) (omega (arith, z .width-fits))
 
   cells-are : size ≡ cells (decode b .shape)
   unfolding decode

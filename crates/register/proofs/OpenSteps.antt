@@ -23,8 +23,9 @@ use Rattle.permutations.specs.Lists.{every}
 use Rattle.grids.specs.Questions.{Question, firstNo, limitsNo, question6}
 use Rattle.grids.proofs.QuestionLaws.{firstNo-pass, firstNo-stop, yes-range, limits-decide, limits-refuse, limits-pass, size-fits}
 use Rattle.grids.proofs.QuestionSteps.{range-no}
-use Rattle.layout.specs.Layout.{Shape, cells, entryWidth, lineLength, headLine, blankLine, layout, layoutLength, InLimits}
+use Rattle.layout.specs.Layout.{Shape, cells, lineLength, headLine, blankLine, layout, layoutLength, InLimits}
 use Rattle.layout.specs.Lines.{lineStart}
+use Rattle.layout.proofs.LineLaws.{line-short}
 use Rattle.layout.proofs.MoveLaws.{Opened, opened-head-part, opened-next, opened-all}
 use Rattle.machine.specs.Calls.{Outcome, answered, question4, openQuestions, opened}
 use Rattle.machine.specs.Books.{placed, shape, openNo}
@@ -121,10 +122,10 @@ module _ {s : Shape} {w start e : ℕ} {b : List ℕ} (i : InLimits s) (f : Fill
   start-is = f .place ∙ ap (λ (x : ℕ). 31 + e * x) (f .width-is)
 
   pub filling-room : Room b start 0 w
-  unfolding layoutLength lineLength entryWidth
+  unfolding layoutLength
   filling-room =
       let c = size-fits (s .rows) (s .columns) (i .grid-limits .rows-limits .1) (i .grid-limits .column-limits .1) in
-      let r = lines-fit b e 0 (s .capacity) w (omega arith) (f .written .sized ∙ ap (λ (x : ℕ). 31 + s .capacity * x) (sym (f .width-is))) (i .capacity-limits .1) (omega (arith, f .width-is)) in
+      let r = lines-fit b e 0 (s .capacity) w (omega arith) (f .written .sized ∙ ap (λ (x : ℕ). 31 + s .capacity * x) (sym (f .width-is))) (i .capacity-limits .1) (omega (arith, f .width-is, line-short (cells s) c)) in
       let p = f .place in
       record { past-head = omega (arith, p); start-inside = omega (arith, p, r .start-inside); end-inside = omega (arith, p, r .end-inside); small = omega (arith, p, r .small) }
 

@@ -16,7 +16,7 @@ use lib.Seq.{length-take-le}
 use lib.Dec.{ltb}
 use borrow.Author.Tests.{lt-ltb, le-ltb}
 use Rattle.permutations.proofs.BoolLaws.{yes-or-no, refuted}
-use Rattle.permutations.proofs.ListLaws.{length-tabulate, part-is}
+use Rattle.permutations.proofs.ListLaws.{part-is}
 use Rattle.grids.specs.declared.comparisons.Comparison.{Comparison}
 use Rattle.grids.specs.Order.{_≼_, _≺_, equal}
 use Rattle.grids.specs.Comparisons.{isEqual, compared}
@@ -24,6 +24,7 @@ use Rattle.grids.proofs.OrderLaws.{equal-eq, eq-equal}
 use Rattle.grids.proofs.ComparisonLaws.{equal-yes, equal-no}
 use Rattle.layout.specs.Layout.{lineLength, decode, Ascends}
 use Rattle.layout.specs.Lines.{lineAt, cellsOf, EntryLine}
+use Rattle.layout.proofs.LineLaws.{length-cells}
 use Rattle.machine.specs.Places.{Between}
 use Rattle.machine.specs.Books.{Book}
 use Rattle.machine.proofs.PlaceLaws.{between-low, between-high}
@@ -33,10 +34,6 @@ use Rattle.register.specs.Spans.{Halved}
 
 pub part-length : (z : List ℕ) (k : ℕ) → k ≤ length z → length (take (k - 0) z) ≡ k
 part-length z k h = let e : k - 0 ≡ k = omega arith in rw e (length-take-le k z h)
-
-length-cells : (size : ℕ) (l : List ℕ) → length (cellsOf size l) ≡ size
-unfolding cellsOf
-length-cells size l = length-tabulate 0 size _
 
 module _ {size n : ℕ} {b : List ℕ} (k : Book size n b) (e w : ℕ) (h : e < n) (q : w ≡ lineLength size) where
   pub entry-line : (z : List ℕ) → 128 ≤ length z → (length (take (size - 0) z) ≤ 128) × EntryLine (length (take (size - 0) z)) 15 (take (31 + e * w + w - (31 + e * w)) (drop (31 + e * w) b))

@@ -4,28 +4,34 @@
 --   cellFits top before a b c ==  the three bytes of a cell fit; before is the byte before them
 --   fit-bytes, bytes-fit      ==  they do exactly where they are such a field, by its bytes
 --   CellField top a b c       ==  the same by the number: the bytes are the field of the number that they read, and that is at most top
---   bytes-field, field-bytes  ==  and so it is
---   bytes-value               ==  the number by the bytes
+--   three                     ==  three bytes of a list
+--   bytes-field, field-bytes  ==  the two are one
+--   cells-field               ==  so of each cell that is laid out
+--   cells-more                ==  cells at most top are at most 15
 --   fit-cells                 ==  the answer of the loop: every cell is laid out
---   cells-digits              ==  the last byte of a cell that is laid out is a digit
 use mathlib.Core.Path.{_≡_, refl, sym, ap, ap₂, _∙_, subst}
-use mathlib.Core.List.{List, [], _∷_, _++_}
+use mathlib.Core.List.{List, [], _∷_}
 use mathlib.Core.Bool.{Bool, true, false, _&&_}
 use mathlib.Core.Logic.{_⊎_, inl, inr, _↔_}
-use Prim.Native.Nat.{ℕ, zero, suc, _+_, _-_, _*_, _/_, _%_, _≤_, _<_}
+use Prim.Native.Nat.{ℕ, zero, suc, _+_, _-_, _*_, _≤_, _<_}
 use native.Mathlib.Omega.{arith}
 use native.Mathlib.Nat.{not-suc-le-zero}
 use native.Mathlib.Decide.{decLt, ℕ-discrete}
-use borrow.Author.Tests.{ne-eqb, le-leb, leb-true}
-use lib.ListN.{getD}
+use borrow.Author.Tests.{le-leb, leb-true}
+use lib.ListN.{getD, length, take, drop}
+use lib.Seq.{drop-cons}
 use lib.Dec.{eqb}
 use Rattle.permutations.proofs.BoolLaws.{and-yes, yes-and}
-use Rattle.layout.specs.Decimal.{field, value, lead, valueFrom, digit}
-use Rattle.scan.specs.Cells.{One, Two, CellBytes, CellsLaid, Digits, ten}
-use Rattle.scan.specs.Fits.{above, rest, lesser, fits, allFit}
-use Rattle.scan.specs.Tables.{Cycles, teenOf, spanOf, Tables}
+use Rattle.layout.specs.Decimal.{field, value}
+use Rattle.layout.specs.Layout.{numberAt}
+use Rattle.layout.proofs.DecimalLaws.{value-field}
+use Rattle.lines.specs.Bytes.{above}
+use Rattle.lines.proofs.FieldLaws.{field-one, field-two}
+use Rattle.lines.proofs.TableLaws.{thirds-at}
+use Rattle.scan.specs.Cells.{One, Two, CellBytes, CellsLaid}
+use Rattle.scan.specs.Fits.{rest, lesser, fits, allFit}
+use Rattle.scan.specs.Tables.{teenOf, spanOf, Tables}
 use Rattle.scan.proofs.FitLaws.{rest-teen, rest-other, lesser-first, lesser-second, all-none, all-next, teen-low, teen-high}
-use Rattle.scan.proofs.OrderLaws.{ten-one, ten-other}
 
 -- ---- what fits says in numbers
 
@@ -167,49 +173,29 @@ bytes-fit top before a b c t (e, o) =
 
 -- ---- the field
 
-field-one : (v : ℕ) → v < 10 → field 3 v ≡ 32 ∷ 32 ∷ (48 + v) ∷ []
-unfolding field lead
-field-one v l =
-    let q : v / 10 ≡ 0 = omega arith in
-    let r : v % 10 ≡ v = omega arith in
-    ap₂ (λ (x y : ℕ). lead 2 x ++ ((48 + y) ∷ [])) q r
-
-field-two : (v : ℕ) → 10 ≤ v → v < 20 → field 3 v ≡ 32 ∷ 49 ∷ (38 + v) ∷ []
-unfolding field lead
-field-two v l m =
-    let q : v / 10 ≡ 1 = omega arith in
-    let r : 48 + v % 10 ≡ 38 + v = omega arith in
-    ap₂ (λ (x y : ℕ). lead 2 x ++ (y ∷ [])) q r
-
-value-one : (c : ℕ) → 48 ≤ c → value (32 ∷ 32 ∷ c ∷ []) ≡ c - 48
-unfolding value valueFrom digit
-value-one c l = rw (ne-eqb c 32 (λ e. omega (arith, e)), digit) (omega arith)
-
-value-two : (c : ℕ) → 48 ≤ c → value (32 ∷ 49 ∷ c ∷ []) ≡ c - 38
-unfolding value valueFrom digit
-value-two c l = rw (ne-eqb c 32 (λ e. omega (arith, e)), digit) (omega arith)
+pub three : (l : List ℕ) (i : ℕ) → i + 2 < length l → take 3 (drop i l) ≡ getD l i 0 ∷ getD l (i + 1) 0 ∷ getD l (i + 2) 0 ∷ []
+three l i h =
+    ap (take 3) (drop-cons l i 0 (omega arith) ∙ ap (λ (t : List ℕ). getD l i 0 ∷ t) (drop-cons l (suc i) 0 (omega arith) ∙ ap (λ (t : List ℕ). getD l (suc i) 0 ∷ t) (drop-cons l (suc (suc i)) 0 (omega arith))))
+    ∙ ap₂ (λ (x y : ℕ). getD l i 0 ∷ getD l x 0 ∷ getD l y 0 ∷ []) (omega arith) (omega arith)
 
 unfoldable pub CellField : ℕ → ℕ → ℕ → ℕ → Type 0
 CellField top a b c = ((a ∷ b ∷ c ∷ []) ≡ field 3 (value (a ∷ b ∷ c ∷ []))) × (value (a ∷ b ∷ c ∷ []) ≤ top)
 
-one-field : (top c : ℕ) → 48 ≤ c → c ≤ 48 + top → c ≤ 57 → CellField top 32 32 c
+-- the bytes of a field read as its number
+read-back : (top v a b c : ℕ) → top ≤ 15 → v ≤ top → field 3 v ≡ a ∷ b ∷ c ∷ [] → CellField top a b c
 unfolding CellField
-one-field top c p q r =
-    let v = value-one c p in
-    let e : 48 + (c - 48) ≡ c = omega arith in
-    (sym (ap (field 3) v ∙ field-one (c - 48) (omega arith) ∙ ap (λ (x : ℕ). 32 ∷ 32 ∷ x ∷ []) e), omega (arith, v))
-
-two-field : (top c : ℕ) → top ≤ 15 → 48 ≤ c → c ≤ 38 + top → CellField top 32 49 c
-unfolding CellField
-two-field top c t p q =
-    let v = value-two c p in
-    let e : 38 + (c - 38) ≡ c = omega arith in
-    (sym (ap (field 3) v ∙ field-two (c - 38) (omega arith) (omega arith) ∙ ap (λ (x : ℕ). 32 ∷ 49 ∷ x ∷ []) e), omega (arith, v))
+read-back top v a b c t l e =
+    let r : value (a ∷ b ∷ c ∷ []) ≡ v = ap value (sym e) ∙ value-field 2 v (omega arith) in
+    (sym e ∙ ap (field 3) (sym r), omega arith)
 
 pub bytes-field : (top a b c : ℕ) → top ≤ 15 → CellBytes top a b c → CellField top a b c
 unfolding CellBytes One Two
-bytes-field top a b c t (e, inl (q, p, r, m)) = rw (e, q) (one-field top c p r m)
-bytes-field top a b c t (e, inr (q, u, p, r)) = rw (e, q) (two-field top c t p r)
+bytes-field top a b c t (e, inl (q, p, r, m)) =
+    let z : 48 + (c - 48) ≡ c = omega arith in
+    read-back top (c - 48) a b c t (omega arith) (rw (e, q) (field-one (c - 48) (omega arith) ∙ ap (λ (x : ℕ). 32 ∷ 32 ∷ x ∷ []) z))
+bytes-field top a b c t (e, inr (q, u, p, r)) =
+    let z : 38 + (c - 38) ≡ c = omega arith in
+    read-back top (c - 38) a b c t (omega arith) (rw (e, q) (field-two (c - 38) (omega arith) (omega arith) ∙ ap (λ (x : ℕ). 32 ∷ 49 ∷ x ∷ []) z))
 
 pub field-bytes : (top a b c : ℕ) → top ≤ 15 → CellField top a b c → CellBytes top a b c
 unfolding CellField CellBytes One Two
@@ -225,10 +211,25 @@ field-bytes top a b c t (f, l) = go (value (a ∷ b ∷ c ∷ [])) f l (decLt (v
         let w : c ≡ 38 + v = ap (λ (l : List ℕ). getD l 2 0) e in
         (ap (λ (l : List ℕ). getD l 0 0) e, inr (ap (λ (l : List ℕ). getD l 1 0) e, omega arith, omega (arith, w), omega (arith, w)))
 
-pub bytes-value : (top a b c : ℕ) → CellBytes top a b c → value (a ∷ b ∷ c ∷ []) ≡ c - 48 + ten b
-unfolding CellBytes One Two
-bytes-value top a b c (e, inl (q, p, r, m)) = let z = ten-other b (λ w. omega arith) in ap₂ (λ (x y : ℕ). value (x ∷ y ∷ c ∷ [])) e q ∙ value-one c p ∙ omega arith
-bytes-value top a b c (e, inr (q, u, p, r)) = let z = ten-one b q in ap₂ (λ (x y : ℕ). value (x ∷ y ∷ c ∷ [])) e q ∙ value-two c p ∙ omega arith
+pub cells-field : (top : ℕ) (b : List ℕ) (at n : ℕ) → top ≤ 15 → at + 3 * n ≤ length b → CellsLaid top b at n → (k : ℕ) → k < n →
+    (take 3 (drop (at + 3 * k) b) ≡ field 3 (numberAt 3 (at + 3 * k) b)) × (numberAt 3 (at + 3 * k) b ≤ top)
+unfolding CellsLaid CellField numberAt
+cells-field top b at n t fits h k l = rw (three b (at + 3 * k) (omega arith)) (bytes-field top _ _ _ t (h k l))
+
+pub cells-more : (top : ℕ) (b : List ℕ) (at n : ℕ) → top ≤ 15 → CellsLaid top b at n → CellsLaid 15 b at n
+unfolding CellsLaid CellBytes One Two
+cells-more top b at n t h k l = (h k l .0, go (h k l .1))
+  where
+    x : ℕ
+    x = getD b (at + 3 * k + 1) 0
+
+    c : ℕ
+    c = getD b (at + 3 * k + 2) 0
+
+    go : ((x ≡ 32) × (48 ≤ c) × (c ≤ 48 + top) × (c ≤ 57)) ⊎ ((x ≡ 49) × (10 ≤ top) × (48 ≤ c) × (c ≤ 38 + top)) →
+        ((x ≡ 32) × (48 ≤ c) × (c ≤ 48 + 15) × (c ≤ 57)) ⊎ ((x ≡ 49) × (10 ≤ 15) × (48 ≤ c) × (c ≤ 38 + 15))
+    go (inl (q, p, r, m)) = inl (q, p, omega arith, m)
+    go (inr (q, u, p, r)) = inr (q, omega arith, p, omega arith)
 
 -- ---- cells one after another
 
@@ -242,10 +243,6 @@ regroup false x y z = refl
 
 fit-by : (cap byte before base teen span y p b t s : ℕ) → byte ≡ y → before ≡ p → base ≡ b → teen ≡ t → span ≡ s → fits byte before base teen span cap ≡ fits y p b t s cap
 fit-by cap byte before base teen span y p b t s d e f g h = rw (d, e, f, g, h) refl
-
-cycle-at : (table : List ℕ) (n a b c k : ℕ) → Cycles table n a b c → k < n → (getD table (3 * k) 0 ≡ a) × (getD table (3 * k + 1) 0 ≡ b) × (getD table (3 * k + 2) 0 ≡ c)
-unfolding Cycles
-cycle-at table n a b c k h l = h k l
 
 -- the test of cell k
 cellFitsAt : ℕ → List ℕ → ℕ → ℕ → Bool
@@ -288,13 +285,13 @@ module _ (size top : ℕ) (b : List ℕ) (before : ℕ) (base teen span : List �
       c = getD b (before + 1 + 3 * n + 2) 0
 
       x : (getD base (3 * n) 0 ≡ 32) × (getD base (3 * n + 1) 0 ≡ 32) × (getD base (3 * n + 2) 0 ≡ 48)
-      x = cycle-at base size 32 32 48 n (tables .bases) l
+      x = thirds-at base size 32 32 (λ k. 48) n (tables .bases) l
 
       y : (getD teen (3 * n) 0 ≡ 0) × (getD teen (3 * n + 1) 0 ≡ teenOf top) × (getD teen (3 * n + 2) 0 ≡ 0)
-      y = cycle-at teen size 0 (teenOf top) 0 n (tables .teens) l
+      y = thirds-at teen size 0 (teenOf top) (λ k. 0) n (tables .teens) l
 
       z : (getD span (3 * n) 0 ≡ 0) × (getD span (3 * n + 1) 0 ≡ 0) × (getD span (3 * n + 2) 0 ≡ spanOf top)
-      z = cycle-at span size 0 0 (spanOf top) n (tables .spans) l
+      z = thirds-at span size 0 0 (λ k. spanOf top) n (tables .spans) l
 
   more-fit : (n : ℕ) → n < size → all (3 * suc n) ≡ (all (3 * n) && cellFitsAt top b before n)
   more-fit n l = ap all (omega arith) ∙ three-more n l
@@ -322,14 +319,3 @@ module _ (size top : ℕ) (b : List ℕ) (before : ℕ) (base teen span : List �
   pub fit-cells : top ≤ 15 → ((i : ℕ) → getD b i 0 < 256) → (n : ℕ) → n ≤ size → (allFit (3 * n) b before base teen span (39 + top) ≡ true) ↔ CellsLaid top b (before + 1) n
   unfolding all
   fit-cells t low n l = (fit-laid t low n l, laid-fit t n l)
-
-pub cells-digits : (top : ℕ) (b : List ℕ) (at n : ℕ) → top ≤ 15 → CellsLaid top b at n → Digits b at n
-unfolding CellsLaid Digits CellBytes One Two
-cells-digits top b at n t h k l = go (h k l .1)
-  where
-    c : ℕ
-    c = getD b (at + 3 * k + 2) 0
-
-    go : ((getD b (at + 3 * k + 1) 0 ≡ 32) × (48 ≤ c) × (c ≤ 48 + top) × (c ≤ 57)) ⊎ ((getD b (at + 3 * k + 1) 0 ≡ 49) × (10 ≤ top) × (48 ≤ c) × (c ≤ 38 + top)) → (48 ≤ c) × (c ≤ 57)
-    go (inl (q, p, r, m)) = (p, m)
-    go (inr (q, u, p, r)) = (p, omega arith)

@@ -1,12 +1,12 @@
 -- Laws of the scan of the lines: the ways out of each function.
 --
 --   through                      ==  one equivalence after another
---   line-none, line-decides      ==  a line without its line feed, and with it
---   agreed-laid                  ==  a line is laid out: its first cells agree with a line that is, and its other cells are laid out
---   next-none, next-not, next-decides  ==  a line that has no line feed, that is not laid out, and that is compared
+--   cells-none, cells-agreed     ==  no cell is laid out; those are that agree with cells that are
+--   line-none, line-decides      ==  a line without its line feed, and with it, whose first cells are laid out
+--   next-not, next-decides       ==  a line that is not laid out, and one that is, compared
 --   lines-none, lines-one, lines-next  ==  no line, the first line, and one line more
 --   lines-first-not, lines-not, lines-all  ==  the first line is not laid out; a further line does not follow; all are passed
-use mathlib.Core.Path.{_≡_, refl, sym, ap, _∙_, subst}
+use mathlib.Core.Path.{_≡_, refl, sym, _∙_}
 use mathlib.Core.List.{List}
 use mathlib.Core.Bool.{Bool, true, false, true≢false}
 use mathlib.Core.Logic.{_↔_}
@@ -15,13 +15,15 @@ use native.Mathlib.Omega.{arith}
 use native.Mathlib.Nat.{not-suc-le-zero}
 use native.Mathlib.Decide.{decLt}
 use lib.ListN.{getD}
+use Rattle.layout.specs.Layout.{lineLength}
 use Rattle.layout.specs.Lines.{lineStart}
+use Rattle.layout.proofs.LineLaws.{start-zero, next-start}
 use Rattle.scan.specs.Cells.{CellBytes, CellsLaid, Same}
 use Rattle.scan.specs.Fits.{allFit}
 use Rattle.scan.specs.Lines.{LineLaid, Precedes, Follows, LinesLaid}
 use Rattle.scan.specs.Tables.{Tables}
 use Rattle.scan.proofs.CellLaws.{fit-cells}
-use Rattle.scan.proofs.LineLaws.{start-zero, start-next}
+use Rattle.scan.proofs.OrderLaws.{same-byte}
 
 never : {A : Type 0} → (A → ⊥) → (false ≡ true) ↔ A
 never f = (λ e. absurd (true≢false (sym e)), λ a. absurd (f a))
@@ -31,11 +33,14 @@ through f g = (λ a. g .0 (f .0 a), λ c. f .1 (g .1 c))
 
 -- ---- one line
 
-pub line-none : (size top : ℕ) (b : List ℕ) (at : ℕ) → (getD b (at + 3 * size) 0 ≡ 10 → ⊥) → (false ≡ true) ↔ LineLaid size top b at
-line-none size top b at f = never (λ h. f (h .feed))
+pub cells-none : (top : ℕ) (b : List ℕ) (at : ℕ) → CellsLaid top b at 0
+unfolding CellsLaid
+cells-none top b at i c = absurd (not-suc-le-zero c)
 
-pub next-none : (size top : ℕ) (b : List ℕ) (p q : ℕ) → (getD b (q + 3 * size) 0 ≡ 10 → ⊥) → (false ≡ true) ↔ Follows size top b p q
-next-none size top b p q f = never (λ h. f (h .laid .feed))
+pub cells-agreed : (size top : ℕ) (b : List ℕ) (p q k n : ℕ) → CellsLaid top b p size → Same b p q n → n ≤ 3 * size → k ≡ n / 3 → CellsLaid top b q k
+unfolding CellsLaid Same
+cells-agreed size top b p q k n h s l d i c =
+    rw (s (3 * i) (omega arith), same-byte b p q n (3 * i) 1 s (omega arith), same-byte b p q n (3 * i) 2 s (omega arith)) at (h i (omega arith))
 
 cells-part : (size top : ℕ) (b : List ℕ) (at k : ℕ) → CellsLaid top b at size → k ≤ size → CellsLaid top b (at + 3 * k) (size - k)
 unfolding CellsLaid
@@ -43,47 +48,37 @@ cells-part size top b at k h l i c =
     let z : at + 3 * (k + i) ≡ at + 3 * k + 3 * i = omega arith in
     rw z at (h (k + i) (omega arith))
 
-same-byte : (b : List ℕ) (p q n j d : ℕ) → Same b p q n → j + d < n → getD b (p + j + d) 0 ≡ getD b (q + j + d) 0
-unfolding Same
-same-byte b p q n j d s l =
-    let u : p + (j + d) ≡ p + j + d = omega arith in
-    let v : q + (j + d) ≡ q + j + d = omega arith in
-    rw (u, v) at (s (j + d) l)
-
-cells-join : (size top : ℕ) (b : List ℕ) (p q k n : ℕ) → CellsLaid top b p size → Same b p q n → 3 * k ≤ n → k ≤ size → CellsLaid top b (q + 3 * k) (size - k) → CellsLaid top b q size
-unfolding CellsLaid Same
-cells-join size top b p q k n h s m l g i c = go (decLt i k)
+cells-join : (size top : ℕ) (b : List ℕ) (at k : ℕ) → CellsLaid top b at k → CellsLaid top b (at + 3 * k) (size - k) → k ≤ size → CellsLaid top b at size
+unfolding CellsLaid
+cells-join size top b at k h g l i c = go (decLt i k)
   where
-    go : Dec (i < k) → CellBytes top (getD b (q + 3 * i) 0) (getD b (q + 3 * i + 1) 0) (getD b (q + 3 * i + 2) 0)
-    go (yes d) =
-        rw (s (3 * i) (omega arith), same-byte b p q n (3 * i) 1 s (omega arith), same-byte b p q n (3 * i) 2 s (omega arith)) at (h i c)
+    go : Dec (i < k) → CellBytes top (getD b (at + 3 * i) 0) (getD b (at + 3 * i + 1) 0) (getD b (at + 3 * i + 2) 0)
+    go (yes d) = h i d
     go (no d) =
-        let z : q + 3 * k + 3 * (i - k) ≡ q + 3 * i = omega arith in
+        let z : at + 3 * k + 3 * (i - k) ≡ at + 3 * i = omega arith in
         rw z at (g (i - k) (omega arith))
 
-module _ (size top : ℕ) (b base teen span : List ℕ) (t : top ≤ 15) (tables : Tables size top base teen span) (low : (i : ℕ) → getD b i 0 < 256) where
-  pub line-decides : (at : ℕ) (r : Bool) → 1 ≤ at → getD b (at + 3 * size) 0 ≡ 10 → r ≡ allFit (3 * size) b (at - 1) base teen span (39 + top) → (r ≡ true) ↔ LineLaid size top b at
-  line-decides at r h feed e = (λ y. record { feed = feed; cells = w .0 (sym e ∙ y) }, λ l. e ∙ w .1 (l .cells))
+module _ (size top : ℕ) (b : List ℕ) (at length : ℕ) (e : length ≡ lineLength size) where
+  pub line-none : (getD b (at + length - 1) 0 ≡ 10 → ⊥) → (false ≡ true) ↔ LineLaid size top b at
+  line-none f = never (λ h. f (rw e (h .feed)))
+
+  pub line-decides : (base teen span : List ℕ) → top ≤ 15 → Tables size top base teen span → ((i : ℕ) → getD b i 0 < 256) →
+      (k : ℕ) (r : Bool) → 1 ≤ at → k ≤ size → CellsLaid top b at k → getD b (at + length - 1) 0 ≡ 10 →
+      r ≡ allFit (3 * (size - k)) b (at + 3 * k - 1) base teen span (39 + top) → (r ≡ true) ↔ LineLaid size top b at
+  line-decides base teen span t tables low k r h l front feed f = (
+    λ y. record { feed = rw e at feed; cells = cells-join size top b at k front (others .0 (sym f ∙ y)) l },
+    λ w. f ∙ others .1 (cells-part size top b at k (w .cells) l),
+  )
     where
-      w : (allFit (3 * size) b (at - 1) base teen span (39 + top) ≡ true) ↔ CellsLaid top b at size
-      w = let z : at - 1 + 1 ≡ at = omega arith in rw z at (fit-cells size top b (at - 1) base teen span tables t low size (omega arith))
+      others : (allFit (3 * (size - k)) b (at + 3 * k - 1) base teen span (39 + top) ≡ true) ↔ CellsLaid top b (at + 3 * k) (size - k)
+      others = let z : at + 3 * k - 1 + 1 ≡ at + 3 * k = omega arith in rw z at (fit-cells size top b (at + 3 * k - 1) base teen span tables t low (size - k) (omega arith))
 
-  module _ (p q k n : ℕ) (h : 1 ≤ q) (d : k ≡ n / 3) (l : n ≤ 3 * size) where
-    others : (allFit (3 * (size - k)) b (q + 3 * k - 1) base teen span (39 + top) ≡ true) ↔ CellsLaid top b (q + 3 * k) (size - k)
-    others = let z : q + 3 * k - 1 + 1 ≡ q + 3 * k = omega arith in rw z at (fit-cells size top b (q + 3 * k - 1) base teen span tables t low (size - k) (omega arith))
+module _ (size top : ℕ) (b : List ℕ) (p q : ℕ) (t : Bool) (laid : (t ≡ true) ↔ LineLaid size top b q) where
+  pub next-not : t ≡ false → (false ≡ true) ↔ Follows size top b p q
+  next-not e = never (λ w. true≢false (sym (laid .1 (w .laid)) ∙ e))
 
-    pub next-not : (r : Bool) → r ≡ allFit (3 * (size - k)) b (q + 3 * k - 1) base teen span (39 + top) → r ≡ false → (false ≡ true) ↔ Follows size top b p q
-    next-not r e f = never (λ w. true≢false (sym (others .1 (cells-part size top b q k (w .laid .cells) (omega arith))) ∙ sym e ∙ f))
-
-    pub agreed-laid : (r : Bool) → LineLaid size top b p → Same b p q n → getD b (q + 3 * size) 0 ≡ 10 →
-        r ≡ allFit (3 * (size - k)) b (q + 3 * k - 1) base teen span (39 + top) → r ≡ true → LineLaid size top b q
-    agreed-laid r w s feed e f = record {
-      feed = feed;
-      cells = cells-join size top b p q k n (w .cells) s (omega arith) (omega arith) (others .0 (sym e ∙ f));
-    }
-
-pub next-decides : (size top : ℕ) (b : List ℕ) (p q : ℕ) (r : Bool) → LineLaid size top b q → (r ≡ true) ↔ Precedes size b p q → (r ≡ true) ↔ Follows size top b p q
-next-decides size top b p q r w o = (λ y. record { laid = w; order = o .0 y }, λ f. o .1 (f .order))
+  pub next-decides : t ≡ true → (r : Bool) → (r ≡ true) ↔ Precedes size b p q → (r ≡ true) ↔ Follows size top b p q
+  next-decides e r o = (λ y. record { laid = laid .0 e; order = o .0 y }, λ f. o .1 (f .order))
 
 -- ---- all lines
 
@@ -99,9 +94,9 @@ lines-one size top at b z h = record {
 pub lines-first-not : (size top n at : ℕ) (b : List ℕ) → 0 < n → at ≡ 31 → (r : Bool) → (r ≡ true) ↔ LineLaid size top b at → r ≡ false → (false ≡ true) ↔ LinesLaid size top n b
 lines-first-not size top n at b h z r w f = never (λ l. true≢false (sym (w .1 (rw (start-zero size, ← z) at (l .lines 0 h))) ∙ f))
 
-module _ (size top e at next : ℕ) (b : List ℕ) (here : at ≡ lineStart size e) (there : next ≡ at + 3 * size + 1) where
+module _ (size top e at next : ℕ) (b : List ℕ) (here : at ≡ lineStart size e) (there : next ≡ at + lineLength size) where
   start-there : lineStart size (e + 1) ≡ next
-  start-there = omega (arith, start-next size e)
+  start-there = omega (arith, next-start size e)
 
   pub lines-next : LinesLaid size top (e + 1) b → Follows size top b at next → LinesLaid size top (e + 1 + 1) b
   lines-next h f = record { lines = λ i c. line i c (decLt i (e + 1)); ascend = λ i c. after i c (decLt (i + 1) (e + 1)) }

@@ -1,21 +1,20 @@
 -- Laws of bytes that fit.
 --
 --   lesser-first, lesser-second  ==  the lesser of two numbers
---   above-is                ==  the number that the base added to wraps back to the byte
 --   rest-teen, rest-other   ==  what is left of a distance
 --   fits-not, fits-all      ==  the ways out of the test of a byte
 --   all-none, all-next      ==  no byte, and a byte more
 --   teen-low, teen-high, span-is  ==  the tables of a top
-use mathlib.Core.Path.{_≡_, refl, sym, ap, _∙_}
+use mathlib.Core.Path.{_≡_, refl, sym}
 use mathlib.Core.List.{List}
-use mathlib.Core.Bool.{Bool, true, false, _&&_}
-use Prim.Native.Nat.{ℕ, zero, suc, _+_, _-_, _*_, _^_, _%_, _≤_, _<_}
+use mathlib.Core.Bool.{Bool, true, false, _&&_, and-true, and-false}
+use Prim.Native.Nat.{ℕ, _+_, _≤_, _<_}
 use native.Mathlib.Omega.{arith}
 use native.Mathlib.Numerals.{add-one}
 use borrow.Author.Tests.{eq-eqb, ne-eqb, le-leb, lt-leb, lt-ltb, le-ltb}
 use lib.ListN.{getD}
-use lib.Dec.{ltb, leb, eqb}
-use Rattle.scan.specs.Fits.{above, rest, lesser, fits, allFit}
+use Rattle.lines.specs.Bytes.{above}
+use Rattle.scan.specs.Fits.{rest, lesser, fits, allFit}
 use Rattle.scan.specs.Tables.{teenOf, spanOf}
 
 pub lesser-first : (a b : ℕ) → a < b → a ≡ lesser a b
@@ -25,18 +24,6 @@ lesser-first a b l = rw (lt-ltb a b l, lesser) refl
 pub lesser-second : (a b : ℕ) → b ≤ a → b ≡ lesser a b
 unfolding lesser
 lesser-second a b l = rw (le-ltb a b l, lesser) refl
-
-pub above-is : (byte base r : ℕ) → byte < 256 → base < 256 → r < 256 → (r + base) % 2 ^ 8 ≡ byte → r ≡ above byte base
-unfolding above
-above-is byte base r x y z e = omega arith
-
-pub and-true : (b : Bool) → (b && true) ≡ b
-and-true true = refl
-and-true false = refl
-
-pub and-false : (b : Bool) → (b && false) ≡ false
-and-false true = refl
-and-false false = refl
 
 pub rest-teen : (x teen : ℕ) → x ≡ teen → 0 ≡ rest x teen
 unfolding rest

@@ -4,15 +4,12 @@
 --   same-none, same-next    ==  no byte, and a byte more
 --   agree-none, agree-more  ==  no byte agrees to begin with, and n more do
 --   agree-less              ==  fewer agree too
---   ten-one, ten-other      ==  a 1, and another byte
---   cell-is                 ==  a cell by its bytes
---   digit-at                ==  the last byte of a cell
---   AgreeBelow b p q k      ==  the cells before cell k agree
---   cells-same, cells-next  ==  cells whose bytes agree, and one cell more
---   before-here, before-never  ==  the ways out of the comparison
-use mathlib.Core.Path.{_≡_, refl, sym, ap, ap₂, _∙_, subst}
+--   same-byte               ==  a byte that agrees, by the place of its cell
+--   cells-from              ==  the cells that a line states, by their places in the register
+--   before-here, before-never  ==  the first cells whose bytes differ decide; no bytes differ
+use mathlib.Core.Path.{_≡_, refl, sym, ap, _∙_}
 use mathlib.Core.List.{List}
-use mathlib.Core.Bool.{Bool, true, false, true≢false, _&&_}
+use mathlib.Core.Bool.{Bool, true, false, true≢false, _&&_, and-true, and-false}
 use mathlib.Core.Logic.{_↔_}
 use Prim.Native.Nat.{ℕ, zero, suc, _+_, _-_, _*_, _≤_, _<_}
 use native.Mathlib.Omega.{arith}
@@ -20,16 +17,20 @@ use native.Mathlib.Nat.{not-suc-le-zero}
 use native.Mathlib.Decide.{decLt}
 use native.Mathlib.Numerals.{add-one}
 use borrow.Author.Tests.{eq-eqb, ne-eqb, eqb-true, lt-ltb, ltb-true}
-use lib.ListN.{getD}
+use lib.ListN.{getD, length, take, drop}
+use lib.Seq.{getD-take, getD-drop, drop-drop}
 use lib.Dec.{eqb, ltb}
 use Rattle.permutations.specs.Lists.{tabulate}
-use Rattle.permutations.proofs.BoolLaws.{and-yes}
+use Rattle.permutations.proofs.BoolLaws.{and-yes, yes-and}
 use Rattle.permutations.proofs.ListLaws.{tabulate-ext}
 use Rattle.grids.specs.Order.{rank, _≼_, _≺_}
-use Rattle.grids.proofs.OrderLaws.{rank-injective, ≼-refl, tabulate-at, tabulate-by-index}
-use Rattle.scan.specs.Cells.{Digits, ten, cellAt, Same, sameFrom}
-use Rattle.scan.specs.Lines.{lineCells, Precedes}
-use Rattle.scan.proofs.FitLaws.{and-true, and-false}
+use Rattle.grids.proofs.OrderLaws.{≼-refl, tabulate-at, tabulate-by-index}
+use Rattle.layout.specs.Decimal.{field, value}
+use Rattle.layout.specs.Layout.{numberAt}
+use Rattle.layout.specs.Lines.{cellsOf}
+use Rattle.scan.specs.Cells.{CellsLaid, Same, sameFrom}
+use Rattle.scan.specs.Lines.{Precedes}
+use Rattle.scan.proofs.CellLaws.{three, cells-field}
 
 -- ---- bytes
 
@@ -79,48 +80,23 @@ pub agree-less : (b : List ℕ) (p q n m : ℕ) → m ≤ n → Same b p q n →
 unfolding Same
 agree-less b p q n m h s j l = s j (omega arith)
 
--- ---- a cell
+all-same : (b : List ℕ) (p q n : ℕ) → ((j : ℕ) → j < n → getD b (p + j) 0 ≡ getD b (q + j) 0) → sameFrom b p q n ≡ true
+unfolding sameFrom
+all-same b p q zero h = refl
+all-same b p q (suc n) h = yes-and (sameFrom b p q n) _ (all-same b p q n (λ j l. h j (omega arith))) (eq-eqb _ _ (h n (omega arith)))
 
-pub ten-one : (x : ℕ) → x ≡ 49 → 10 ≡ ten x
-unfolding ten
-ten-one x e = rw (eq-eqb x 49 e, ten) refl
-
-pub ten-other : (x : ℕ) → (x ≡ 49 → ⊥) → 0 ≡ ten x
-unfolding ten
-ten-other x n = rw (ne-eqb x 49 n, ten) refl
-
-pub cell-is : (b : List ℕ) (i r t : ℕ) → t ≡ ten (getD b (i + 1) 0) → r ≡ getD b (i + 2) 0 - 48 + t → r ≡ cellAt b i
-unfolding cellAt
-cell-is b i r t e f = f ∙ ap (λ x. getD b (i + 2) 0 - 48 + x) e
-
-pub digit-at : (b : List ℕ) (at n k : ℕ) → Digits b at n → k < n → (48 ≤ getD b (at + 3 * k + 2) 0) × (getD b (at + 3 * k + 2) 0 ≤ 57)
-unfolding Digits
-digit-at b at n k h l = h k l
+pub same-byte : (b : List ℕ) (p q n j d : ℕ) → Same b p q n → j + d < n → getD b (p + j + d) 0 ≡ getD b (q + j + d) 0
+unfolding Same
+same-byte b p q n j d s l =
+    let u : p + (j + d) ≡ p + j + d = omega arith in
+    let v : q + (j + d) ≡ q + j + d = omega arith in
+    rw (u, v) at (s (j + d) l)
 
 -- ---- two lines
 
-unfoldable pub AgreeBelow : List ℕ → ℕ → ℕ → ℕ → Type 0
-AgreeBelow b p q k = (i : ℕ) → i < k → cellAt b (p + 3 * i) ≡ cellAt b (q + 3 * i)
-
-pub cells-same : (b : List ℕ) (p q k : ℕ) → Same b p q (3 * k) → AgreeBelow b p q k
-unfolding Same cellAt AgreeBelow
-cells-same b p q k s i l = ap₂ (λ (x y : ℕ). x - 48 + ten y) (byte 2 (omega arith)) (byte 1 (omega arith))
-  where
-    byte : (d : ℕ) → d < 3 → getD b (p + 3 * i + d) 0 ≡ getD b (q + 3 * i + d) 0
-    byte d h =
-        let u : p + (3 * i + d) ≡ p + 3 * i + d = omega arith in
-        let v : q + (3 * i + d) ≡ q + 3 * i + d = omega arith in
-        rw (u, v) at (s (3 * i + d) (omega arith))
-
-pub cells-next : (b : List ℕ) (p q k : ℕ) → AgreeBelow b p q k → cellAt b (p + 3 * k) ≡ cellAt b (q + 3 * k) → AgreeBelow b p q (k + 1)
-unfolding AgreeBelow
-cells-next b p q k h e i l = go (decLt i k)
-  where
-    go : Dec (i < k) → cellAt b (p + 3 * i) ≡ cellAt b (q + 3 * i)
-    go (yes m) = h i m
-    go (no m) =
-        let z : i ≡ k = omega (arith, l) in
-        rw z e
+pub cells-from : (size : ℕ) (b : List ℕ) (at : ℕ) → cellsOf size (drop at b) ≡ tabulate 0 size (λ k. numberAt 3 (at + 3 * k) b)
+unfolding cellsOf numberAt
+cells-from size b at = tabulate-ext 0 size _ _ (λ k h. ap (λ (l : List ℕ). value (take 3 l)) (drop-drop (3 * k) at b))
 
 -- the first value that differs decides, of tabulated lists
 first-differs : (n : ℕ) (u v : ℕ → ℕ) (k : ℕ) → k < n → ((i : ℕ) → i < k → u i ≡ v i) → (u k ≡ v k → ⊥) → (rank (u k) < rank (v k)) ↔ (tabulate 0 n u ≺ tabulate 0 n v)
@@ -144,23 +120,37 @@ first-differs n u v k kn same ne = (to, back)
         go (yes l) = l
         go (no l) = absurd (h (tabulate-by-index n v u (later (omega arith))))
 
-pub before-here : (b : List ℕ) (p q n k x y r s : ℕ) → k < n → AgreeBelow b p q k → x ≡ cellAt b (p + 3 * k) → y ≡ cellAt b (q + 3 * k) →
-    (x ≡ y → ⊥) → r ≡ rank x → s ≡ rank y → (ltb r s ≡ true) ↔ Precedes n b p q
-unfolding AgreeBelow Precedes lineCells
-before-here b p q n k x y r s kn h e f d u v = (
-  λ t. w .0 (let l = ltb-true r s t in omega (arith, ranks)),
-  λ o. let m = w .1 o in lt-ltb r s (omega (arith, ranks)),
-)
-  where
-    ranks : (r ≡ rank (cellAt b (p + 3 * k))) × (s ≡ rank (cellAt b (q + 3 * k)))
-    ranks = (u ∙ ap rank e, v ∙ ap rank f)
+module _ (b : List ℕ) (p q size : ℕ) (pl : p + 3 * size ≤ length b) (ql : q + 3 * size ≤ length b) where
+  cells-same : (k : ℕ) → k ≤ size → Same b p q (3 * k) → (i : ℕ) → i < k → numberAt 3 (p + 3 * i) b ≡ numberAt 3 (q + 3 * i) b
+  unfolding numberAt Same
+  cells-same k h s i l =
+      ap value (three b (p + 3 * i) (omega arith)
+      ∙ rw (s (3 * i) (omega arith), same-byte b p q (3 * k) (3 * i) 1 s (omega arith), same-byte b p q (3 * k) (3 * i) 2 s (omega arith)) (sym (three b (q + 3 * i) (omega arith))))
 
-    w : (rank (cellAt b (p + 3 * k)) < rank (cellAt b (q + 3 * k))) ↔ (tabulate 0 n (λ i. cellAt b (p + 3 * i)) ≺ tabulate 0 n (λ i. cellAt b (q + 3 * i)))
-    w = first-differs n (λ i. cellAt b (p + 3 * i)) (λ i. cellAt b (q + 3 * i)) k kn h (λ z. d (e ∙ z ∙ sym f))
+  -- cells of the same number have the same bytes
+  number-bytes : CellsLaid 15 b p size → CellsLaid 15 b q size → (k : ℕ) → k < size → numberAt 3 (p + 3 * k) b ≡ numberAt 3 (q + 3 * k) b → sameFrom b (p + 3 * k) (q + 3 * k) 3 ≡ true
+  number-bytes x y k h z = all-same b (p + 3 * k) (q + 3 * k) 3 (λ j l. sym (place p j l) ∙ ap (λ (s : List ℕ). getD s j 0) bytes ∙ place q j l)
+    where
+      bytes : take 3 (drop (p + 3 * k) b) ≡ take 3 (drop (q + 3 * k) b)
+      bytes = cells-field 15 b p size (omega arith) pl x k h .0 ∙ ap (field 3) z ∙ sym (cells-field 15 b q size (omega arith) ql y k h .0)
 
-pub before-never : (b : List ℕ) (p q n k : ℕ) → n ≤ k → AgreeBelow b p q k → (false ≡ true) ↔ Precedes n b p q
-unfolding AgreeBelow Precedes lineCells
-before-never b p q n k l h = (
-  λ t. absurd (true≢false (sym t)),
-  λ o. absurd (o (rw (tabulate-ext 0 n (λ i. cellAt b (p + 3 * i)) (λ i. cellAt b (q + 3 * i)) (λ i c. h i (omega arith))) (≼-refl (tabulate 0 n (λ i. cellAt b (q + 3 * i)))))),
-)
+      place : (s j : ℕ) → j < 3 → getD (take 3 (drop (s + 3 * k) b)) j 0 ≡ getD b (s + 3 * k + j) 0
+      place s j l = getD-take 3 (drop (s + 3 * k) b) j 0 l ∙ getD-drop (s + 3 * k) b j 0
+
+  pub before-here : CellsLaid 15 b p size → CellsLaid 15 b q size → (k : ℕ) → k < size → Same b p q (3 * k) → sameFrom b (p + 3 * k) (q + 3 * k) 3 ≡ false →
+      (r : Bool) → r ≡ ltb (rank (numberAt 3 (p + 3 * k) b)) (rank (numberAt 3 (q + 3 * k) b)) → (r ≡ true) ↔ Precedes size b p q
+  unfolding Precedes
+  before-here g h k l s n r e = rw (cells-from size b p, cells-from size b q) (
+    λ y. d .0 (ltb-true (rank (numberAt 3 (p + 3 * k) b)) (rank (numberAt 3 (q + 3 * k) b)) (sym e ∙ y)),
+    λ o. e ∙ lt-ltb (rank (numberAt 3 (p + 3 * k) b)) (rank (numberAt 3 (q + 3 * k) b)) (d .1 o),
+  )
+    where
+      d : (rank (numberAt 3 (p + 3 * k) b) < rank (numberAt 3 (q + 3 * k) b)) ↔ (tabulate 0 size (λ i. numberAt 3 (p + 3 * i) b) ≺ tabulate 0 size (λ i. numberAt 3 (q + 3 * i) b))
+      d = first-differs size (λ i. numberAt 3 (p + 3 * i) b) (λ i. numberAt 3 (q + 3 * i) b) k l (cells-same k (omega arith) s) (λ z. true≢false (sym (number-bytes g h k l z) ∙ n))
+
+  pub before-never : (k : ℕ) → k ≡ size → Same b p q (3 * k) → (false ≡ true) ↔ Precedes size b p q
+  unfolding Precedes
+  before-never k e s = (
+    λ t. absurd (true≢false (sym t)),
+    λ o. absurd (o (rw (cells-from size b p ∙ tabulate-ext 0 size _ _ (λ i c. cells-same k (omega arith) s i (omega arith)) ∙ sym (cells-from size b q)) (≼-refl (cellsOf size (drop q b))))),
+  )

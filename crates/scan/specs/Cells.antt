@@ -3,16 +3,13 @@
 --   One top b c, Two top b c  ==  the bytes b and c, after a space, are a number of one digit, of two digits, of at most top (top at most 15)
 --   CellBytes top a b c     ==  three bytes are the field of a number of at most top
 --   CellsLaid top b at n    ==  so are the bytes of each of the n cells from the byte at `at` on
---   Digits b at n           ==  the last byte of each of them is a digit
---   ten x                   ==  10 where x is a 1, else 0
---   cellAt b i              ==  the number that the three bytes from i on state where they are laid out
 --   Same b p q n            ==  the n bytes from p on and those from q on agree
 --   sameFrom b p q n        ==  the test of it
 use mathlib.Core.Path.{_≡_}
 use mathlib.Core.List.{List}
-use mathlib.Core.Bool.{Bool, true, false, _&&_}
+use mathlib.Core.Bool.{Bool, true, _&&_}
 use mathlib.Core.Logic.{_⊎_}
-use Prim.Native.Nat.{ℕ, zero, suc, _+_, _-_, _*_, _≤_, _<_}
+use Prim.Native.Nat.{ℕ, zero, suc, _+_, _*_, _≤_, _<_}
 use lib.ListN.{getD}
 use lib.Dec.{eqb}
 
@@ -27,15 +24,6 @@ CellBytes top a b c = (a ≡ 32) × (One top b c ⊎ Two top b c)
 
 unfoldable pub CellsLaid : ℕ → List ℕ → ℕ → ℕ → Type 0
 CellsLaid top b at n = (k : ℕ) → k < n → CellBytes top (getD b (at + 3 * k) 0) (getD b (at + 3 * k + 1) 0) (getD b (at + 3 * k + 2) 0)
-
-unfoldable pub Digits : List ℕ → ℕ → ℕ → Type 0
-Digits b at n = (k : ℕ) → k < n → (48 ≤ getD b (at + 3 * k + 2) 0) × (getD b (at + 3 * k + 2) 0 ≤ 57)
-
-unfoldable pub ten : ℕ → ℕ
-ten x = elim (eqb x 49) [ true ↦ 10 | false ↦ 0 ]
-
-unfoldable pub cellAt : List ℕ → ℕ → ℕ
-cellAt b i = getD b (i + 2) 0 - 48 + ten (getD b (i + 1) 0)
 
 unfoldable pub Same : List ℕ → ℕ → ℕ → ℕ → Type 0
 Same b p q n = (j : ℕ) → j < n → getD b (p + j) 0 ≡ getD b (q + j) 0

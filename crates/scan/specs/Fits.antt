@@ -1,18 +1,15 @@
 -- What each byte of an entry's line may be.
 --
---   above byte base  ==  how far a byte is above another, round the 256
 --   rest x teen      ==  x, but 0 where it is teen
 --   lesser a b       ==  the lesser of two numbers
 --   fits ..          ==  a byte is teen above its base, or above it by no more than its span and no more than the byte before it is below cap
 --   allFit k b before ..  ==  the first k bytes after the one at `before` do, by the tables base, teen, span
 use mathlib.Core.List.{List}
 use mathlib.Core.Bool.{Bool, true, false, _&&_}
-use Prim.Native.Nat.{ℕ, zero, suc, _+_, _-_, _%_}
+use Prim.Native.Nat.{ℕ, zero, suc, _+_}
 use lib.ListN.{getD}
 use lib.Dec.{ltb, leb, eqb}
-
-unfoldable pub above : ℕ → ℕ → ℕ
-above byte base = (byte + (256 - base)) % 256
+use Rattle.lines.specs.Bytes.{above}
 
 unfoldable pub rest : ℕ → ℕ → ℕ
 rest x teen = elim (eqb x teen) [ true ↦ 0 | false ↦ x ]

@@ -1,28 +1,24 @@
 -- The lines of entries, by their bytes: what layout's EntryLine and EntriesLaid come to.
 --
---   lineCells size b at       ==  the cells of the line at `at`, where it is laid out
---   LineLaid size top b at    ==  its cells are laid out, and a line feed follows
+--   LineLaid size top b at    ==  the cells of the line at `at` are laid out, and its last byte is a line feed
 --   Precedes size b p q       ==  the cells of the line at p come before those of the line at q
 --   Follows size top b p q    ==  the line at q is laid out, and the one at p comes before it
 --   LinesLaid size top n b    ==  the first n lines are laid out, each of which comes before the next
 use mathlib.Core.Path.{_≡_}
 use mathlib.Core.List.{List}
-use Prim.Native.Nat.{ℕ, _+_, _*_, _<_}
-use lib.ListN.{getD}
-use Rattle.permutations.specs.Lists.{tabulate}
+use Prim.Native.Nat.{ℕ, _+_, _-_, _<_}
+use lib.ListN.{getD, drop}
 use Rattle.grids.specs.Order.{_≺_}
-use Rattle.layout.specs.Lines.{lineStart}
-use Rattle.scan.specs.Cells.{CellsLaid, cellAt}
-
-unfoldable pub lineCells : ℕ → List ℕ → ℕ → List ℕ
-lineCells size b at = tabulate 0 size (λ k. cellAt b (at + 3 * k))
+use Rattle.layout.specs.Layout.{lineLength}
+use Rattle.layout.specs.Lines.{lineStart, cellsOf}
+use Rattle.scan.specs.Cells.{CellsLaid}
 
 pub record LineLaid (size top : ℕ) (b : List ℕ) (at : ℕ) : Type 0 where
-  pub feed : getD b (at + 3 * size) 0 ≡ 10
+  pub feed : getD b (at + lineLength size - 1) 0 ≡ 10
   pub cells : CellsLaid top b at size
 
 unfoldable pub Precedes : ℕ → List ℕ → ℕ → ℕ → Type 0
-Precedes size b p q = lineCells size b p ≺ lineCells size b q
+Precedes size b p q = cellsOf size (drop p b) ≺ cellsOf size (drop q b)
 
 pub record Follows (size top : ℕ) (b : List ℕ) (p q : ℕ) : Type 0 where
   pub laid : LineLaid size top b q

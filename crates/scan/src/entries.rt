@@ -2,6 +2,7 @@
 use crate::laid;
 use crate::order;
 use crate::tables;
+use lines::entries::line_length;
 ghost use mathlib.Core.Path.{_≡_};
 ghost use mathlib.Core.Bool.{true};
 ghost use mathlib.Core.Logic.{_↔_};
@@ -9,26 +10,36 @@ ghost use Prim.Native.Nat.{_+_, _*_, _≤_, _<_};
 ghost use lib.ListN.{length};
 ghost use Rattle.layout.specs.Layout.{headLength, lineLength};
 ghost use Rattle.layout.specs.Lines.{lineStart, EntriesLaid};
+ghost use Rattle.scan.specs.Cells.{CellsLaid};
 ghost use Rattle.scan.specs.Tables.{Tables};
 ghost use Rattle.scan.specs.Lines.{LineLaid, Follows, LinesLaid};
 
-// Whether a line is laid out.
+// Whether a line is laid out, where its cells before cell `from` are.
 fn line_laid(
     register: &[u8],
     at: usize,
+    from: usize,
     size: usize,
     top: u8,
     base: &[u8; 384],
     teen: &[u8; 384],
     span: &[u8; 384],
 ) -> bool
-    requires { ⌜ (size ≤ 128) × (top ≤ 15) × (1 ≤ at) × (at + 3 * size < length (now register)) × Tables size top (now base) (now teen) (now span) ⌝ }
+    requires { ⌜ (size ≤ 128) × (top ≤ 15) × (1 ≤ at) × (at + lineLength size ≤ length (now register)) × Tables size top (now base) (now teen) (now span) × (from ≤ size) × CellsLaid top (now register) at from ⌝ }
     ensures { λ r. ⌜ ((r ≡ true) ↔ LineLaid size top (now (register .entry)) at) ⌝ }
 {
-    if register[at + 3 * size] != 10 {
+    if register[at + line_length(size) - 1] != 10 {
         return false;
     }
-    laid::cells_laid(register, at - 1, 3 * size, base, teen, span, 39 + top)
+    laid::cells_laid(
+        register,
+        at + 3 * from - 1,
+        3 * (size - from),
+        base,
+        teen,
+        span,
+        39 + top,
+    )
 }
 
 // Whether a line is laid out and comes after one that is. The cells that agree with that one are not tested again.
@@ -42,22 +53,11 @@ fn next_laid(
     teen: &[u8; 384],
     span: &[u8; 384],
 ) -> bool
-    requires { ⌜ (size ≤ 128) × (top ≤ 15) × (previous < at) × (at + 3 * size < length (now register)) × Tables size top (now base) (now teen) (now span) × LineLaid size top (now register) previous ⌝ }
+    requires { ⌜ (size ≤ 128) × (top ≤ 15) × (previous < at) × (at + lineLength size ≤ length (now register)) × Tables size top (now base) (now teen) (now span) × LineLaid size top (now register) previous ⌝ }
     ensures { λ r. ⌜ ((r ≡ true) ↔ Follows size top (now (register .entry)) previous at) ⌝ }
 {
-    if register[at + 3 * size] != 10 {
-        return false;
-    }
     let k = order::agreed(register, previous, at, 3 * size) / 3;
-    if !laid::cells_laid(
-        register,
-        at + 3 * k - 1,
-        3 * (size - k),
-        base,
-        teen,
-        span,
-        39 + top,
-    ) {
+    if !line_laid(register, at, k, size, top, base, teen, span) {
         return false;
     }
     order::comes_before(register, previous, at, k, size)
@@ -80,12 +80,13 @@ fn lines_laid(
         return true;
     }
     let mut at = 31;
-    if !line_laid(register, at, size, top, base, teen, span) {
+    if !line_laid(register, at, 0, size, top, base, teen, span) {
         return false;
     }
+    let length = line_length(size);
     let mut e = 0;
     while e < count - 1 {
-        let next = at + 3 * size + 1;
+        let next = at + length;
         if !next_laid(register, at, next, size, top, base, teen, span) {
             return false;
         }

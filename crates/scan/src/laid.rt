@@ -1,9 +1,10 @@
 // Whether the bytes of cells are laid out. No test on the way ends the loop, so that many bytes are tested at once.
+use lines::bytes::above;
 ghost use mathlib.Core.Path.{_≡_};
 ghost use mathlib.Core.Bool.{_&&_};
 ghost use Prim.Native.Nat.{_+_, _≤_, _<_};
 ghost use lib.ListN.{length};
-ghost use Rattle.scan.specs.Fits.{above, rest, lesser, fits, allFit};
+ghost use Rattle.scan.specs.Fits.{rest, lesser, fits, allFit};
 ghost use Rattle.scan.specs.Tables.{teenOf, spanOf};
 
 // The lesser of two numbers.
@@ -18,13 +19,6 @@ fn rest(x: u8, teen: u8) -> u8
     ensures { λ r. ⌜ r ≡ rest x teen ⌝ }
 {
     if x == teen { 0 } else { x }
-}
-
-// How far a byte is above another, round the 256.
-fn above(byte: u8, base: u8) -> u8
-    ensures { λ r. ⌜ r ≡ above byte base ⌝ }
-{
-    std::num::wrapping_sub_u8(byte, base)
 }
 
 // Whether all was laid out so far, and a byte fits.

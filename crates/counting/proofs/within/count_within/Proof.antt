@@ -10,28 +10,31 @@ use Rattle.counting.proofs.within.count_within.Statement.{statement}
 use Rattle.counting.proofs.within.count_within.Tie as tie
 
 abbrev Inv-loop : tie.InvT-loop
-Inv-loop register count low high width lows spans found₀ from₀ e₀ found from e = Counting register count low high found from e
+Inv-loop register count low high width length lows spans found₀ from₀ e₀ found from e = Counting register count low high found from e
 
 abbrev μ-loop : tie.MeasureT-loop
-μ-loop register count low high width lows spans found₀ from₀ e₀ found from e = count - e
+μ-loop register count low high width length lows spans found₀ from₀ e₀ found from e = count - e
 
 mul-width : tie.Need-mul-width Inv-loop μ-loop
 mul-width c = omega (arith, book-sizes (c .before .before .before .pre .0) .cells-fit)
 
+line-length-requires : tie.Need-line-length-requires Inv-loop μ-loop
+line-length-requires c κs = book-sizes (c .before .before .before .pre .0) .cells-fit
+
 fill-tables-requires : tie.Need-fill-tables-requires Inv-loop μ-loop
-fill-tables-requires c κs = let p = c .before .before .before .before .before .pre in (refl, refl, bounds-ordered (p .0) (p .1))
+fill-tables-requires c κs = let p = c .before .before .before .before .before .before .pre in (refl, refl, bounds-ordered (p .0) (p .1))
 
 loop-holds : tie.Need-loop-holds Inv-loop μ-loop
-loop-holds c = counting-none (c .before .before .before .before .before .before .pre .0)
+loop-holds c = counting-none (c .before .before .before .before .before .before .before .pre .0)
 
 add-end : tie.Need-add-end Inv-loop μ-loop
-add-end c = omega (arith, (counting-room (c .before .before .before .before .before .before .before .before .pre .0) (c .before .loop .inv) (omega arith)) .small)
+add-end c = let r = counting-room (c .before .before .before .before .before .before .before .before .before .pre .0) (c .before .loop .inv) (omega arith) in omega (arith, r .small, r .wider)
 
 sub-earlier : tie.Need-sub-earlier Inv-loop μ-loop
-sub-earlier c = omega (arith, (counting-room (c .before .before .before .before .before .before .before .before .pre .0) (c .before .loop .inv) (omega arith)) .after-head)
+sub-earlier c = omega (arith, (counting-room (c .before .before .before .before .before .before .before .before .before .pre .0) (c .before .loop .inv) (omega arith)) .after-head)
 
 sub-last : tie.Need-sub-last Inv-loop μ-loop
-sub-last c = omega (arith, (counting-room (c .before .before .before .before .before .before .before .before .pre .0) (c .before .loop .inv) (omega arith)) .after-head)
+sub-last c = omega (arith, (counting-room (c .before .before .before .before .before .before .before .before .before .pre .0) (c .before .loop .inv) (omega arith)) .after-head)
 
 sub-line-within : tie.Need-sub-line-within Inv-loop μ-loop
 sub-line-within c = omega arith
@@ -40,7 +43,7 @@ part-line-within-start : tie.Need-part-line-within-start Inv-loop μ-loop
 part-line-within-start c = search needs
 
 part-line-within-end : tie.Need-part-line-within-end Inv-loop μ-loop
-part-line-within-end c = let r = counting-room (c .before .before .before .before .before .before .before .before .pre .0) (c .before .loop .inv) (omega arith) in omega (arith, r .inside)
+part-line-within-end c = let r = counting-room (c .before .before .before .before .before .before .before .before .before .pre .0) (c .before .loop .inv) (omega arith) in omega (arith, r .inside)
 
 sub-line-within-2 : tie.Need-sub-line-within-2 Inv-loop μ-loop
 sub-line-within-2 c = omega arith
@@ -49,30 +52,30 @@ part-line-within-start-2 : tie.Need-part-line-within-start-2 Inv-loop μ-loop
 part-line-within-start-2 c = search needs
 
 part-line-within-end-2 : tie.Need-part-line-within-end-2 Inv-loop μ-loop
-part-line-within-end-2 c = let r = counting-room (c .before .before .before .before .before .before .before .before .before .pre .0) (c .before .before .loop .inv) (omega arith) in omega (arith, r .inside)
+part-line-within-end-2 c = let r = counting-room (c .before .before .before .before .before .before .before .before .before .before .pre .0) (c .before .before .loop .inv) (omega arith) in omega (arith, r .inside)
 
 line-within-requires : tie.Need-line-within-requires Inv-loop μ-loop
-line-within-requires c κs = parts-fit _ _ _ _ (counting-room (c .before .before .before .before .before .before .before .before .before .before .before .before .pre .0) (c .before .before .before .before .before .loop .inv) (omega arith))
+line-within-requires c κs = parts-fit _ _ _ _ (counting-room (c .before .before .before .before .before .before .before .before .before .before .before .before .before .pre .0) (c .before .before .before .before .before .loop .inv) (omega arith))
 
 one-more-requires : tie.Need-one-more-requires Inv-loop μ-loop
-one-more-requires c κs = (counting-room (c .before .before .before .before .before .before .before .before .before .before .before .before .before .pre .0) (c .before .before .before .before .before .before .loop .inv) (omega arith)) .few
+one-more-requires c κs = (counting-room (c .before .before .before .before .before .before .before .before .before .before .before .before .before .before .pre .0) (c .before .before .before .before .before .before .loop .inv) (omega arith)) .few
 
 add-from : tie.Need-add-from Inv-loop μ-loop
-add-from c = omega (arith, (counting-room (c .before .before .before .before .before .before .before .before .before .before .before .before .before .before .pre .0) (c .before .before .before .before .before .before .before .loop .inv) (omega arith)) .small)
+add-from c = omega (arith, (counting-room (c .before .before .before .before .before .before .before .before .before .before .before .before .before .before .before .pre .0) (c .before .before .before .before .before .before .before .loop .inv) (omega arith)) .small)
 
 add-e : tie.Need-add-e Inv-loop μ-loop
-add-e c = omega (arith, book-sizes (c .before .before .before .before .before .before .before .before .before .before .before .before .before .before .pre .0) .count-fits, book-sizes (c .before .before .before .before .before .before .before .before .before .before .before .before .before .before .pre .0) .capacity-fits)
+add-e c = omega (arith, book-sizes (c .before .before .before .before .before .before .before .before .before .before .before .before .before .before .before .pre .0) .count-fits, book-sizes (c .before .before .before .before .before .before .before .before .before .before .before .before .before .before .before .pre .0) .capacity-fits)
 
 loop-less : tie.Need-loop-less Inv-loop μ-loop
 loop-less c = omega arith
 
 loop-again : tie.Need-loop-again Inv-loop μ-loop
 loop-again c =
-    let p = c .before .before .before .before .before .before .before .before .before .before .before .before .before .before .pre in
-    counting-next (p .0) _ (c .before .before .before .before .before .before .before .loop .inv) (omega arith) (p .1) (c .before .before .before .before .before .before .before .before .fill-tables .ensures) (c .before .line-within .ensures) (c .one-more .ensures)
+    let p = c .before .before .before .before .before .before .before .before .before .before .before .before .before .before .before .pre in
+    counting-next (p .0) _ (c .before .before .before .before .before .before .before .before .before .before .before .line-length .result) (c .before .before .before .before .before .before .before .before .before .before .before .line-length .ensures .0) (c .before .before .before .before .before .before .before .loop .inv) (omega arith) (p .1) (c .before .before .before .before .before .before .before .before .fill-tables .ensures) (c .before .line-within .ensures) (c .one-more .ensures)
 
 returns : tie.Need-returns Inv-loop μ-loop
-returns c = counting-all (c .before .before .before .before .before .before .before .before .pre .0) (c .before .loop .inv) (omega arith)
+returns c = counting-all (c .before .before .before .before .before .before .before .before .before .pre .0) (c .before .loop .inv) (omega arith)
 
 pub count-within-spec : {M : Type 1} → statement M
 count-within-spec =
@@ -81,6 +84,7 @@ count-within-spec =
     Inv-loop
     μ-loop
     mul-width
+    line-length-requires
     fill-tables-requires
     loop-holds
     add-end

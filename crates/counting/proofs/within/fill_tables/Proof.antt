@@ -4,8 +4,9 @@ use Prim.Native.Nat.{_≤_, _-_}
 use native.Mathlib.Omega.{arith}
 use borrow.Author.Needs.{needs}
 use lib.ListN.{length}
+use Rattle.lines.proofs.TableLaws.{length-put}
 use Rattle.counting.specs.Within.{Tables}
-use Rattle.counting.proofs.TableLaws.{length-put, tables-none, tables-next}
+use Rattle.counting.proofs.TableLaws.{tables-none, tables-next}
 use Rattle.counting.proofs.within.fill_tables.Statement.{statement}
 use Rattle.counting.proofs.within.fill_tables.Tie as tie
 
@@ -53,8 +54,8 @@ loop-again c =
     let g = c .put2 .ensures in
     let r = c .before .before .before .before .rank2 in (
       omega arith,
-      ap length d ∙ length-put _ _ _ _ ∙ l .inv .1,
-      ap length g ∙ length-put _ _ _ _ ∙ l .inv .2,
+      ap length d ∙ length-put _ _ _ _ _ ∙ l .inv .1,
+      ap length g ∙ length-put _ _ _ _ _ ∙ l .inv .2,
       tables-next (c .before .before .before .before .before .before .rank .result) (r .result) _ _ (l .inv .3) (omega (arith, p .few)) (omega (arith, p .few)) (c .before .before .before .before .before .before .rank .ensures) (r .ensures) (omega (arith, r .ok)) d g,
     )
 

@@ -2,6 +2,7 @@
 use Prim.Native.Nat.{_-_}
 use native.Mathlib.Omega.{arith}
 use lib.ListN.{length}
+use Rattle.layout.proofs.LineLaws.{cells-inside}
 use Rattle.lines.proofs.LineLaws.{length-line, cell-small, ReadTo, read-none, read-next, read-all}
 use Rattle.lines.proofs.entries.read_line.Statement.{statement}
 use Rattle.lines.proofs.entries.read_line.Tie as tie
@@ -19,7 +20,7 @@ mul-three-wide : tie.Need-mul-three-wide Inv-loop μ-loop
 mul-three-wide c = omega arith
 
 three-wide-requires : tie.Need-three-wide-requires Inv-loop μ-loop
-three-wide-requires c κs = omega (arith, length-line (c .before .before .before .before .pre .1))
+three-wide-requires c κs = omega (arith, length-line (c .before .before .before .before .pre .1), cells-inside (length (c .before .before .before .before .args .cells .now)))
 
 cast-cells : tie.Need-cast-cells Inv-loop μ-loop
 cast-cells c = omega (arith, c .three-wide .ensures .0, cell-small (c .before .before .loop .k) (c .before .before .before .before .before .pre .1) (omega arith))

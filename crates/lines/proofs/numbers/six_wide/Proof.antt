@@ -4,79 +4,17 @@ use Rattle.lines.proofs.NumberLaws.{number-six}
 use Rattle.lines.proofs.numbers.six_wide.Statement.{statement}
 use Rattle.lines.proofs.numbers.six_wide.Tie as tie
 
-shared-slice-read-digit : tie.Need-shared-slice-read-digit
-shared-slice-read-digit c = omega arith
+three-more-requires : tie.Need-three-more-requires
+three-more-requires c κs = (omega arith, omega arith)
 
-digit-requires : tie.Need-digit-requires
-digit-requires c κs = omega arith
+add-three-more : tie.Need-add-three-more
+add-three-more c = omega arith
 
-add-digit : tie.Need-add-digit
-add-digit c = omega arith
-
-shared-slice-read-digit-2 : tie.Need-shared-slice-read-digit-2
-shared-slice-read-digit-2 c = omega arith
-
-digit-requires-2 : tie.Need-digit-requires-2
-digit-requires-2 c κs = omega arith
-
-add-digit-2 : tie.Need-add-digit-2
-add-digit-2 c = omega arith
-
-shared-slice-read-digit-3 : tie.Need-shared-slice-read-digit-3
-shared-slice-read-digit-3 c = omega arith
-
-digit-requires-3 : tie.Need-digit-requires-3
-digit-requires-3 c κs = omega arith
-
-add-digit-3 : tie.Need-add-digit-3
-add-digit-3 c = omega arith
-
-shared-slice-read-digit-4 : tie.Need-shared-slice-read-digit-4
-shared-slice-read-digit-4 c = omega arith
-
-digit-requires-4 : tie.Need-digit-requires-4
-digit-requires-4 c κs = omega arith
-
-add-digit-4 : tie.Need-add-digit-4
-add-digit-4 c = omega arith
-
-shared-slice-read-digit-5 : tie.Need-shared-slice-read-digit-5
-shared-slice-read-digit-5 c = omega arith
-
-digit-requires-5 : tie.Need-digit-requires-5
-digit-requires-5 c κs = omega arith
-
-add-digit-5 : tie.Need-add-digit-5
-add-digit-5 c = omega arith
-
-shared-slice-read-digit-6 : tie.Need-shared-slice-read-digit-6
-shared-slice-read-digit-6 c = omega arith
-
-digit-requires-6 : tie.Need-digit-requires-6
-digit-requires-6 c κs = omega arith
+three-more-requires-2 : tie.Need-three-more-requires-2
+three-more-requires-2 c κs = (omega arith, omega arith)
 
 returns : tie.Need-returns
-returns c = (number-six _ _ _ _ _ _ _ _ (omega arith) (c .before .before .before .before .before .before .before .before .before .before .digit .ensures .0) (c .before .before .before .before .before .before .before .before .digit2 .ensures .0) (c .before .before .before .before .before .before .digit3 .ensures .0) (c .before .before .before .before .digit4 .ensures .0) (c .before .before .digit5 .ensures .0) (c .digit6 .ensures .0), omega arith)
+returns c = (number-six (c .before .three-more .result) _ _ _ (c .before .three-more .ensures .0) (c .three-more2 .ensures .0), omega arith)
 
 pub six-wide-spec : {M : Type 1} → statement M
-six-wide-spec =
-    tie.close
-    (tie.spec
-    shared-slice-read-digit
-    digit-requires
-    add-digit
-    shared-slice-read-digit-2
-    digit-requires-2
-    add-digit-2
-    shared-slice-read-digit-3
-    digit-requires-3
-    add-digit-3
-    shared-slice-read-digit-4
-    digit-requires-4
-    add-digit-4
-    shared-slice-read-digit-5
-    digit-requires-5
-    add-digit-5
-    shared-slice-read-digit-6
-    digit-requires-6
-    returns)
+six-wide-spec = tie.close (tie.spec three-more-requires add-three-more three-more-requires-2 returns)

@@ -4,43 +4,11 @@ use Rattle.lines.proofs.NumberLaws.{number-three}
 use Rattle.lines.proofs.numbers.three_wide.Statement.{statement}
 use Rattle.lines.proofs.numbers.three_wide.Tie as tie
 
-shared-slice-read-digit : tie.Need-shared-slice-read-digit
-shared-slice-read-digit c = omega arith
-
-digit-requires : tie.Need-digit-requires
-digit-requires c κs = omega arith
-
-add-digit : tie.Need-add-digit
-add-digit c = omega arith
-
-shared-slice-read-digit-2 : tie.Need-shared-slice-read-digit-2
-shared-slice-read-digit-2 c = omega arith
-
-digit-requires-2 : tie.Need-digit-requires-2
-digit-requires-2 c κs = omega arith
-
-add-digit-2 : tie.Need-add-digit-2
-add-digit-2 c = omega arith
-
-shared-slice-read-digit-3 : tie.Need-shared-slice-read-digit-3
-shared-slice-read-digit-3 c = omega arith
-
-digit-requires-3 : tie.Need-digit-requires-3
-digit-requires-3 c κs = omega arith
+three-more-requires : tie.Need-three-more-requires
+three-more-requires c κs = (omega arith, c .before .pre)
 
 returns : tie.Need-returns
-returns c = (number-three _ _ _ _ _ (omega arith) (c .before .before .before .before .digit .ensures .0) (c .before .before .digit2 .ensures .0) (c .digit3 .ensures .0), omega arith)
+returns c = (number-three _ _ _ (c .three-more .ensures .0), omega arith)
 
 pub three-wide-spec : {M : Type 1} → statement M
-three-wide-spec =
-    tie.close
-    (tie.spec
-    shared-slice-read-digit
-    digit-requires
-    add-digit
-    shared-slice-read-digit-2
-    digit-requires-2
-    add-digit-2
-    shared-slice-read-digit-3
-    digit-requires-3
-    returns)
+three-wide-spec = tie.close (tie.spec three-more-requires returns)

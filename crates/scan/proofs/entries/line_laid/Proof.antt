@@ -1,49 +1,74 @@
 use native.Mathlib.Omega.{arith}
 use borrow.Author.Needs.{needs}
+use Rattle.layout.proofs.LineLaws.{cells-inside}
 use Rattle.scan.proofs.EntryLaws.{line-none, line-decides}
 use Rattle.scan.proofs.entries.line_laid.Statement.{statement}
 use Rattle.scan.proofs.entries.line_laid.Tie as tie
 
-mul-if1 : tie.Need-mul-if1
-mul-if1 c = search needs
+line-length-requires : tie.Need-line-length-requires
+line-length-requires c κs = search needs
 
 add-if1 : tie.Need-add-if1
 add-if1 c = search needs
 
+sub-if1 : tie.Need-sub-if1
+sub-if1 c = omega arith
+
 shared-slice-read-if1 : tie.Need-shared-slice-read-if1
-shared-slice-read-if1 c = search needs
+shared-slice-read-if1 c = omega arith
 
 returns : tie.Need-returns
-returns c = let a = c .before .before .before .args in line-none (a .size) (a .top) (a .register .now) (a .at) (λ e. omega (arith, e))
-
-sub-cells-laid : tie.Need-sub-cells-laid
-sub-cells-laid c = search needs
+returns c =
+    let n = c .before .before .line-length in
+    let a = c .before .before .before .before .args in
+    line-none (a .size) (a .top) (a .register .now) (a .at) (n .result) (n .ensures .0) (λ e. omega (arith, e))
 
 mul-cells-laid : tie.Need-mul-cells-laid
 mul-cells-laid c = search needs
 
 add-cells-laid : tie.Need-add-cells-laid
-add-cells-laid c = search needs
+add-cells-laid c = omega (arith, cells-inside (c .before .before .before .before .args .size))
+
+sub-cells-laid : tie.Need-sub-cells-laid
+sub-cells-laid c = search needs
+
+sub-cells-laid-2 : tie.Need-sub-cells-laid-2
+sub-cells-laid-2 c = search needs
+
+mul-cells-laid-2 : tie.Need-mul-cells-laid-2
+mul-cells-laid-2 c = search needs
+
+add-cells-laid-2 : tie.Need-add-cells-laid-2
+add-cells-laid-2 c = search needs
 
 cells-laid-requires : tie.Need-cells-laid-requires
-cells-laid-requires c κs = search needs
+cells-laid-requires c κs =
+    let s = c .before .before .before .before in
+    (omega (arith, s .pre .0), omega (arith, s .pre .2, s .pre .3, s .pre .5, cells-inside (s .args .size)))
 
 returns-2 : tie.Need-returns-2
 returns-2 c =
-    let s = c .before .before .before .before in
+    let k = c .before .before in
+    let n = k .before .line-length in
+    let s = k .before .before .before in
     let a = s .args in
-    line-decides (a .size) (a .top) (a .register .now) (a .base .now) (a .teen .now) (a .span .now) (s .pre .1) (s .pre .4) (λ i. omega (arith, c .before .before .shared-slice-known2 .given i)) (a .at) (c .cells-laid .result) (s .pre .2) (omega arith) (c .cells-laid .ensures)
+    line-decides (a .size) (a .top) (a .register .now) (a .at) (n .result) (n .ensures .0) (a .base .now) (a .teen .now) (a .span .now) (s .pre .1) (s .pre .4) (λ i. omega (arith, k .shared-slice-known2 .given i))
+    (a .from) (c .cells-laid .result) (s .pre .2) (s .pre .5) (s .pre .6) (omega arith) (c .cells-laid .ensures)
 
 pub line-laid-spec : {M : Type 1} → statement M
 line-laid-spec =
     tie.close
     (tie.spec
-    mul-if1
+    line-length-requires
     add-if1
+    sub-if1
     shared-slice-read-if1
     returns
-    sub-cells-laid
     mul-cells-laid
     add-cells-laid
+    sub-cells-laid
+    sub-cells-laid-2
+    mul-cells-laid-2
+    add-cells-laid-2
     cells-laid-requires
     returns-2)

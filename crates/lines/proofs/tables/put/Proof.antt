@@ -1,9 +1,9 @@
 -- `put` meets its contract.
 use mathlib.Core.Path.{refl}
 use borrow.Author.Needs.{needs}
-use Rattle.counting.specs.Within.{put}
-use Rattle.counting.proofs.within.put.Statement.{statement}
-use Rattle.counting.proofs.within.put.Tie as tie
+use Rattle.lines.specs.Tables.{put}
+use Rattle.lines.proofs.tables.put.Statement.{statement}
+use Rattle.lines.proofs.tables.put.Tie as tie
 
 mul-table : tie.Need-mul-table
 mul-table c = search needs

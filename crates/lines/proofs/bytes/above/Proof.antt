@@ -1,8 +1,9 @@
+-- `above` meets its contract.
 use native.Mathlib.Omega.{arith}
 use borrow.Author.Needs.{needs}
-use Rattle.scan.proofs.FitLaws.{above-is}
-use Rattle.scan.proofs.laid.above.Statement.{statement}
-use Rattle.scan.proofs.laid.above.Tie as tie
+use Rattle.lines.proofs.ByteLaws.{above-is}
+use Rattle.lines.proofs.bytes.above.Statement.{statement}
+use Rattle.lines.proofs.bytes.above.Tie as tie
 
 wrapping-sub-u8-requires : tie.Need-wrapping-sub-u8-requires
 wrapping-sub-u8-requires c κs = search needs
