@@ -1,26 +1,38 @@
 -- A line passes exactly if its cells lie in the bounds.
 --
+--   stated-cell             ==  the last two bytes of each cell of a line state it
 --   states                  ==  at a field's last byte stands what states its cell
 --   pass-in, in-pass        ==  the two directions
 --   line-within             ==  the answer that all bytes pass is the test of the cells
 use mathlib.Core.Path.{_≡_, sym, ap, ap₂, _∙_}
-use mathlib.Core.List.{List}
+use mathlib.Core.List.{List, [], _∷_}
 use mathlib.Core.Bool.{Bool, true}
 use Prim.Native.Nat.{ℕ, _+_, _*_, _/_, _%_, _≤_, _<_}
+use native.Mathlib.Nat.{mul-comm}
 use native.Mathlib.Decide.{decLt}
 use native.Mathlib.Omega.{arith}
-use lib.ListN.{getD}
+use lib.ListN.{length, getD, take, drop}
 use Rattle.permutations.proofs.BoolLaws.{bool-ext}
 use Rattle.grids.specs.Order.{rank}
 use Rattle.grids.proofs.QuestionLaws.{capped-at}
 use Rattle.bounds.specs.Bounds.{IsBounds, InBounds, inBounds}
 use Rattle.bounds.proofs.BoundsLaws.{inBounds-decides}
+use Rattle.layout.specs.Layout.{entryLine}
 use Rattle.layout.specs.Lines.{cellsOf, EntryLine}
+use Rattle.layout.proofs.LayoutLaws.{field-at}
 use Rattle.layout.proofs.LineLaws.{length-cells}
+use Rattle.lines.specs.Bytes.{stated}
 use Rattle.lines.specs.Tables.{Thirds}
-use Rattle.counting.specs.Within.{stated, passes, allPass, LineOutcome, Tables}
+use Rattle.lines.proofs.FieldLaws.{stated-at}
+use Rattle.counting.specs.Within.{passes, allPass, LineOutcome, Tables}
 use Rattle.counting.proofs.PassLaws.{all-at, at-all, passes-any, passes-within, within-passes}
-use Rattle.counting.proofs.FieldLaws.{stated-cell}
+
+stated-cell : {size top : ℕ} {l : List ℕ} → EntryLine size top l → top ≤ 15 → (j : ℕ) → j < size → stated (getD l (3 * j + 2) 0) (getD l (3 * j + 1) 0) ≡ getD (cellsOf size l) j 0
+unfolding entryLine
+stated-cell {size} {top} {l} c small j h =
+    let m : j < length (cellsOf size l) = omega (arith, length-cells size l) in
+    stated-at l (3 * j) (getD (cellsOf size l) j 0) (omega (arith, capped-at top (cellsOf size l) (c .at-most) j m))
+    (ap (λ (x : List ℕ). take 3 (drop (3 * j) x)) (c .bytes) ∙ rw (mul-comm 3 j) (field-at 3 (cellsOf size l) (10 ∷ []) j m))
 
 -- l is the entry's line, line its cells' bytes and before those a byte earlier
 module _ {size top : ℕ} {l lows spans low high : List ℕ} (line before : List ℕ) (c : EntryLine size top l) (small : top ≤ 15)

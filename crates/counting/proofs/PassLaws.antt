@@ -1,7 +1,5 @@
 -- Laws of bytes that pass.
 --
---   ten-one, ten-other      ==  a 1, and another byte
---   stated-is               ==  what a byte and the one before it state, by the two parts
 --   passes-not, passes-yes  ==  the ways out of the test of a byte
 --   ranks-byte              ==  the rank of what is stated is a byte, since the code has it as one
 --   outcome-none, outcome-next  ==  no byte, and a byte more
@@ -11,30 +9,18 @@
 use mathlib.Core.Path.{_≡_, refl, sym, ap, _∙_}
 use mathlib.Core.List.{List}
 use mathlib.Core.Bool.{Bool, true, false, _&&_}
-use Prim.Native.Nat.{ℕ, zero, suc, _+_, _-_, _%_, _^_, _≤_, _<_}
+use Prim.Native.Nat.{ℕ, zero, suc, _+_, _-_, _≤_, _<_}
 use native.Mathlib.Nat.{not-suc-le-zero}
 use native.Mathlib.Numerals.{add-one}
 use native.Mathlib.Decide.{decLt}
 use native.Mathlib.Omega.{arith}
 use lib.ListN.{getD}
-use borrow.Author.Tests.{eq-eqb, ne-eqb, le-leb, leb-true}
+use borrow.Author.Tests.{le-leb, leb-true}
 use Rattle.permutations.proofs.BoolLaws.{and-yes, yes-and}
 use Rattle.grids.specs.Order.{rank}
 use Rattle.bounds.proofs.PruneSteps.{order-fails, order-holds}
-use Rattle.lines.specs.Bytes.{above}
-use Rattle.counting.specs.Within.{ten, stated, passes, allPass, LineOutcome}
-
-pub ten-one : (x : ℕ) → x ≡ 49 → 10 ≡ ten x
-unfolding ten
-ten-one x e = rw (eq-eqb x 49 e, ten) refl
-
-pub ten-other : (x : ℕ) → (x ≡ 49 → ⊥) → 0 ≡ ten x
-unfolding ten
-ten-other x n = rw (ne-eqb x 49 n, ten) refl
-
-pub stated-is : (byte before x t r : ℕ) → x ≡ above byte 48 → t ≡ ten before → r ≡ (x + t) % 2 ^ 8 → r ≡ stated byte before
-unfolding stated
-stated-is byte before x t r a b e = omega arith
+use Rattle.lines.specs.Bytes.{above, stated}
+use Rattle.counting.specs.Within.{passes, allPass, LineOutcome}
 
 pub passes-not : (within : Bool) (byte before low span v r x : ℕ) → v ≡ stated byte before → r ≡ rank v → x ≡ above r low → span < x → false ≡ (within && passes byte before low span)
 unfolding passes

@@ -1,7 +1,5 @@
--- Lines within bounds, byte by byte. A cell's field is two spaces and a digit, or a space, a 1 and a digit.
+-- Lines within bounds, byte by byte.
 --
---   ten byte                 ==  10 for a 1, 0 for another byte
---   stated byte before       ==  the cell whose field ends with a byte and has another before it; round the 256 where they end none
 --   passes byte before low span  ==  what the byte and the one before it state ranks above low by at most span
 --   allPass k line before lows spans  ==  the first k bytes of a line do, by tables of lows and spans; before is the line a byte earlier
 --   LineOutcome r k line before lows spans  ==  r says whether the first k bytes do, and the rank of what each states is a byte
@@ -12,18 +10,12 @@
 use mathlib.Core.Path.{_≡_}
 use mathlib.Core.List.{List}
 use mathlib.Core.Bool.{Bool, true, false, _&&_}
-use Prim.Native.Nat.{ℕ, zero, suc, _+_, _-_, _%_, _≤_, _<_}
+use Prim.Native.Nat.{ℕ, zero, suc, _+_, _-_, _≤_, _<_}
 use lib.ListN.{length, getD}
-use lib.Dec.{leb, eqb}
+use lib.Dec.{leb}
 use Rattle.grids.specs.Order.{rank}
-use Rattle.lines.specs.Bytes.{above}
+use Rattle.lines.specs.Bytes.{above, stated}
 use Rattle.lines.specs.Tables.{Thirds}
-
-unfoldable pub ten : ℕ → ℕ
-ten byte = elim (eqb byte 49) [ true ↦ 10 | false ↦ 0 ]
-
-unfoldable pub stated : ℕ → ℕ → ℕ
-stated byte before = (above byte 48 + ten before) % 256
 
 unfoldable pub passes : ℕ → ℕ → ℕ → ℕ → Bool
 passes byte before low span = leb (above (rank (stated byte before)) low) span

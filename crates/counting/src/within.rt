@@ -1,6 +1,7 @@
 // How many entries lie within bounds: each line is tested by its bytes, in a loop without a jump.
 use grids::cells;
 use lines::bytes::above;
+use lines::bytes::stated;
 use lines::entries;
 use lines::tables::put;
 ghost use mathlib.Core.Path.{_≡_};
@@ -12,21 +13,8 @@ ghost use Rattle.grids.specs.Order.{rank};
 ghost use Rattle.bounds.specs.Bounds.{IsBounds, inBounds};
 ghost use Rattle.layout.specs.Layout.{decodeShape, decode};
 ghost use Rattle.machine.specs.Books.{Book};
-ghost use Rattle.counting.specs.Within.{ten, stated, passes, LineOutcome, Ordered, Tables, oneMore};
-
-// 10 for a 1, 0 for another byte.
-fn ten(byte: u8) -> u8
-    ensures { λ r. ⌜ r ≡ ten byte ⌝ }
-{
-    if byte == 49 { 10 } else { 0 }
-}
-
-// The cell whose field ends with a byte and has another before it; round the 256 where they end none.
-fn stated(byte: u8, before: u8) -> u8
-    ensures { λ r. ⌜ r ≡ stated byte before ⌝ }
-{
-    std::num::wrapping_add_u8(above(byte, 48), ten(before))
-}
+ghost use Rattle.lines.specs.Bytes.{stated};
+ghost use Rattle.counting.specs.Within.{passes, LineOutcome, Ordered, Tables, oneMore};
 
 // Whether all passed so far, and a byte does.
 fn stays_within(within: bool, byte: u8, before: u8, low: u8, span: u8) -> bool
@@ -100,7 +88,7 @@ pub fn count_within(register: &[u8], count: usize, low: &[u8], high: &[u8]) -> u
             &spans,
         );
         found = one_more(found, within);
-        from = from + length;
+        from += length;
         e += 1;
     }
     found

@@ -81,7 +81,7 @@ entry-next {k} {i} {g} {l} {o} ys t h b y = record {
 pub entry-all : {k i : ℕ} {g l o : List ℕ} → EntryTo k i g l o → length g ≤ k → lineLength (length g) ≤ length l → set o i 10 ≡ entryLine g ++ drop (lineLength (length g)) l
 unfolding entryLine lineLength entryWidth
 entry-all {k} {i} {g} {l} {o} t h b =
-    filled (fields 3 g ++ (10 ∷ [])) (3 * length g + 1) (fill _ 10 (t .so-far) (omega (arith, t .place, t .cells)) refl)
+    filled (fields 3 g ++ (10 ∷ [])) (lineLength (length g)) (fill _ 10 (t .so-far) (omega (arith, t .place, t .cells)) refl)
     (ap (λ (r : List ℕ). fields 3 r ++ (10 ∷ [])) (take-all k g h))
     (omega (arith, t .place, t .cells))
 

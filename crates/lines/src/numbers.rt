@@ -1,31 +1,23 @@
 // Decimal numbers, right-justified in fields.
 ghost use mathlib.Core.Path.{_≡_};
 ghost use mathlib.Core.List.{[], _∷_};
-ghost use Prim.Native.Nat.{_+_, _-_, _*_, _≤_, _<_};
+ghost use Prim.Native.Nat.{_+_, _*_, _≤_, _<_};
 ghost use lib.ListN.{length, take, drop};
 ghost use Rattle.layout.specs.Decimal.{lead, field, digit, valueFrom};
 ghost use Rattle.layout.specs.Layout.{numberAt};
-
-// What a byte adds to a number as its last digit.
-fn worth(byte: u8) -> usize
-    ensures { λ r. ⌜ (r ≡ byte - 48) × (r ≤ 207) ⌝ }
-{
-    if byte < 48 {
-        return 0;
-    }
-    (byte - 48) as usize
-}
 
 // A number followed by a digit; a space is passed over.
 fn digit(acc: usize, byte: u8) -> usize
     requires { ⌜ acc ≤ 10000000 ⌝ }
     ensures { λ r. ⌜ (r ≡ digit acc byte) × (r ≤ acc * 10 + 207) ⌝ }
 {
-    let more = acc * 10 + worth(byte);
     if byte == 32 {
         return acc;
     }
-    more
+    if byte < 48 {
+        return acc * 10;
+    }
+    acc * 10 + (byte - 48) as usize
 }
 
 // A number followed by the digits of three bytes.

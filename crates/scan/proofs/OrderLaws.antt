@@ -6,7 +6,9 @@
 --   agree-less              ==  fewer agree too
 --   same-byte               ==  a byte that agrees, by the place of its cell
 --   cells-from              ==  the cells that a line states, by their places in the register
---   before-here, before-never  ==  the first cells whose bytes differ decide; no bytes differ
+--   AgreeBelow b p q k      ==  the cells before cell k agree
+--   cells-same, cells-next  ==  cells whose bytes agree, and one cell more
+--   before-here, before-never  ==  the ways out of the comparison
 use mathlib.Core.Path.{_≡_, refl, sym, ap, _∙_}
 use mathlib.Core.List.{List}
 use mathlib.Core.Bool.{Bool, true, false, true≢false, _&&_, and-true, and-false}
@@ -18,19 +20,19 @@ use native.Mathlib.Decide.{decLt}
 use native.Mathlib.Numerals.{add-one}
 use borrow.Author.Tests.{eq-eqb, ne-eqb, eqb-true, lt-ltb, ltb-true}
 use lib.ListN.{getD, length, take, drop}
-use lib.Seq.{getD-take, getD-drop, drop-drop}
+use lib.Seq.{drop-drop}
 use lib.Dec.{eqb, ltb}
 use Rattle.permutations.specs.Lists.{tabulate}
-use Rattle.permutations.proofs.BoolLaws.{and-yes, yes-and}
+use Rattle.permutations.proofs.BoolLaws.{and-yes}
 use Rattle.permutations.proofs.ListLaws.{tabulate-ext}
 use Rattle.grids.specs.Order.{rank, _≼_, _≺_}
 use Rattle.grids.proofs.OrderLaws.{≼-refl, tabulate-at, tabulate-by-index}
-use Rattle.layout.specs.Decimal.{field, value}
+use Rattle.layout.specs.Decimal.{value}
 use Rattle.layout.specs.Layout.{numberAt}
 use Rattle.layout.specs.Lines.{cellsOf}
-use Rattle.scan.specs.Cells.{CellsLaid, Same, sameFrom}
+use Rattle.scan.specs.Cells.{Same, sameFrom}
 use Rattle.scan.specs.Lines.{Precedes}
-use Rattle.scan.proofs.CellLaws.{three, cells-field}
+use Rattle.scan.proofs.CellLaws.{three}
 
 -- ---- bytes
 
@@ -80,11 +82,6 @@ pub agree-less : (b : List ℕ) (p q n m : ℕ) → m ≤ n → Same b p q n →
 unfolding Same
 agree-less b p q n m h s j l = s j (omega arith)
 
-all-same : (b : List ℕ) (p q n : ℕ) → ((j : ℕ) → j < n → getD b (p + j) 0 ≡ getD b (q + j) 0) → sameFrom b p q n ≡ true
-unfolding sameFrom
-all-same b p q zero h = refl
-all-same b p q (suc n) h = yes-and (sameFrom b p q n) _ (all-same b p q n (λ j l. h j (omega arith))) (eq-eqb _ _ (h n (omega arith)))
-
 pub same-byte : (b : List ℕ) (p q n j d : ℕ) → Same b p q n → j + d < n → getD b (p + j + d) 0 ≡ getD b (q + j + d) 0
 unfolding Same
 same-byte b p q n j d s l =
@@ -120,37 +117,40 @@ first-differs n u v k kn same ne = (to, back)
         go (yes l) = l
         go (no l) = absurd (h (tabulate-by-index n v u (later (omega arith))))
 
-module _ (b : List ℕ) (p q size : ℕ) (pl : p + 3 * size ≤ length b) (ql : q + 3 * size ≤ length b) where
-  cells-same : (k : ℕ) → k ≤ size → Same b p q (3 * k) → (i : ℕ) → i < k → numberAt 3 (p + 3 * i) b ≡ numberAt 3 (q + 3 * i) b
-  unfolding numberAt Same
-  cells-same k h s i l =
-      ap value (three b (p + 3 * i) (omega arith)
-      ∙ rw (s (3 * i) (omega arith), same-byte b p q (3 * k) (3 * i) 1 s (omega arith), same-byte b p q (3 * k) (3 * i) 2 s (omega arith)) (sym (three b (q + 3 * i) (omega arith))))
+unfoldable pub AgreeBelow : List ℕ → ℕ → ℕ → ℕ → Type 0
+AgreeBelow b p q k = (i : ℕ) → i < k → numberAt 3 (p + 3 * i) b ≡ numberAt 3 (q + 3 * i) b
 
-  -- cells of the same number have the same bytes
-  number-bytes : CellsLaid 15 b p size → CellsLaid 15 b q size → (k : ℕ) → k < size → numberAt 3 (p + 3 * k) b ≡ numberAt 3 (q + 3 * k) b → sameFrom b (p + 3 * k) (q + 3 * k) 3 ≡ true
-  number-bytes x y k h z = all-same b (p + 3 * k) (q + 3 * k) 3 (λ j l. sym (place p j l) ∙ ap (λ (s : List ℕ). getD s j 0) bytes ∙ place q j l)
-    where
-      bytes : take 3 (drop (p + 3 * k) b) ≡ take 3 (drop (q + 3 * k) b)
-      bytes = cells-field 15 b p size (omega arith) pl x k h .0 ∙ ap (field 3) z ∙ sym (cells-field 15 b q size (omega arith) ql y k h .0)
+pub cells-same : (b : List ℕ) (p q k : ℕ) → p + 3 * k ≤ length b → q + 3 * k ≤ length b → Same b p q (3 * k) → AgreeBelow b p q k
+unfolding AgreeBelow numberAt Same
+cells-same b p q k f g s i l =
+    ap value (three b (p + 3 * i) (omega arith)
+    ∙ rw (s (3 * i) (omega arith), same-byte b p q (3 * k) (3 * i) 1 s (omega arith), same-byte b p q (3 * k) (3 * i) 2 s (omega arith)) (sym (three b (q + 3 * i) (omega arith))))
 
-      place : (s j : ℕ) → j < 3 → getD (take 3 (drop (s + 3 * k) b)) j 0 ≡ getD b (s + 3 * k + j) 0
-      place s j l = getD-take 3 (drop (s + 3 * k) b) j 0 l ∙ getD-drop (s + 3 * k) b j 0
+pub cells-next : (b : List ℕ) (p q k : ℕ) → AgreeBelow b p q k → numberAt 3 (p + 3 * k) b ≡ numberAt 3 (q + 3 * k) b → AgreeBelow b p q (k + 1)
+unfolding AgreeBelow
+cells-next b p q k h e i l = go (decLt i k)
+  where
+    go : Dec (i < k) → numberAt 3 (p + 3 * i) b ≡ numberAt 3 (q + 3 * i) b
+    go (yes m) = h i m
+    go (no m) = let z : i ≡ k = omega (arith, l) in rw z e
 
-  pub before-here : CellsLaid 15 b p size → CellsLaid 15 b q size → (k : ℕ) → k < size → Same b p q (3 * k) → sameFrom b (p + 3 * k) (q + 3 * k) 3 ≡ false →
-      (r : Bool) → r ≡ ltb (rank (numberAt 3 (p + 3 * k) b)) (rank (numberAt 3 (q + 3 * k) b)) → (r ≡ true) ↔ Precedes size b p q
-  unfolding Precedes
-  before-here g h k l s n r e = rw (cells-from size b p, cells-from size b q) (
-    λ y. d .0 (ltb-true (rank (numberAt 3 (p + 3 * k) b)) (rank (numberAt 3 (q + 3 * k) b)) (sym e ∙ y)),
-    λ o. e ∙ lt-ltb (rank (numberAt 3 (p + 3 * k) b)) (rank (numberAt 3 (q + 3 * k) b)) (d .1 o),
+module _ (b : List ℕ) (p q size k : ℕ) (h : AgreeBelow b p q k) where
+  pub before-here : (x y r s : ℕ) → k < size → x ≡ numberAt 3 (p + 3 * k) b → y ≡ numberAt 3 (q + 3 * k) b → (x ≡ y → ⊥) → r ≡ rank x → s ≡ rank y → (ltb r s ≡ true) ↔ Precedes size b p q
+  unfolding AgreeBelow Precedes
+  before-here x y r s l e f n u v = rw (cells-from size b p, cells-from size b q) (
+    λ t. d .0 (let m = ltb-true r s t in omega (arith, ranks)),
+    λ o. let m = d .1 o in lt-ltb r s (omega (arith, ranks)),
   )
     where
-      d : (rank (numberAt 3 (p + 3 * k) b) < rank (numberAt 3 (q + 3 * k) b)) ↔ (tabulate 0 size (λ i. numberAt 3 (p + 3 * i) b) ≺ tabulate 0 size (λ i. numberAt 3 (q + 3 * i) b))
-      d = first-differs size (λ i. numberAt 3 (p + 3 * i) b) (λ i. numberAt 3 (q + 3 * i) b) k l (cells-same k (omega arith) s) (λ z. true≢false (sym (number-bytes g h k l z) ∙ n))
+      ranks : (r ≡ rank (numberAt 3 (p + 3 * k) b)) × (s ≡ rank (numberAt 3 (q + 3 * k) b))
+      ranks = (u ∙ ap rank e, v ∙ ap rank f)
 
-  pub before-never : (k : ℕ) → k ≡ size → Same b p q (3 * k) → (false ≡ true) ↔ Precedes size b p q
-  unfolding Precedes
-  before-never k e s = (
+      d : (rank (numberAt 3 (p + 3 * k) b) < rank (numberAt 3 (q + 3 * k) b)) ↔ (tabulate 0 size (λ i. numberAt 3 (p + 3 * i) b) ≺ tabulate 0 size (λ i. numberAt 3 (q + 3 * i) b))
+      d = first-differs size (λ i. numberAt 3 (p + 3 * i) b) (λ i. numberAt 3 (q + 3 * i) b) k l h (λ z. n (e ∙ z ∙ sym f))
+
+  pub before-never : size ≤ k → (false ≡ true) ↔ Precedes size b p q
+  unfolding AgreeBelow Precedes
+  before-never l = (
     λ t. absurd (true≢false (sym t)),
-    λ o. absurd (o (rw (cells-from size b p ∙ tabulate-ext 0 size _ _ (λ i c. cells-same k (omega arith) s i (omega arith)) ∙ sym (cells-from size b q)) (≼-refl (cellsOf size (drop q b))))),
+    λ o. absurd (o (rw (cells-from size b p ∙ tabulate-ext 0 size _ _ (λ i c. h i (omega arith)) ∙ sym (cells-from size b q)) (≼-refl (cellsOf size (drop q b))))),
   )

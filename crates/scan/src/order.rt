@@ -1,13 +1,13 @@
-// Which of two lines comes first, by the rank of the first cells whose bytes differ. The lines are given by the places of their first bytes.
+// Which of two lines comes first: 16 bytes at a time while they agree, then cells, by rank. The lines are given by the places of their first bytes.
 use grids::cells;
-use lines::numbers;
+use lines::bytes::stated;
 ghost use mathlib.Core.Path.{_≡_};
 ghost use mathlib.Core.Bool.{true, _&&_};
 ghost use mathlib.Core.Logic.{_↔_};
 ghost use Prim.Native.Nat.{_+_, _*_, _≤_, _<_};
-ghost use lib.ListN.{length};
-ghost use lib.Dec.{eqb, ltb};
-ghost use Rattle.grids.specs.Order.{rank};
+ghost use lib.ListN.{length, take, drop};
+ghost use lib.Dec.{eqb};
+ghost use Rattle.layout.specs.Decimal.{field};
 ghost use Rattle.layout.specs.Layout.{numberAt};
 ghost use Rattle.scan.specs.Cells.{CellsLaid, Same, sameFrom};
 ghost use Rattle.scan.specs.Lines.{Precedes};
@@ -22,14 +22,14 @@ fn stays_same(same: bool, x: u8, y: u8) -> bool
     same
 }
 
-// Whether so many bytes are the same: no way out of the loop, so that they are compared at once.
-fn same_from(register: &[u8], p: usize, q: usize, count: usize) -> bool
-    requires { ⌜ (p + count ≤ length (now register)) × (q + count ≤ length (now register)) ⌝ }
-    ensures { λ r. ⌜ r ≡ sameFrom (now (register .entry)) p q count ⌝ }
+// Whether 16 bytes are the same: no way out of the loop, so that they are compared at once.
+fn same_from(register: &[u8], p: usize, q: usize) -> bool
+    requires { ⌜ (p + 16 ≤ length (now register)) × (q + 16 ≤ length (now register)) ⌝ }
+    ensures { λ r. ⌜ r ≡ sameFrom (now (register .entry)) p q 16 ⌝ }
 {
     let mut same = true;
     let mut n = 0;
-    while n < count {
+    while n < 16 {
         same = stays_same(same, register[p + n], register[q + n]);
         n += 1;
     }
@@ -43,12 +43,20 @@ pub fn agreed(register: &[u8], p: usize, q: usize, width: usize) -> usize
 {
     let mut i = 0;
     while i + 16 <= width {
-        if !same_from(register, p + i, q + i, 16) {
+        if !same_from(register, p + i, q + i) {
             return i;
         }
         i += 16;
     }
     i
+}
+
+// The number of a field that is laid out.
+fn cell(register: &[u8], at: usize) -> u8
+    requires { ⌜ (at + 3 ≤ length (now register)) × (take 3 (drop at (now register)) ≡ field 3 (numberAt 3 at (now register))) × (numberAt 3 at (now register) ≤ 15) ⌝ }
+    ensures { λ r. ⌜ r ≡ numberAt 3 at (now (register .entry)) ⌝ }
+{
+    stated(register[at + 2], register[at + 1])
 }
 
 // Whether the first of two lines comes before the second, where the cells before cell `from` agree.
@@ -58,22 +66,12 @@ pub fn comes_before(register: &[u8], p: usize, q: usize, from: usize, size: usiz
 {
     let mut k = from;
     while k < size {
-        let x = p + 3 * k;
-        let y = q + 3 * k;
-        if !same_from(register, x, y, 3) {
-            return cell_before(register, x, y);
+        let x = cell(register, p + 3 * k);
+        let y = cell(register, q + 3 * k);
+        if x != y {
+            return cells::rank(x) < cells::rank(y);
         }
         k += 1;
     }
     false
-}
-
-// Whether the first of two cells comes before the second.
-fn cell_before(register: &[u8], p: usize, q: usize) -> bool
-    requires { ⌜ (p + 3 ≤ length (now register)) × (q + 3 ≤ length (now register)) × (numberAt 3 p (now register) ≤ 15) × (numberAt 3 q (now register) ≤ 15) ⌝ }
-    ensures { λ r. ⌜ r ≡ ltb (rank (numberAt 3 p (now (register .entry)))) (rank (numberAt 3 q (now (register .entry)))) ⌝ }
-{
-    let x = numbers::three_wide(register, p) as u8;
-    let y = numbers::three_wide(register, q) as u8;
-    cells::rank(x) < cells::rank(y)
 }

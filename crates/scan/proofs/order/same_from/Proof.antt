@@ -9,10 +9,10 @@ use Rattle.scan.specs.Cells.{sameFrom}
 use Rattle.scan.proofs.OrderLaws.{same-none, same-next}
 
 abbrev Inv-loop : tie.InvT-loop
-Inv-loop b p q count same₀ n₀ same n = (n ≤ count) × (same ≡ sameFrom b p q n)
+Inv-loop b p q same₀ n₀ same n = (n ≤ 16) × (same ≡ sameFrom b p q n)
 
 abbrev μ-loop : tie.MeasureT-loop
-μ-loop b p q count same₀ n₀ same n = count - n
+μ-loop b p q same₀ n₀ same n = 16 - n
 
 loop-holds : tie.Need-loop-holds Inv-loop μ-loop
 loop-holds c = (omega arith, same-none _ _ _)
@@ -47,7 +47,7 @@ loop-again c =
 returns : tie.Need-returns Inv-loop μ-loop
 returns c =
     let l = c .before .loop in
-    let e : l .n ≡ c .before .before .before .args .count = omega arith in
+    let e : l .n ≡ 16 = omega arith in
     rw e at (l .inv .1)
 
 pub same-from-spec : {M : Type 1} → statement M

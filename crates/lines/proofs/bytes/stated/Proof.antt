@@ -1,8 +1,8 @@
 -- `stated` meets its contract, by those of its parts.
 use borrow.Author.Needs.{needs}
-use Rattle.counting.proofs.PassLaws.{stated-is}
-use Rattle.counting.proofs.within.stated.Statement.{statement}
-use Rattle.counting.proofs.within.stated.Tie as tie
+use Rattle.lines.proofs.ByteLaws.{stated-is}
+use Rattle.lines.proofs.bytes.stated.Statement.{statement}
+use Rattle.lines.proofs.bytes.stated.Tie as tie
 
 above-requires : tie.Need-above-requires
 above-requires c κs = search needs
