@@ -1,4 +1,5 @@
-// The lines of entries: their length, read, written, put in and taken out. The part of the register from a line's first byte onward is lent.
+// The lines of entries: their length, read, written, put in and taken out. The part of the register from a line's first byte onward
+// is lent.
 use crate::numbers;
 ghost use mathlib.Core.Path.{_≡_};
 ghost use mathlib.Core.List.{_++_};

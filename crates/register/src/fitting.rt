@@ -27,8 +27,8 @@ fn prune_copies(
     prune::prune(m, n, top, lows, highs).number
 }
 
-// How many entries lie within the bounds, once these are pruned: 0 with the count, or 102 with count 0 where no grid within the bounds
-// has allperm. Where a question gets a no: its number with count 0.
+// How many entries lie within the bounds, once these are pruned: 0 with the count, or 102 with count 0 where no grid within the
+// bounds has allperm. Where a question gets a no: its number with count 0.
 pub fn fit(register: &[u8], low: &[u8], high: &[u8]) -> Counted
     ensures { λ r. ⌜ placed (r .number) (r .count) (now (register .entry)) ≡ fitted (now (register .entry)) (now (low .entry)) (now (high .entry)) ⌝ }
 {

@@ -1,4 +1,5 @@
-// Which of two lines comes first: 16 bytes at a time while they agree, then cells, by rank. The lines are given by the places of their first bytes.
+// Which of two lines comes first: 16 bytes at a time while they agree, then cells, by rank. The lines are given by the places of
+// their first bytes.
 use grids::cells;
 use lines::bytes::stated;
 ghost use mathlib.Core.Path.{_≡_};
