@@ -22,8 +22,8 @@ use Rattle.bounds.specs.Bounds.{IsBounds, inBounds}
 use Rattle.layout.specs.Layout.{lineLength, decodeShape, decode}
 use Rattle.layout.specs.Lines.{lineStart, lineAt, EntryLine}
 use Rattle.layout.proofs.LineLaws.{laid-lines, start-zero, next-start, cells-inside}
-use Rattle.machine.specs.Books.{Book}
-use Rattle.machine.proofs.BookLaws.{book-count, book-line, book-sizes, entry-fits}
+use Rattle.machine.specs.Valid.{Valid}
+use Rattle.machine.proofs.ValidLaws.{valid-count, valid-line, valid-sizes, entry-fits}
 use Rattle.counting.specs.Within.{LineOutcome, Ordered, Tables, oneMore}
 use Rattle.counting.proofs.LineLaws.{line-within}
 
@@ -60,7 +60,7 @@ pub record Room (size found from length : ℕ) : Type 0 where
 part-at : (b : List ℕ) (start n k : ℕ) → k < n → getD (take n (drop start b)) k 0 ≡ getD b (start + k) 0
 part-at b start n k h = getD-take n (drop start b) k 0 h ∙ getD-drop start b k 0
 
-entry-line : {size n : ℕ} {b : List ℕ} → Book size n b → (e : ℕ) → e < n → (EntryLine size (decodeShape b .top) (lineAt size b e)) × (decodeShape b .top ≤ 15)
+entry-line : {size n : ℕ} {b : List ℕ} → Valid size n b → (e : ℕ) → e < n → (EntryLine size (decodeShape b .top) (lineAt size b e)) × (decodeShape b .top ≤ 15)
 entry-line {size} {n} {b} k e h =
     let p = laid-lines b .0 (k .laid) in
     (rw (k .sized) (p .1 .lines e (omega (arith, k .counts))), p .0 .limits .grid-limits .top-limit)
@@ -73,10 +73,10 @@ parts-fit size from found b r =
     let y = length-take-le (from + 3 * size - 1 - (from - 1)) (drop (from - 1) b) (omega (arith, r .inside, r .wider, r .after-head, length-drop (from - 1) b)) in
     (omega (arith, x, r .narrow), omega (arith, x, y, r .after-head))
 
-pub bounds-ordered : {n top : ℕ} {b low high : List ℕ} → Book (length low) n b → IsBounds (length low) top low high → Ordered low high
-bounds-ordered k i = record { few = book-sizes k .cells-fit; as-many = sym (i .high-size); in-order = i .in-order }
+pub bounds-ordered : {n top : ℕ} {b low high : List ℕ} → Valid (length low) n b → IsBounds (length low) top low high → Ordered low high
+bounds-ordered k i = record { few = valid-sizes k .cells-fit; as-many = sym (i .high-size); in-order = i .in-order }
 
-module _ {n : ℕ} {b low high : List ℕ} (k : Book (length low) n b) where
+module _ {n : ℕ} {b low high : List ℕ} (k : Valid (length low) n b) where
   pub counting-none : Counting b n low high 0 31 0
   unfolding select
   counting-none = record { passed = omega arith; place = sym (start-zero (length low)); counted = refl }
@@ -84,7 +84,7 @@ module _ {n : ℕ} {b low high : List ℕ} (k : Book (length low) n b) where
   pub counting-room : {found from e : ℕ} → Counting b n low high found from e → e < n → Room (length low) found from (length b)
   unfolding lineStart
   counting-room {found} {from} {e} c h =
-      let z = book-sizes k in
+      let z = valid-sizes k in
       let f = entry-fits k e (lineLength (length low)) h refl in
       record {
         few = omega (arith, c .counted, length-select (inBounds (length low) (decodeShape b .top) low high) (take e (decode b .entries)), length-take e (decode b .entries), z .count-fits, z .capacity-fits);
@@ -107,7 +107,7 @@ module _ {n : ℕ} {b low high : List ℕ} (k : Book (length low) n b) where
   }
     where
       one-more : take e (decode b .entries) ++ (getD (decode b .entries) e [] ∷ []) ≡ take (e + 1) (decode b .entries)
-      one-more = sym (take-suc (decode b .entries) e [] (omega (arith, book-count k))) ∙ ap (λ (j : ℕ). take j (decode b .entries)) (sym (add-one e))
+      one-more = sym (take-suc (decode b .entries) e [] (omega (arith, valid-count k))) ∙ ap (λ (j : ℕ). take j (decode b .entries)) (sym (add-one e))
 
       room : Room (length low) found from (length b)
       room = counting-room c h
@@ -135,10 +135,10 @@ module _ {n : ℕ} {b low high : List ℕ} (k : Book (length low) n b) where
       within : r ≡ inBounds (length low) (decodeShape b .top) low high (getD (decode b .entries) e [])
       within =
           let l = entry-line k e h in
-          line-within line before (l .0) (l .1) same earlier t i r (rw wide at o) ∙ ap (inBounds (length low) (decodeShape b .top) low high) (book-line k e h .1)
+          line-within line before (l .0) (l .1) same earlier t i r (rw wide at o) ∙ ap (inBounds (length low) (decodeShape b .top) low high) (valid-line k e h .1)
 
   pub counting-all : {found from e : ℕ} → Counting b n low high found from e → n ≤ e → found ≡ length (select (inBounds (length low) (decodeShape b .top) low high) (decode b .entries))
   counting-all {found} {from} {e} c h =
-      let z = book-count k in
+      let z = valid-count k in
       let a = take-all e (decode b .entries) (omega arith) in
       rw a at (c .counted)

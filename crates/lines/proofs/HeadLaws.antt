@@ -1,34 +1,43 @@
 -- Line 1 is written.
 --
---   put k o ys    ==  o with ys in place of the six bytes from k on
---   head-written  ==  five fields, written one after another, and a line feed are line 1
+--   field-written  ==  a number written into the part of six bytes from a place on
+--   fill-field     ==  a field more
+--   head-written   ==  five fields, written one after another, and a line feed are line 1
 use mathlib.Core.Path.{_≡_, refl}
 use mathlib.Core.List.{List, _++_, flatten, append-assoc, append-nil}
-use Prim.Native.Nat.{ℕ}
+use Prim.Native.Nat.{ℕ, _+_, _-_, _≤_}
 use native.Mathlib.Omega.{arith}
-use lib.ListN.{length, take, drop, set}
+use lib.ListN.{length, take, drop, set, length-drop}
+use lib.Seq.{drop-at, length-take-le}
 use Rattle.layout.specs.Decimal.{field}
 use Rattle.layout.specs.Layout.{Shape, fields, headLine}
+use Rattle.lines.specs.Head.{withField}
 use Rattle.lines.proofs.FillLaws.{Filled, fill-none, fill, fill-part, filled-whole}
 
-abbrev pub put : ℕ → List ℕ → List ℕ → List ℕ
-put k o ys = take k o ++ (ys ++ drop 6 (drop k o))
+six : (at : ℕ) → at + 6 - at ≡ 6
+six at = omega arith
 
-abbrev Field : ℕ → List ℕ → List ℕ → ℕ → Type 0
-Field k o ys x = ys ≡ field (length (take 6 (drop k o))) x
+six-long : (b : List ℕ) (at : ℕ) → at + 6 ≤ length b → length (take 6 (drop at b)) ≡ 6
+six-long b at h = length-take-le 6 (drop at b) (omega (arith, length-drop at b))
 
-pub head-written : (l : List ℕ) {p q r s t : List ℕ} (h : Shape) (n : ℕ) → length l ≡ 31 →
-    Field 0 l p (h .rows) →
-    Field 6 (put 0 l p) q (h .columns) →
-    Field 12 (put 6 (put 0 l p) q) r (h .top) →
-    Field 18 (put 12 (put 6 (put 0 l p) q) r) s (h .capacity) →
-    Field 24 (put 18 (put 12 (put 6 (put 0 l p) q) r) s) t n →
-    set (put 24 (put 18 (put 12 (put 6 (put 0 l p) q) r) s) t) 30 10 ≡ headLine h n
+pub field-written : (b ys : List ℕ) (at x : ℕ) → at + 6 ≤ length b → ys ≡ field (length (take (at + 6 - at) (drop at b))) x → take at b ++ (ys ++ drop (at + 6 - at) (drop at b)) ≡ withField at x b
+unfolding withField
+field-written b ys at x h e = rw (e, six at, six-long b at h) refl
+
+fill-field : {p l : List ℕ} {k : ℕ} {o : List ℕ} (x : ℕ) → Filled p l k o → k + 6 ≤ length l → Filled (p ++ field 6 x) l (k + 6) (withField k x o)
+unfolding withField
+fill-field {p} {l} {k} {o} x f h =
+    let d : drop k o ≡ drop k l = rw (f .bytes) (drop-at p (drop k l) k (f .front)) in
+    let y : field 6 x ≡ field (length (take (k + 6 - k) (drop k o))) x = rw (six k, d, six-long l k h) refl in
+    rw (six k) at (fill-part (p ++ field 6 x) (k + 6) x (field 6 x) f (omega arith) h y (rw (six k) refl))
+
+pub head-written : (l : List ℕ) {o p q r s : List ℕ} (h : Shape) (n : ℕ) → length l ≡ 31 → o ≡ withField 0 (h .rows) l → p ≡ withField 6 (h .columns) o → q ≡ withField 12 (h .top) p →
+    r ≡ withField 18 (h .capacity) q → s ≡ withField 24 n r → set s 30 10 ≡ headLine h n
 unfolding headLine fields flatten
-head-written l {p} {q} {r} {s} {t} h n z a b c d e =
-    let f : Filled (field 6 (h .rows)) l 6 (put 0 l p) = fill-part _ 6 (h .rows) p (fill-none l) (omega arith) (omega arith) a refl in
-    let g : Filled (field 6 (h .rows) ++ field 6 (h .columns)) l 12 (put 6 (put 0 l p) q) = fill-part _ 12 (h .columns) q f (omega arith) (omega arith) b refl in
-    let i : Filled ((field 6 (h .rows) ++ field 6 (h .columns)) ++ field 6 (h .top)) l 18 (put 12 (put 6 (put 0 l p) q) r) = fill-part _ 18 (h .top) r g (omega arith) (omega arith) c refl in
-    let j = fill-part _ 24 (h .capacity) s i (omega arith) (omega arith) d refl in
-    let k = fill-part _ 30 n t j (omega arith) (omega arith) e refl in
-    filled-whole _ (fill _ 10 k (omega arith) refl) (simp (append-assoc, append-nil)) (omega arith)
+head-written l h n z a b c d e =
+    let f = fill-field (h .rows) (fill-none l) (omega arith) in
+    let g = fill-field (h .columns) f (omega arith) in
+    let i = fill-field (h .top) g (omega arith) in
+    let j = fill-field (h .capacity) i (omega arith) in
+    let k = fill-field n j (omega arith) in
+    rw (e, d, c, b, a) (filled-whole _ (fill _ 10 k (omega arith) refl) (simp (append-assoc, append-nil)) (omega arith))

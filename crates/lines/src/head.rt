@@ -1,10 +1,10 @@
 // Line 1 of a register.
 use crate::numbers;
 ghost use mathlib.Core.Path.{_≡_};
-ghost use Prim.Native.Nat.{_≤_};
+ghost use Prim.Native.Nat.{_+_, _≤_};
 ghost use lib.ListN.{length};
 ghost use Rattle.layout.specs.Layout.{headLength, headLine};
-ghost use Rattle.lines.specs.Head.{shapeOf, States};
+ghost use Rattle.lines.specs.Head.{shapeOf, States, withField};
 
 // The numbers of line 1.
 pub struct Head {
@@ -29,15 +29,24 @@ pub fn read_head(register: &[u8]) -> Head
     }
 }
 
+// Writes a number into the six bytes from a place on.
+fn write_field(out: &mut [u8], at: usize, number: usize)
+    requires { ⌜ at + 6 ≤ length (now out) ⌝ }
+    ensures { λ _. ⌜ now (out .exit) ≡ withField at number (now (out .entry)) ⌝ }
+{
+    let end = at + 6;
+    numbers::write_number(&mut out[at..end], number);
+}
+
 // Writes line 1 over all of a slice of its length.
 pub fn write_head(out: &mut [u8], head: Head)
     requires { ⌜ length (now out) ≡ headLength ⌝ }
     ensures { λ _. ⌜ now (out .exit) ≡ headLine (shapeOf head) (head .count) ⌝ }
 {
-    numbers::write_number(&mut out[0..6], head.rows);
-    numbers::write_number(&mut out[6..12], head.columns);
-    numbers::write_number(&mut out[12..18], head.top);
-    numbers::write_number(&mut out[18..24], head.capacity);
-    numbers::write_number(&mut out[24..30], head.count);
+    write_field(out, 0, head.rows);
+    write_field(out, 6, head.columns);
+    write_field(out, 12, head.top);
+    write_field(out, 18, head.capacity);
+    write_field(out, 24, head.count);
     out[30] = 10;
 }

@@ -31,7 +31,7 @@ use Rattle.bounds.proofs.PruneLaws.{pruned-refused, pruned-some, pruned-none}
 use Rattle.layout.specs.Layout.{Shape, Register, cells, decodeShape, decode, laidOut}
 use Rattle.layout.proofs.LineLaws.{laid-lines}
 use Rattle.machine.specs.Calls.{Outcome, refusal, answered, question5, fitQuestions, fitPruned, fitRegister, fitted}
-use Rattle.machine.specs.Books.{placed, PrunesCopies}
+use Rattle.machine.specs.Valid.{placed, PrunesCopies}
 use Rattle.machine.proofs.RefusalLaws.{fitted-refused}
 
 pub prune-asked : (m n top : ℕ) (low high : List ℕ) → Limits m n top → firstNo (pruneQuestions m n top low high) ≡ firstNo (boundsQuestions (m * n) top low high)

@@ -11,8 +11,7 @@ use mathlib.Core.List.{List, [], _∷_, _++_}
 use mathlib.Core.Bool.{Bool, true, false, _&&_, _||_}
 use mathlib.Core.Logic.{_⊎_, inl, inr}
 use Prim.Native.Nat.{ℕ, zero, suc, _≤_, _<_}
-use native.Mathlib.Nat.{not-suc-le-zero}
-use native.Mathlib.Decide.{decLt}
+use native.Mathlib.Decide.{decLt, ℕ-discrete}
 use native.Mathlib.Omega.{arith}
 use lib.ListN.{length, getD, take, drop}
 use lib.Dec.{T, ltb}
@@ -21,27 +20,25 @@ use Rattle.permutations.proofs.BoolLaws.{yes-or-no}
 use Rattle.grids.specs.Order.{equal}
 use Rattle.grids.specs.Questions.{Question, firstNo, question6, question7}
 use Rattle.grids.proofs.OrderLaws.{equal-eq, eq-equal}
-use Rattle.grids.proofs.QuestionLaws.{Numbered, firstNo-pass, firstNo-stop}
+use Rattle.grids.proofs.QuestionLaws.{Numbered, first-no-stays, first-no-next}
 use Rattle.layout.specs.Layout.{Register, layout, decode, Ascends}
 use Rattle.machine.specs.Calls.{Outcome, refusal, answered, question5, gridQuestions, question9, question10, holds, placeIn, insert, without, leastIn, enterInto, strikeFrom, enterQuestions, strikeQuestions, enterRegister, strikeRegister, entered, struck}
 use Rattle.machine.specs.Places.{Lower}
-use Rattle.machine.specs.Books.{placed, asked, enteredLeast, struckLeast}
+use Rattle.machine.specs.Valid.{placed, asked, enteredLeast, struckLeast}
 use Rattle.machine.proofs.PlaceLaws.{place-lower, insert-lower, holds-lower, holds-not-end, holds-not-there, without-lower}
 
-pub answered-refusal : (k : ℕ) (b : List ℕ) (o : Outcome) → 0 < k → answered k b o ≡ refusal k b
+pub answered-refusal : (k : ℕ) (b : List ℕ) (o : Outcome) → (k ≡ 0 → ⊥) → answered k b o ≡ refusal k b
 unfolding answered
-answered-refusal zero b o h = absurd (not-suc-le-zero h)
+answered-refusal zero b o h = absurd (h refl)
 answered-refusal (suc k) b o h = refl
 
 pub answered-append : (l k : List Question) (b : List ℕ) (o : Outcome) → Numbered l → answered (firstNo (l ++ k)) b o ≡ answered (firstNo l) b (answered (firstNo k) b o)
-unfolding firstNo answered
-answered-append [] k b o h = refl
-answered-append (q ∷ l) k b o h = go (yes-or-no (q .answer)) (answered-append l k b o (h .1))
+unfolding answered
+answered-append l k b o h = go (ℕ-discrete (firstNo l) 0)
   where
-    go : (q .answer ≡ true) ⊎ (q .answer ≡ false) → answered (firstNo (l ++ k)) b o ≡ answered (firstNo l) b (answered (firstNo k) b o)
-        → answered (firstNo (q ∷ (l ++ k))) b o ≡ answered (firstNo (q ∷ l)) b (answered (firstNo k) b o)
-    go (inl e) ih = rw (firstNo-pass q (l ++ k) e, firstNo-pass q l e) ih
-    go (inr e) ih = rw (firstNo-stop q (l ++ k) e, firstNo-stop q l e, answered-refusal (q .number) b o (h .0), answered-refusal (q .number) b (answered (firstNo k) b o) (h .0)) refl
+    go : Dec (firstNo l ≡ 0) → answered (firstNo (l ++ k)) b o ≡ answered (firstNo l) b (answered (firstNo k) b o)
+    go (yes z) = rw (first-no-next l k h z, z) refl
+    go (no n) = rw (first-no-stays l k n, answered-refusal (firstNo l) b o n, answered-refusal (firstNo l) b (answered (firstNo k) b o) n) refl
 
 pub entered-asked : (b g : List ℕ) → entered b g ≡ answered (asked b g) b (enteredLeast b (leastIn (decode b .shape) g))
 unfolding entered enterRegister enterQuestions gridQuestions asked enteredLeast question5 question6 question7

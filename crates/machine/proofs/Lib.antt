@@ -2,10 +2,10 @@ pub mod AskedLaws
 pub mod RefusalLaws
 pub mod SortedLaws
 pub mod PlaceLaws
-pub mod BookLaws
+pub mod ValidLaws
 pub mod LeastSteps
-pub mod BookMoves
-pub mod BookSteps
+pub mod ValidMoves
+pub mod ValidSteps
 pub mod FitSteps
 pub mod CallLaws
 pub mod CallListLaws

@@ -1,6 +1,6 @@
 pub mod Calls
 pub mod Places
-pub mod Books
+pub mod Valid
 pub mod CallLists
 pub mod FitSlices
 pub mod Machine

@@ -15,7 +15,7 @@ ghost use Rattle.canonical.specs.Same.{Compared};
 ghost use Rattle.bounds.specs.Prune.{outcome};
 ghost use Rattle.bounds.specs.Demand2.{Prunes};
 ghost use Rattle.machine.specs.Calls.{opened, entered, struck, fitted};
-ghost use Rattle.machine.specs.Books.{placed, shape};
+ghost use Rattle.machine.specs.Valid.{placed, shape};
 ghost use Rattle.plan_register.specs.Exported.{Exported};
 
 // The number, the row order and the column order.

@@ -3,11 +3,11 @@
 --   laid-yes          ==  question 5 got a yes
 --   laid-head         ==  a register is longer than line 1
 --   head-rows, head-columns, head-top, head-capacity  ==  line 1 as the code holds it
---   head-limits, head-size, head-book  ==  its numbers are within the limits, and the register has them
+--   head-limits, head-size, head-valid  ==  its numbers are within the limits, and the register has them
 --   asked-no          ==  question 5 gets a no
 --   represent-asked   ==  of a register's numbers, and a slice of the right length, represent asks questions 6 and 7
 --   asked-yes         ==  question 5 gets a yes: what represent answers is the first no, and what it writes the least grid
---   asked-fits, asked-book  ==  what is known where each got a yes
+--   asked-fits, asked-valid  ==  what is known where each got a yes
 --   call-refused, call-least  ==  a call that asks these first, and then goes by the least grid
 use mathlib.Core.Path.{_≡_, refl, sym, ap, ap₂, _∙_}
 use mathlib.Core.List.{List, [], _∷_, _++_}
@@ -29,9 +29,9 @@ use Rattle.layout.proofs.LineLaws.{laid-lines}
 use Rattle.lines.specs.declared.head.Head.{Head}
 use Rattle.lines.specs.Head.{States}
 use Rattle.machine.specs.Calls.{Outcome, answered, question5, gridQuestions, leastIn}
-use Rattle.machine.specs.Books.{placed, Book, asked}
+use Rattle.machine.specs.Valid.{placed, Valid, asked}
 use Rattle.machine.proofs.LeastSteps.{answered-refusal}
-use Rattle.machine.proofs.BookLaws.{book-sizes}
+use Rattle.machine.proofs.ValidLaws.{valid-sizes}
 use Rattle.register.specs.declared.asking.Asked.{Asked}
 use Rattle.register.specs.Asked.{Asks}
 use Rattle.register.proofs.PlaceSteps.{part-length}
@@ -48,7 +48,7 @@ unfolding asked question5
 asked-no {b} {g} out l n = record {
   number-is = n ∙ sym (firstNo-stop (question5 b) (gridQuestions (decode b .shape) g) out);
   kept = l;
-  book = λ z. absurd (omega (arith, n, z));
+  valid = λ z. absurd (omega (arith, n, z));
   capacity-is = λ z. absurd (omega (arith, n, z));
   least-is = λ z. absurd (omega (arith, n, z));
 }
@@ -76,8 +76,8 @@ module _ {b : List ℕ} {h : Head} (laid : laidOut b ≡ true) (st : States b h)
   pub head-size : h .rows * h .columns ≤ 128
   head-size = size-fits (h .rows) (h .columns) (head-limits .rows-limits .1) (head-limits .column-limits .1)
 
-  pub head-book : Book (h .rows * h .columns) (h .count) b
-  head-book = record { laid = laid; sized = ap₂ _*_ head-rows head-columns; counts = st .counts }
+  pub head-valid : Valid (h .rows * h .columns) (h .count) b
+  head-valid = record { laid = laid; sized = ap₂ _*_ head-rows head-columns; counts = st .counts }
 
   grid-asked : (g : List ℕ) → firstNo (question6 (h .rows * h .columns) (g ∷ []) ∷ question7 (h .top) (g ∷ []) ∷ []) ≡ asked b g
   unfolding asked gridQuestions decode question5
@@ -92,7 +92,7 @@ module _ {b : List ℕ} {h : Head} (laid : laidOut b ≡ true) (st : States b h)
       record {
         number-is = r .number-is ∙ represent-asked (h .rows) (h .columns) (h .top) g _ head-limits z ∙ grid-asked g;
         kept = same-len-mid 0 (h .rows * h .columns - 0) out ys k ∙ l;
-        book = λ _. head-book;
+        valid = λ _. head-valid;
         capacity-is = λ _. head-capacity;
         least-is = λ e. take-at ys _ (h .rows * h .columns) (k ∙ z) ∙ r .written e ∙ ap₂ (λ (m n : ℕ). least m n g) head-rows head-columns;
       }
@@ -103,18 +103,15 @@ module _ {b g out : List ℕ} {r : Asked} (k : Asks b g out r) where
   whole = omega arith
 
   pub asked-fits : r .number ≡ 0 → r .size ≤ length out
-  asked-fits z = omega (arith, k .kept, book-sizes (k .book z) .cells-fit)
+  asked-fits z = omega (arith, k .kept, valid-sizes (k .valid z) .cells-fit)
 
-  pub asked-book : r .number ≡ 0 → Book (length (take (r .size - 0) out)) (r .count) b
-  asked-book z = rw (part-length out (r .size) (asked-fits z)) (k .book z)
+  pub asked-valid : r .number ≡ 0 → Valid (length (take (r .size - 0) out)) (r .count) b
+  asked-valid z = rw (part-length out (r .size) (asked-fits z)) (k .valid z)
 
   module _ (f : List ℕ → Outcome) {x : Outcome} (e : x ≡ answered (asked b g) b (f (leastIn (decode b .shape) g))) where
     pub call-refused : (r .number ≡ 0 → ⊥) → {number place : ℕ} → number ≡ r .number → place ≡ 0 → placed number place b ≡ x
     call-refused n {number} {place} p q =
-        ap₂ (λ (i j : ℕ). placed i j b) (p ∙ k .number-is) q ∙ sym (e ∙ answered-refusal (asked b g) b _ (above-zero (asked b g) (λ z. n (k .number-is ∙ z))))
-      where
-        above-zero : (i : ℕ) → (i ≡ 0 → ⊥) → 0 < i
-        above-zero i h = omega arith
+        ap₂ (λ (i j : ℕ). placed i j b) (p ∙ k .number-is) q ∙ sym (e ∙ answered-refusal (asked b g) b _ (λ z. n (k .number-is ∙ z)))
 
     pub call-least : r .number ≡ 0 → {o : Outcome} → o ≡ f (take (r .size - 0) out) → o ≡ x
     unfolding answered

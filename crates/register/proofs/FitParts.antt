@@ -19,14 +19,14 @@ use Rattle.layout.specs.Layout.{Shape, cells, decodeShape, decode, laidOut}
 use Rattle.lines.specs.declared.head.Head.{Head}
 use Rattle.lines.specs.Head.{shapeOf, States}
 use Rattle.machine.specs.Calls.{fitted}
-use Rattle.machine.specs.Books.{placed, Book, PrunesCopies}
-use Rattle.machine.proofs.BookLaws.{book-count, book-sizes}
+use Rattle.machine.specs.Valid.{placed, Valid, PrunesCopies}
+use Rattle.machine.proofs.ValidLaws.{valid-count, valid-sizes}
 use Rattle.machine.proofs.FitSteps.{fit-lengths, fit-none, fit-bounds, fit-counts, pruned-sizes}
-use Rattle.register.proofs.AskSteps.{head-size, head-book}
+use Rattle.register.proofs.AskSteps.{head-size, head-valid}
 use Rattle.register.proofs.PlaceSteps.{part-length}
 
-pub count-small : {size n : ℕ} {b : List ℕ} → Book size n b → (t : List ℕ → Bool) {r : ℕ} → r ≡ length (select t (decode b .entries)) → r ≤ 500
-count-small {b = b} k t e = let z = book-sizes k in omega (arith, e, length-select t (decode b .entries), book-count k, z .count-fits, z .capacity-fits)
+pub count-small : {size n : ℕ} {b : List ℕ} → Valid size n b → (t : List ℕ → Bool) {r : ℕ} → r ≡ length (select t (decode b .entries)) → r ≤ 500
+count-small {b = b} k t e = let z = valid-sizes k in omega (arith, e, length-select t (decode b .entries), valid-count k, z .count-fits, z .capacity-fits)
 
 -- the copies of the bounds are the first elements of arrays z, put back as x after a call
 module _ {b : List ℕ} {h : Head} (laid : laidOut b ≡ true) (st : States b h) (z x x′ : List ℕ) (wide : 128 ≤ length z) (kept : length x ≡ length (take (h .rows * h .columns - 0) z)) where
@@ -42,7 +42,7 @@ module _ {b : List ℕ} {h : Head} (laid : laidOut b ≡ true) (st : States b h)
 module _ {b : List ℕ} {h : Head} (laid : laidOut b ≡ true) (st : States b h) (low high : List ℕ) where
   sized : cells (decode b .shape) ≡ h .rows * h .columns
   unfolding decode
-  sized = sym (head-book laid st .sized)
+  sized = sym (head-valid laid st .sized)
 
   pub lengths-differ : ((length low ≡ h .rows * h .columns) × (length high ≡ h .rows * h .columns) → ⊥) → placed 6 0 b ≡ fitted b low high
   lengths-differ d = fit-lengths b low high laid (λ q. d (q .0 ∙ sized, q .1 ∙ sized))
@@ -52,8 +52,8 @@ module _ {b : List ℕ} {h : Head} (laid : laidOut b ≡ true) (st : States b h)
     fit-refused n = fit-none b low high laid (st .shape) p n
 
     module _ (z : number ≡ 0) {x y : List ℕ} (d : x ≡ lows) (e : y ≡ highs) where
-      pub fit-ready : Book (length x) (h .count) b × IsBounds (length x) (decodeShape b .top) x y
-      fit-ready = rw (d, e) (rw (pruned-sizes (h .rows) (h .columns) (h .top) low high p z) (head-book laid st), fit-bounds b low high laid (st .shape) p z)
+      pub fit-ready : Valid (length x) (h .count) b × IsBounds (length x) (decodeShape b .top) x y
+      fit-ready = rw (d, e) (rw (pruned-sizes (h .rows) (h .columns) (h .top) low high p z) (head-valid laid st), fit-bounds b low high laid (st .shape) p z)
 
       pub fit-placed : {r : ℕ} → r ≡ length (select (inBounds (length x) (decodeShape b .top) x y) (decode b .entries)) → placed 0 r b ≡ fitted b low high
       fit-placed q = fit-counts b low high laid (st .shape) p z (rw (d, e) at q)

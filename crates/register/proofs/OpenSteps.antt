@@ -28,10 +28,10 @@ use Rattle.layout.specs.Lines.{lineStart}
 use Rattle.layout.proofs.LineLaws.{line-short}
 use Rattle.layout.proofs.MoveLaws.{Opened, opened-head-part, opened-next, opened-all}
 use Rattle.machine.specs.Calls.{Outcome, answered, question4, openQuestions, opened}
-use Rattle.machine.specs.Books.{placed, shape, openNo}
+use Rattle.machine.specs.Valid.{placed, shape, openNo}
 use Rattle.machine.proofs.AskedLaws.{open-pass}
 use Rattle.machine.proofs.LeastSteps.{answered-refusal}
-use Rattle.machine.proofs.BookMoves.{Room, lines-fit, tail-part, put-tail}
+use Rattle.machine.proofs.ValidMoves.{Room, lines-fit, tail-part, put-tail}
 
 module _ (m n top capacity x : ℕ) where
   -- question 6 of a length
@@ -85,10 +85,7 @@ module _ (s : Shape) (b : List ℕ) {k : ℕ} (e : k ≡ openNo s (length b)) wh
   unfolding opened
   opened-no n p q =
       ap₂ (λ (i j : ℕ). placed i j b) (p ∙ e ∙ open-asked s b) q
-      ∙ sym (answered-refusal (firstNo (openQuestions s b)) b _ (above-zero (firstNo (openQuestions s b)) (λ z. n (e ∙ open-asked s b ∙ z))))
-    where
-      above-zero : (i : ℕ) → (i ≡ 0 → ⊥) → 0 < i
-      above-zero i h = omega arith
+      ∙ sym (answered-refusal (firstNo (openQuestions s b)) b _ (λ z. n (e ∙ open-asked s b ∙ z)))
 
   pub opened-passes : k ≡ 0 → InLimits s × (length b ≡ layoutLength s)
   opened-passes z = open-pass s b .0 (sym (e ∙ open-asked s b) ∙ z)

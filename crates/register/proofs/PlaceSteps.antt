@@ -26,18 +26,18 @@ use Rattle.layout.specs.Layout.{lineLength, decode, Ascends}
 use Rattle.layout.specs.Lines.{lineAt, cellsOf, EntryLine}
 use Rattle.layout.proofs.LineLaws.{length-cells}
 use Rattle.machine.specs.Places.{Between}
-use Rattle.machine.specs.Books.{Book}
+use Rattle.machine.specs.Valid.{Valid}
 use Rattle.machine.proofs.PlaceLaws.{between-low, between-high}
-use Rattle.machine.proofs.BookLaws.{book-line, book-sizes, entry-part}
+use Rattle.machine.proofs.ValidLaws.{valid-line, valid-sizes, entry-part}
 use Rattle.register.specs.declared.places.Span.{Span}
 use Rattle.register.specs.Spans.{Halved}
 
 pub part-length : (z : List ℕ) (k : ℕ) → k ≤ length z → length (take (k - 0) z) ≡ k
 part-length z k h = let e : k - 0 ≡ k = omega arith in rw e (length-take-le k z h)
 
-module _ {size n : ℕ} {b : List ℕ} (k : Book size n b) (e w : ℕ) (h : e < n) (q : w ≡ lineLength size) where
+module _ {size n : ℕ} {b : List ℕ} (k : Valid size n b) (e w : ℕ) (h : e < n) (q : w ≡ lineLength size) where
   pub entry-line : (z : List ℕ) → 128 ≤ length z → (length (take (size - 0) z) ≤ 128) × EntryLine (length (take (size - 0) z)) 15 (take (31 + e * w + w - (31 + e * w)) (drop (31 + e * w) b))
-  entry-line z l = let s = book-sizes k .cells-fit in rw (part-length z size (omega arith), entry-part k e w q) (s, book-line k e h .0)
+  entry-line z l = let s = valid-sizes k .cells-fit in rw (part-length z size (omega arith), entry-part k e w q) (s, valid-line k e h .0)
 
   pub entry-length : (x : List ℕ) {j : ℕ} → j ≡ size → x ≡ cellsOf j (take (31 + e * w + w - (31 + e * w)) (drop (31 + e * w) b)) → length x ≡ size
   entry-length x {j} i p = ap length p ∙ length-cells j _ ∙ i
@@ -46,7 +46,7 @@ module _ {size n : ℕ} {b : List ℕ} (k : Book size n b) (e w : ℕ) (h : e < 
       c ≡ compared (take (size - 0) (x ++ x′)) g → c ≡ compared (getD (decode b .entries) e []) g
   entry-compared x x′ g {j} i p d =
       let y : x ≡ cellsOf size (lineAt size b e) = rw (i, entry-part k e w q) at p in
-      d ∙ ap (λ (l : List ℕ). compared l g) (part-is x x′ size (entry-length x i p) ∙ y ∙ book-line k e h .1)
+      d ∙ ap (λ (l : List ℕ). compared l g) (part-is x x′ size (entry-length x i p) ∙ y ∙ valid-line k e h .1)
 
 pub past-entry : (e n : ℕ) (t : Bool) → n ≤ e → false ≡ (ltb e n && t)
 past-entry e n t h = rw (le-ltb e n h) refl

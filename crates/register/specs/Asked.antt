@@ -7,12 +7,12 @@ use Prim.Native.Nat.{ℕ}
 use lib.ListN.{length, take}
 use Rattle.layout.specs.Layout.{decodeShape, decode}
 use Rattle.machine.specs.Calls.{leastIn}
-use Rattle.machine.specs.Books.{Book, asked}
+use Rattle.machine.specs.Valid.{Valid, asked}
 use Rattle.register.specs.declared.asking.Asked.{Asked}
 
 pub record Asks (b g least : List ℕ) (r : Asked) : Type 0 where
   pub number-is : r .number ≡ asked b g
   pub kept : length least ≡ 128
-  pub book : r .number ≡ 0 → Book (r .size) (r .count) b
+  pub valid : r .number ≡ 0 → Valid (r .size) (r .count) b
   pub capacity-is : r .number ≡ 0 → r .capacity ≡ decodeShape b .capacity
   pub least-is : r .number ≡ 0 → take (r .size) least ≡ leastIn (decode b .shape) g

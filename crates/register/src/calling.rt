@@ -6,7 +6,7 @@ use crate::striking;
 ghost use mathlib.Core.Path.{_≡_};
 ghost use Rattle.machine.specs.Calls.{fitted};
 ghost use Rattle.machine.specs.CallLists.{registerCalls, called};
-ghost use Rattle.machine.specs.Books.{placed};
+ghost use Rattle.machine.specs.Valid.{placed};
 ghost use Rattle.register.specs.Commands.{callOf};
 
 // Which call is made.

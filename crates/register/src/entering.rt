@@ -9,11 +9,11 @@ ghost use mathlib.Core.Path.{_≡_};
 ghost use lib.ListN.{length};
 ghost use Rattle.layout.specs.Layout.{decodeShape};
 ghost use Rattle.machine.specs.Calls.{entered};
-ghost use Rattle.machine.specs.Books.{placed, Book, enteredLeast};
+ghost use Rattle.machine.specs.Valid.{placed, Valid, enteredLeast};
 
 // Enters a grid that is least in its class into a register that is laid out.
 fn enter_least(register: &mut [u8], capacity: usize, count: usize, least: &[u8]) -> Placed
-    requires { ⌜ Book (length (now least)) count (now register) × (capacity ≡ decodeShape (now register) .capacity) ⌝ }
+    requires { ⌜ Valid (length (now least)) count (now register) × (capacity ≡ decodeShape (now register) .capacity) ⌝ }
     ensures { λ r. ⌜ placed (r .number) (r .place) (now (register .exit)) ≡ enteredLeast (now (register .entry)) (now (least .entry)) ⌝ }
 {
     let place = places::lower_bound(register, count, least);

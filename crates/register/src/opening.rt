@@ -10,7 +10,7 @@ ghost use mathlib.Core.List.{[]};
 ghost use lib.ListN.{length};
 ghost use Rattle.layout.specs.Layout.{layout, layoutLength, InLimits};
 ghost use Rattle.machine.specs.Calls.{opened};
-ghost use Rattle.machine.specs.Books.{placed, openNo, shape};
+ghost use Rattle.machine.specs.Valid.{placed, openNo, shape};
 
 // Questions 1, 2, 3, 4 and 6 of open: the number of the first that gets a no, or 0.
 fn open_no(m: usize, n: usize, top: usize, capacity: usize, length: usize) -> u32

@@ -8,11 +8,11 @@ use lines::numbers;
 ghost use mathlib.Core.Path.{_≡_};
 ghost use lib.ListN.{length};
 ghost use Rattle.machine.specs.Calls.{struck};
-ghost use Rattle.machine.specs.Books.{placed, Book, struckLeast};
+ghost use Rattle.machine.specs.Valid.{placed, Valid, struckLeast};
 
 // Strikes a grid that is least in its class from a register that is laid out.
 fn strike_least(register: &mut [u8], count: usize, least: &[u8]) -> Placed
-    requires { ⌜ Book (length (now least)) count (now register) ⌝ }
+    requires { ⌜ Valid (length (now least)) count (now register) ⌝ }
     ensures { λ r. ⌜ placed (r .number) (r .place) (now (register .exit)) ≡ struckLeast (now (register .entry)) (now (least .entry)) ⌝ }
 {
     let place = places::lower_bound(register, count, least);

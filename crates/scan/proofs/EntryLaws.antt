@@ -1,6 +1,5 @@
 -- Laws of the scan of the lines: the ways out of each function.
 --
---   through                      ==  one equivalence after another
 --   cells-none, cells-agreed     ==  no cell is laid out; those are that agree with cells that are
 --   line-none, line-decides      ==  a line without its line feed, and with it, whose first cells are laid out
 --   next-not, next-decides       ==  a line that is not laid out, and one that is, compared
@@ -27,9 +26,6 @@ use Rattle.scan.proofs.OrderLaws.{same-byte}
 
 never : {A : Type 0} → (A → ⊥) → (false ≡ true) ↔ A
 never f = (λ e. absurd (true≢false (sym e)), λ a. absurd (f a))
-
-pub through : {A B C : Type 0} → A ↔ B → B ↔ C → A ↔ C
-through f g = (λ a. g .0 (f .0 a), λ c. f .1 (g .1 c))
 
 -- ---- one line
 

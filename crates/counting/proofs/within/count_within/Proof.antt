@@ -4,7 +4,7 @@ use mathlib.Core.Path.{refl}
 use Prim.Native.Nat.{_-_}
 use native.Mathlib.Omega.{arith}
 use borrow.Author.Needs.{needs}
-use Rattle.machine.proofs.BookLaws.{book-sizes}
+use Rattle.machine.proofs.ValidLaws.{valid-sizes}
 use Rattle.counting.proofs.CountLaws.{Counting, parts-fit, bounds-ordered, counting-none, counting-room, counting-next, counting-all}
 use Rattle.counting.proofs.within.count_within.Statement.{statement}
 use Rattle.counting.proofs.within.count_within.Tie as tie
@@ -16,10 +16,10 @@ abbrev μ-loop : tie.MeasureT-loop
 μ-loop register count low high width length lows spans found₀ from₀ e₀ found from e = count - e
 
 mul-width : tie.Need-mul-width Inv-loop μ-loop
-mul-width c = omega (arith, book-sizes (c .before .before .before .pre .0) .cells-fit)
+mul-width c = omega (arith, valid-sizes (c .before .before .before .pre .0) .cells-fit)
 
 line-length-requires : tie.Need-line-length-requires Inv-loop μ-loop
-line-length-requires c κs = book-sizes (c .before .before .before .pre .0) .cells-fit
+line-length-requires c κs = valid-sizes (c .before .before .before .pre .0) .cells-fit
 
 fill-tables-requires : tie.Need-fill-tables-requires Inv-loop μ-loop
 fill-tables-requires c κs = let p = c .before .before .before .before .before .before .pre in (refl, refl, bounds-ordered (p .0) (p .1))
@@ -64,7 +64,7 @@ add-from : tie.Need-add-from Inv-loop μ-loop
 add-from c = omega (arith, (counting-room (c .before .before .before .before .before .before .before .before .before .before .before .before .before .before .before .pre .0) (c .before .before .before .before .before .before .before .loop .inv) (omega arith)) .small)
 
 add-e : tie.Need-add-e Inv-loop μ-loop
-add-e c = omega (arith, book-sizes (c .before .before .before .before .before .before .before .before .before .before .before .before .before .before .before .pre .0) .count-fits, book-sizes (c .before .before .before .before .before .before .before .before .before .before .before .before .before .before .before .pre .0) .capacity-fits)
+add-e c = omega (arith, valid-sizes (c .before .before .before .before .before .before .before .before .before .before .before .before .before .before .before .pre .0) .count-fits, valid-sizes (c .before .before .before .before .before .before .before .before .before .before .before .before .before .before .before .pre .0) .capacity-fits)
 
 loop-less : tie.Need-loop-less Inv-loop μ-loop
 loop-less c = omega arith

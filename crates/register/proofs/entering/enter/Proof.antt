@@ -1,8 +1,8 @@
 -- `enter` meets its contract: a refusal of questions 5, 6 and 7, or what entering the least grid gives.
 use borrow.Author.Needs.{needs}
-use Rattle.machine.specs.Books.{enteredLeast}
+use Rattle.machine.specs.Valid.{enteredLeast}
 use Rattle.machine.proofs.LeastSteps.{entered-asked}
-use Rattle.register.proofs.AskSteps.{asked-fits, asked-book, call-refused, call-least}
+use Rattle.register.proofs.AskSteps.{asked-fits, asked-valid, call-refused, call-least}
 use Rattle.register.proofs.entering.enter.Statement.{statement}
 use Rattle.register.proofs.entering.enter.Tie as tie
 
@@ -39,7 +39,7 @@ enter-least-requires : tie.Need-enter-least-requires
 enter-least-requires c κs =
     let k = c .before .before .before .before .before .before .ask in
     let z = c .before .before .before .if1 .left in
-    (asked-book (k .ensures) z, k .ensures .capacity-is z)
+    (asked-valid (k .ensures) z, k .ensures .capacity-is z)
 
 same-length-2 : tie.Need-same-length-2
 same-length-2 c = search needs

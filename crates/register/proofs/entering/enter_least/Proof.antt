@@ -2,9 +2,9 @@
 use mathlib.Core.Path.{sym}
 use native.Mathlib.Omega.{arith}
 use borrow.Author.Needs.{needs}
-use Rattle.machine.proofs.BookLaws.{book-sizes}
-use Rattle.machine.proofs.BookMoves.{put-fits, room-part, count-part}
-use Rattle.machine.proofs.BookSteps.{enter-room, place-small, enter-held, enter-full, enter-new}
+use Rattle.machine.proofs.ValidLaws.{valid-sizes}
+use Rattle.machine.proofs.ValidMoves.{put-fits, room-part, count-part}
+use Rattle.machine.proofs.ValidSteps.{enter-room, place-small, enter-held, enter-full, enter-new}
 use Rattle.register.proofs.entering.enter_least.Statement.{statement}
 use Rattle.register.proofs.entering.enter_least.Tie as tie
 
@@ -45,7 +45,7 @@ returns-2 c =
     (enter-full (a .pre .0) (c .before .before .before .before .before .lower-bound .ensures) (c .before .before .before .is-entry .ensures) (c .before .before .if1 .left) (omega (arith, a .pre .1)))
 
 line-length-requires : tie.Need-line-length-requires
-line-length-requires c κs = book-sizes (c .before .before .before .before .before .before .before .before .pre .0) .cells-fit
+line-length-requires c κs = valid-sizes (c .before .before .before .before .before .before .before .before .pre .0) .cells-fit
 
 mul-start : tie.Need-mul-start
 mul-start c = omega (arith, (enter-room (c .before .before .before .before .before .before .before .before .before .pre .0) (c .before .before .before .before .before .lower-bound .ensures) (c .before .before .before .before .before .before .before .before .before .pre .1) (c .before .if2 .left) (c .line-length .ensures .0)) .small)
@@ -71,7 +71,7 @@ part-insert-line-end : tie.Need-part-insert-line-end
 part-insert-line-end c = search needs
 
 insert-line-requires : tie.Need-insert-line-requires
-insert-line-requires c κs = (book-sizes (c .before .before .before .before .before .before .before .before .before .before .pre .0) .cells-fit, room-part (enter-room (c .before .before .before .before .before .before .before .before .before .before .pre .0) (c .before .before .before .before .before .before .lower-bound .ensures) (c .before .before .before .before .before .before .before .before .before .before .pre .1) (c .before .before .if2 .left) (c .before .line-length .ensures .0)) (sym (c .before .line-length .ensures .0)))
+insert-line-requires c κs = (valid-sizes (c .before .before .before .before .before .before .before .before .before .before .pre .0) .cells-fit, room-part (enter-room (c .before .before .before .before .before .before .before .before .before .before .pre .0) (c .before .before .before .before .before .before .lower-bound .ensures) (c .before .before .before .before .before .before .before .before .before .before .pre .1) (c .before .before .if2 .left) (c .before .line-length .ensures .0)) (sym (c .before .line-length .ensures .0)))
 
 sub-write-number : tie.Need-sub-write-number
 sub-write-number c = search needs

@@ -4,7 +4,7 @@ use native.Mathlib.Omega.{arith}
 use borrow.Author.Needs.{needs}
 use borrow.Author.Tests.{not-true}
 use Rattle.machine.proofs.FitSteps.{fit-unlaid}
-use Rattle.register.proofs.AskSteps.{laid-yes, laid-head, head-size, head-book}
+use Rattle.register.proofs.AskSteps.{laid-yes, laid-head, head-size, head-valid}
 use Rattle.register.proofs.FitParts.{copy-fits, copy-part, count-small, lengths-differ, fit-refused, fit-ready, fit-placed}
 use Rattle.register.proofs.fitting.fit.Statement.{statement}
 use Rattle.register.proofs.fitting.fit.Tie as tie
@@ -106,7 +106,7 @@ cast-t30 : tie.Need-cast-t30
 cast-t30 c =
     let laid = laid-yes _ (c .before .before .before .before .before .before .before .before .before .before .before .before .before .before .before .before .is-laid-out .ensures) (c .before .before .before .before .before .before .before .before .before .before .before .before .before .before .before .if1 .left) in
     let h = c .before .before .before .before .before .before .before .before .before .before .before .before .before .before .read-head .ensures in
-    omega (arith, count-small (head-book laid h) _ (c .count-within .ensures))
+    omega (arith, count-small (head-valid laid h) _ (c .count-within .ensures))
 
 returns-5 : tie.Need-returns-5
 returns-5 c =

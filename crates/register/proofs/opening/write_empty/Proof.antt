@@ -4,8 +4,8 @@ use Prim.Native.Nat.{_-_}
 use native.Mathlib.Omega.{arith}
 use lib.Seq.{length-take-le}
 use borrow.Author.Needs.{needs}
-use Rattle.machine.specs.Books.{shape}
-use Rattle.machine.proofs.BookMoves.{room-part}
+use Rattle.machine.specs.Valid.{shape}
+use Rattle.machine.proofs.ValidMoves.{room-part}
 use Rattle.register.proofs.OpenSteps.{Filling, filling-head, filling-next, filling-all, filling-room, limits-size, head-fits}
 use Rattle.register.proofs.opening.write_empty.Statement.{statement}
 use Rattle.register.proofs.opening.write_empty.Tie as tie

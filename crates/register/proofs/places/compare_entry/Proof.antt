@@ -3,13 +3,13 @@ use native.Mathlib.Omega.{arith}
 use lib.ListN.{length}
 use borrow.Author.Needs.{needs}
 use Rattle.permutations.proofs.ListLaws.{part-within}
-use Rattle.machine.proofs.BookLaws.{book-sizes, entry-fits}
+use Rattle.machine.proofs.ValidLaws.{valid-sizes, entry-fits}
 use Rattle.register.proofs.PlaceSteps.{part-length, entry-line, entry-length, entry-compared}
 use Rattle.register.proofs.places.compare_entry.Statement.{statement}
 use Rattle.register.proofs.places.compare_entry.Tie as tie
 
 line-length-requires : tie.Need-line-length-requires
-line-length-requires c κs = book-sizes (c .before .before .pre .0) .cells-fit
+line-length-requires c κs = valid-sizes (c .before .before .pre .0) .cells-fit
 
 mul-start : tie.Need-mul-start
 mul-start c =
@@ -44,7 +44,7 @@ part-cells-start : tie.Need-part-cells-start
 part-cells-start c = search needs
 
 part-cells-end : tie.Need-part-cells-end
-part-cells-end c = book-sizes (c .before .before .before .before .pre .0) .cells-fit
+part-cells-end c = valid-sizes (c .before .before .before .before .pre .0) .cells-fit
 
 read-line-requires : tie.Need-read-line-requires
 read-line-requires c κs =
@@ -63,7 +63,7 @@ part-compare-grids-end c =
     let a = c .before .before .before .before .before .before .before .before in
     let l = c .before .before .before .before .before .line-length in
     let d = c .before .before .read-line in
-    part-within (d .last .1 .0) _ (length (a .args .grid .now)) (entry-length (a .pre .0) (a .args .e) (l .result) (a .pre .1) (l .ensures .0) (d .last .1 .0) (part-length _ (length (a .args .grid .now)) (book-sizes (a .pre .0) .cells-fit)) (d .ensures))
+    part-within (d .last .1 .0) _ (length (a .args .grid .now)) (entry-length (a .pre .0) (a .args .e) (l .result) (a .pre .1) (l .ensures .0) (d .last .1 .0) (part-length _ (length (a .args .grid .now)) (valid-sizes (a .pre .0) .cells-fit)) (d .ensures))
 
 compare-grids-requires : tie.Need-compare-grids-requires
 compare-grids-requires c κs = search needs
@@ -73,7 +73,7 @@ returns c =
     let a = c .before .before .before .before .before .before .before .before .before .before in
     let l = c .before .before .before .before .before .before .before .line-length in
     let d = c .before .before .before .before .read-line in
-    entry-compared (a .pre .0) (a .args .e) (l .result) (a .pre .1) (l .ensures .0) (d .last .1 .0) _ (a .args .grid .now) (part-length _ (length (a .args .grid .now)) (book-sizes (a .pre .0) .cells-fit)) (d .ensures) (c .compare-grids .ensures)
+    entry-compared (a .pre .0) (a .args .e) (l .result) (a .pre .1) (l .ensures .0) (d .last .1 .0) _ (a .args .grid .now) (part-length _ (length (a .args .grid .now)) (valid-sizes (a .pre .0) .cells-fit)) (d .ensures) (c .compare-grids .ensures)
 
 pub compare-entry-spec : {M : Type 1} → statement M
 compare-entry-spec =

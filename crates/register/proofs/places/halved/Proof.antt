@@ -2,7 +2,7 @@
 use native.Mathlib.Omega.{arith}
 use borrow.Author.Needs.{needs}
 use Rattle.grids.proofs.ComparisonLaws.{less-yes, less-no}
-use Rattle.machine.proofs.BookLaws.{book-ascends, book-count}
+use Rattle.machine.proofs.ValidLaws.{valid-ascends, valid-count}
 use Rattle.register.proofs.PlaceSteps.{halved-low, halved-high}
 use Rattle.register.proofs.places.halved.Statement.{statement}
 use Rattle.register.proofs.places.halved.Tie as tie
@@ -16,7 +16,7 @@ add-middle c = search needs
 compare-entry-requires : tie.Need-compare-entry-requires
 compare-entry-requires c κs =
     let a = c .before .before .before .before in
-    (a .pre .0, omega (arith, a .pre .2, a .pre .1 .within, book-count (a .pre .0)))
+    (a .pre .0, omega (arith, a .pre .2, a .pre .1 .within, valid-count (a .pre .0)))
 
 is-less-requires : tie.Need-is-less-requires
 is-less-requires c κs = search needs
@@ -28,13 +28,13 @@ returns : tie.Need-returns
 returns c =
     let a = c .before .before .before .before .before .before .before in
     let d = c .before .before .compare-entry in
-    halved-low (a .args .span) (book-ascends (a .pre .0)) (a .pre .1) (a .pre .2) (less-yes _ _ _ _ (d .ensures) (c .before .is-less .ensures) (c .if1 .taken))
+    halved-low (a .args .span) (valid-ascends (a .pre .0)) (a .pre .1) (a .pre .2) (less-yes _ _ _ _ (d .ensures) (c .before .is-less .ensures) (c .if1 .taken))
 
 returns-2 : tie.Need-returns-2
 returns-2 c =
     let a = c .before .before .before .before .before .before .before in
     let d = c .before .before .compare-entry in
-    halved-high (a .args .span) (book-ascends (a .pre .0)) (a .pre .1) (a .pre .2) (less-no _ _ _ _ (d .ensures) (c .before .is-less .ensures) (c .if1 .left))
+    halved-high (a .args .span) (valid-ascends (a .pre .0)) (a .pre .1) (a .pre .2) (less-no _ _ _ _ (d .ensures) (c .before .is-less .ensures) (c .if1 .left))
 
 pub halved-spec : {M : Type 1} → statement M
 halved-spec =

@@ -3,7 +3,7 @@ use Prim.Native.Nat.{_-_}
 use native.Mathlib.Omega.{arith}
 use Rattle.layout.specs.Layout.{decode}
 use Rattle.machine.specs.Places.{Between}
-use Rattle.machine.proofs.BookLaws.{book-count}
+use Rattle.machine.proofs.ValidLaws.{valid-count}
 use Rattle.machine.proofs.PlaceLaws.{between-start, between-lower}
 use Rattle.register.proofs.places.lower_bound.Statement.{statement}
 use Rattle.register.proofs.places.lower_bound.Tie as tie
@@ -15,7 +15,7 @@ abbrev μ-loop : tie.MeasureT-loop
 μ-loop register count grid span₀ span = span .high - span .low
 
 loop-holds : tie.Need-loop-holds Inv-loop μ-loop
-loop-holds c = let a = c .before .before in rw (book-count (a .pre)) at (between-start (decode (a .args .register .now) .entries) (a .args .grid .now))
+loop-holds c = let a = c .before .before in rw (valid-count (a .pre)) at (between-start (decode (a .args .register .now) .entries) (a .args .grid .now))
 
 halved-requires : tie.Need-halved-requires Inv-loop μ-loop
 halved-requires c κs = (c .before .before .before .before .before .pre, c .before .before .loop .inv, omega arith)

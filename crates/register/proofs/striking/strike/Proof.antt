@@ -1,8 +1,8 @@
 -- `strike` meets its contract: a refusal of questions 5, 6 and 7, or what striking the least grid gives.
 use borrow.Author.Needs.{needs}
-use Rattle.machine.specs.Books.{struckLeast}
+use Rattle.machine.specs.Valid.{struckLeast}
 use Rattle.machine.proofs.LeastSteps.{struck-asked}
-use Rattle.register.proofs.AskSteps.{asked-fits, asked-book, call-refused, call-least}
+use Rattle.register.proofs.AskSteps.{asked-fits, asked-valid, call-refused, call-least}
 use Rattle.register.proofs.striking.strike.Statement.{statement}
 use Rattle.register.proofs.striking.strike.Tie as tie
 
@@ -39,7 +39,7 @@ strike-least-requires : tie.Need-strike-least-requires
 strike-least-requires c κs =
     let k = c .before .before .before .before .before .before .ask in
     let z = c .before .before .before .if1 .left in
-    asked-book (k .ensures) z
+    asked-valid (k .ensures) z
 
 same-length-2 : tie.Need-same-length-2
 same-length-2 c = search needs

@@ -3,9 +3,9 @@ use mathlib.Core.Path.{sym}
 use native.Mathlib.Omega.{arith}
 use borrow.Author.Needs.{needs}
 use borrow.Author.Tests.{not-true, not-false}
-use Rattle.machine.proofs.BookLaws.{book-sizes}
-use Rattle.machine.proofs.BookMoves.{room-part, put-fits, count-part}
-use Rattle.machine.proofs.BookSteps.{strike-place, strike-room, place-small, strike-none, strike-held}
+use Rattle.machine.proofs.ValidLaws.{valid-sizes}
+use Rattle.machine.proofs.ValidMoves.{room-part, put-fits, count-part}
+use Rattle.machine.proofs.ValidSteps.{strike-place, strike-room, place-small, strike-none, strike-held}
 use Rattle.register.proofs.striking.strike_least.Statement.{statement}
 use Rattle.register.proofs.striking.strike_least.Tie as tie
 
@@ -28,7 +28,7 @@ returns c =
     rw (c .refused .ensures .0, c .refused .ensures .1) (strike-none (a .pre) (c .before .before .before .before .lower-bound .ensures) (t .ensures) (not-true (t .result) (c .before .if1 .taken)))
 
 line-length-requires : tie.Need-line-length-requires
-line-length-requires c κs = book-sizes (c .before .before .before .before .before .before .before .pre) .cells-fit
+line-length-requires c κs = valid-sizes (c .before .before .before .before .before .before .before .pre) .cells-fit
 
 mul-start : tie.Need-mul-start
 mul-start c = omega (arith, (strike-room (c .before .before .before .before .before .before .before .before .pre) (c .before .before .before .before .lower-bound .ensures) (c .before .before .is-entry .ensures) (c .before .if1 .left) (c .line-length .ensures .0)) .small)
@@ -55,7 +55,7 @@ part-remove-line-end : tie.Need-part-remove-line-end
 part-remove-line-end c = search needs
 
 remove-line-requires : tie.Need-remove-line-requires
-remove-line-requires c κs = (book-sizes (c .before .before .before .before .before .before .before .before .before .pre) .cells-fit, room-part (strike-room (c .before .before .before .before .before .before .before .before .before .pre) (c .before .before .before .before .before .lower-bound .ensures) (c .before .before .before .is-entry .ensures) (c .before .before .if1 .left) (c .before .line-length .ensures .0)) (sym (c .before .line-length .ensures .0)))
+remove-line-requires c κs = (valid-sizes (c .before .before .before .before .before .before .before .before .before .pre) .cells-fit, room-part (strike-room (c .before .before .before .before .before .before .before .before .before .pre) (c .before .before .before .before .before .lower-bound .ensures) (c .before .before .before .is-entry .ensures) (c .before .before .if1 .left) (c .before .line-length .ensures .0)) (sym (c .before .line-length .ensures .0)))
 
 sub-write-number : tie.Need-sub-write-number
 sub-write-number c = search needs

@@ -1,5 +1,5 @@
 use borrow.Author.Needs.{needs}
-use Rattle.scan.proofs.EntryLaws.{through}
+use mathlib.Core.Logic.{Iff·trans}
 use Rattle.scan.proofs.LineLaws.{start-fits, lines-entries}
 use Rattle.scan.proofs.TableLaws.{tables-of}
 use Rattle.scan.proofs.entries.entries_laid.Statement.{statement}
@@ -36,7 +36,7 @@ returns : tie.Need-returns
 returns c =
     let s = c .before .before .before .before .before .before .before .before .before .before .before .before .before in
     let a = s .args in
-    through (c .lines-laid .ensures) (lines-entries (a .size) (a .top) (a .count) (a .register .now) (s .pre .1) (start-fits (a .size) (a .count) _ (s .pre .2)))
+    Iff·trans (c .lines-laid .ensures) (lines-entries (a .size) (a .top) (a .count) (a .register .now) (s .pre .1) (start-fits (a .size) (a .count) _ (s .pre .2)))
 
 pub entries-laid-spec : {M : Type 1} → statement M
 entries-laid-spec =

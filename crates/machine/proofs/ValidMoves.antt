@@ -19,8 +19,8 @@ use Rattle.layout.specs.Decimal.{field}
 use Rattle.layout.specs.Layout.{cells, lineLength, entryLine, blankLine, layout, decodeShape, decode}
 use Rattle.layout.specs.Lines.{lineStart}
 use Rattle.layout.proofs.MoveLaws.{insert-layout, remove-layout}
-use Rattle.machine.specs.Books.{Book}
-use Rattle.machine.proofs.BookLaws.{book-register, book-layout, book-count, book-sizes}
+use Rattle.machine.specs.Valid.{Valid}
+use Rattle.machine.proofs.ValidLaws.{valid-register, valid-layout, valid-count, valid-sizes}
 
 pub record Room (b : List ℕ) (start moved w : ℕ) : Type 0 where
   pub past-head : 31 ≤ start
@@ -59,15 +59,15 @@ count-part {b} {start} r ys e = six (putMid start (length b - start) b ys) (put-
 
 -- ---- the lines
 
-module _ {size n : ℕ} {b : List ℕ} (k : Book size n b) (p w : ℕ) (q : w ≡ lineLength size) where
+module _ {size n : ℕ} {b : List ℕ} (k : Valid size n b) (p w : ℕ) (q : w ≡ lineLength size) where
   pub room-insert : p ≤ n → n < decodeShape b .capacity → Room b (31 + p * w) ((n - p) * w) w
   room-insert i h =
-      let z = book-sizes k in
+      let z = valid-sizes k in
       lines-fit b p (n - p) (decodeShape b .capacity) w (omega arith) (rw (← q) at (z .length-is)) (z .capacity-fits) (omega (arith, z .width-fits))
 
   pub room-remove : p < n → Room b (31 + p * w) ((n - (p + 1)) * w) w
   room-remove h =
-      let z = book-sizes k in
+      let z = valid-sizes k in
       lines-fit b p (n - (p + 1)) (decodeShape b .capacity) w (omega (arith, z .count-fits)) (rw (← q) at (z .length-is)) (z .capacity-fits) (omega (arith, z .width-fits))
 
   cells-are : size ≡ cells (decode b .shape)
@@ -85,9 +85,9 @@ module _ {size n : ℕ} {b : List ℕ} (k : Book size n b) (p w : ℕ) (q : w �
   unfolding lineStart
   bytes-inserted i h g ys zs gs e f six =
       rw (f, six)
-      (rw (book-count k) at
-      (insert-layout (decode b) b (putMid (31 + p * w) (length b - (31 + p * w)) b ys) g p (λ x m. book-register k .entry-grids x m .cells) (book-layout k) (omega (arith, book-count k, capacity-is)) (omega (arith, book-count k)) (gs ∙ cells-are)
-      (rw (← cells-are, book-count k, ← q) (put-tail b (31 + p * w) (room-insert i h .start-inside) ys ∙ ap (λ (l : List ℕ). take (31 + p * w) b ++ l) (rw (tail-part b (31 + p * w) (room-insert i h .start-inside), gs, ← q) at e)))))
+      (rw (valid-count k) at
+      (insert-layout (decode b) b (putMid (31 + p * w) (length b - (31 + p * w)) b ys) g p (λ x m. valid-register k .entry-grids x m .cells) (valid-layout k) (omega (arith, valid-count k, capacity-is)) (omega (arith, valid-count k)) (gs ∙ cells-are)
+      (rw (← cells-are, valid-count k, ← q) (put-tail b (31 + p * w) (room-insert i h .start-inside) ys ∙ ap (λ (l : List ℕ). take (31 + p * w) b ++ l) (rw (tail-part b (31 + p * w) (room-insert i h .start-inside), gs, ← q) at e)))))
 
   pub bytes-removed : p < n → (ys zs : List ℕ) {m : ℕ} →
       ys ≡ take ((n - (p + 1)) * w) (drop (lineLength size) (midOf (31 + p * w) (length b - (31 + p * w)) b)) ++ (blankLine size ++ drop ((n - (p + 1)) * w + lineLength size) (midOf (31 + p * w) (length b - (31 + p * w)) b)) →
@@ -96,6 +96,6 @@ module _ {size n : ℕ} {b : List ℕ} (k : Book size n b) (p w : ℕ) (q : w �
   unfolding lineStart
   bytes-removed i ys zs e f six =
       rw (f, six)
-      (rw (book-count k) at
-      (remove-layout (decode b) b (putMid (31 + p * w) (length b - (31 + p * w)) b ys) p (λ x m. book-register k .entry-grids x m .cells) (book-layout k) (book-register k .count-fits) (omega (arith, book-count k))
-      (rw (← cells-are, book-count k, ← q) (put-tail b (31 + p * w) (room-remove i .start-inside) ys ∙ ap (λ (l : List ℕ). take (31 + p * w) b ++ l) (rw (tail-part b (31 + p * w) (room-remove i .start-inside), ← q) at e)))))
+      (rw (valid-count k) at
+      (remove-layout (decode b) b (putMid (31 + p * w) (length b - (31 + p * w)) b ys) p (λ x m. valid-register k .entry-grids x m .cells) (valid-layout k) (valid-register k .count-fits) (omega (arith, valid-count k))
+      (rw (← cells-are, valid-count k, ← q) (put-tail b (31 + p * w) (room-remove i .start-inside) ys ∙ ap (λ (l : List ℕ). take (31 + p * w) b ++ l) (rw (tail-part b (31 + p * w) (room-remove i .start-inside), ← q) at e)))))

@@ -1,7 +1,7 @@
--- A register that question 5 has passed, and what the calls answer on it.
+-- A valid register, one that question 5 gets a yes for, and what the calls answer on it.
 --
---   placed number place bytes  ==  such an outcome
---   Book size n b               ==  b is laid out, with n entries of so many cells
+--   placed number place bytes   ==  such an outcome
+--   Valid size n b              ==  b is a valid register, with n entries of so many cells
 --   shape m n top capacity      ==  such a shape
 --   openNo s length             ==  the first no of open's questions, of a slice of that length
 --   PrunesCopies m n top low high number lows highs  ==  the number and the bounds are those that prune leaves of low and high
@@ -28,7 +28,7 @@ unfoldable pub openNo : Shape → ℕ → ℕ
 openNo s length =
     firstNo (question1 (s .rows) ∷ question2 (s .columns) ∷ question3 (s .top) ∷ question4 (s .capacity) ∷ record { number = 6; answer = eqb length (layoutLength s) } ∷ [])
 
-pub record Book (size n : ℕ) (b : List ℕ) : Type 0 where
+pub record Valid (size n : ℕ) (b : List ℕ) : Type 0 where
   pub laid : laidOut b ≡ true
   pub sized : size ≡ cells (decodeShape b)
   pub counts : n ≡ count b

@@ -22,14 +22,14 @@ use Rattle.layout.specs.Decimal.{field}
 use Rattle.layout.specs.Layout.{lineLength, entryLine, blankLine, layout, decodeShape, decode}
 use Rattle.machine.specs.Calls.{holds}
 use Rattle.machine.specs.Places.{Lower}
-use Rattle.machine.specs.Books.{placed, Book, enteredLeast, struckLeast}
-use Rattle.machine.proofs.BookLaws.{book-count, book-ascends, book-sizes}
+use Rattle.machine.specs.Valid.{placed, Valid, enteredLeast, struckLeast}
+use Rattle.machine.proofs.ValidLaws.{valid-count, valid-ascends, valid-sizes}
 use Rattle.machine.proofs.LeastSteps.{held-there, entered-held, entered-full, entered-new, struck-none, struck-held}
-use Rattle.machine.proofs.BookMoves.{Room, room-insert, room-remove, bytes-inserted, bytes-removed}
+use Rattle.machine.proofs.ValidMoves.{Room, room-insert, room-remove, bytes-inserted, bytes-removed}
 
-module _ {n p : ℕ} {b g : List ℕ} (k : Book (length g) n b) (h : Lower (decode b .entries) g p) where
+module _ {n p : ℕ} {b g : List ℕ} (k : Valid (length g) n b) (h : Lower (decode b .entries) g p) where
   pub place-small : (p ≤ n) × (n ≤ 500)
-  place-small = let z = book-sizes k in (omega (arith, h .within, book-count k), omega (arith, z .count-fits, z .capacity-fits))
+  place-small = let z = valid-sizes k in (omega (arith, h .within, valid-count k), omega (arith, z .count-fits, z .capacity-fits))
 
   pub enter-room : {capacity w : ℕ} → capacity ≡ decodeShape b .capacity → n < capacity → w ≡ lineLength (length g) → Room b (31 + p * w) ((n - p) * w) w
   enter-room {capacity} {w} c r q = room-insert k p w q (place-small .0) (rw c at r)
@@ -40,7 +40,7 @@ module _ {n p : ℕ} {b g : List ℕ} (k : Book (length g) n b) (h : Lower (deco
 
   module _ {t : Bool} (found : t ≡ (ltb p n && equal (getD (decode b .entries) p []) g)) where
     pub held-found : t ≡ holds g (decode b .entries)
-    held-found = found ∙ rw (book-count k) at (held-there (book-ascends k) h)
+    held-found = found ∙ rw (valid-count k) at (held-there (valid-ascends k) h)
 
     pub place-stands : t ≡ true → (p < n) × (getD (decode b .entries) p [] ≡ g)
     place-stands y = let e = and-yes (ltb p n) (equal (getD (decode b .entries) p []) g) (sym found ∙ y) in (ltb-true p n (e .0), equal-eq (getD (decode b .entries) p []) g (e .1))
@@ -53,10 +53,10 @@ module _ {n p : ℕ} {b g : List ℕ} (k : Book (length g) n b) (h : Lower (deco
     strike-room y {w} q = room-remove k p w q (strike-place y)
 
     pub enter-held : t ≡ true → placed 101 (p + 1) b ≡ enteredLeast b g
-    enter-held y = rw add-one (sym (entered-held b (book-ascends k) h (sym held-found ∙ y)))
+    enter-held y = rw add-one (sym (entered-held b (valid-ascends k) h (sym held-found ∙ y)))
 
     pub enter-full : t ≡ false → decodeShape b .capacity ≤ n → placed 9 0 b ≡ enteredLeast b g
-    enter-full y f = sym (entered-full b (book-ascends k) h (sym held-found ∙ y) (omega (arith, book-count k, shape-capacity)))
+    enter-full y f = sym (entered-full b (valid-ascends k) h (sym held-found ∙ y) (omega (arith, valid-count k, shape-capacity)))
 
     pub enter-new : t ≡ false → n < decodeShape b .capacity → (w : ℕ) → w ≡ lineLength (length g) → (ys zs : List ℕ) {m : ℕ} →
         ys ≡ entryLine g ++ (take ((n - p) * w) (midOf (31 + p * w) (length b - (31 + p * w)) b) ++ drop ((n - p) * w + lineLength (length g)) (midOf (31 + p * w) (length b - (31 + p * w)) b)) →
@@ -64,10 +64,10 @@ module _ {n p : ℕ} {b g : List ℕ} (k : Book (length g) n b) (h : Lower (deco
         placed 0 (p + 1) (putMid 24 6 (putMid (31 + p * w) (length b - (31 + p * w)) b ys) zs) ≡ enteredLeast b g
     enter-new y f w q ys zs e d six =
         ap₂ (λ (i : ℕ) (l : List ℕ). placed 0 i l) (add-one p) (bytes-inserted k p w q (place-small .0) f g ys zs refl e d six)
-        ∙ sym (entered-new b (book-ascends k) h (sym held-found ∙ y) (omega (arith, book-count k, shape-capacity)))
+        ∙ sym (entered-new b (valid-ascends k) h (sym held-found ∙ y) (omega (arith, valid-count k, shape-capacity)))
 
     pub strike-none : t ≡ false → placed 10 0 b ≡ struckLeast b g
-    strike-none y = sym (struck-none b (book-ascends k) h (sym held-found ∙ y))
+    strike-none y = sym (struck-none b (valid-ascends k) h (sym held-found ∙ y))
 
     pub strike-held : t ≡ true → (w : ℕ) → w ≡ lineLength (length g) → (ys zs : List ℕ) {m : ℕ} →
         ys ≡ take ((n - (p + 1)) * w) (drop (lineLength (length g)) (midOf (31 + p * w) (length b - (31 + p * w)) b)) ++ (blankLine (length g) ++ drop ((n - (p + 1)) * w + lineLength (length g)) (midOf (31 + p * w) (length b - (31 + p * w)) b)) →
@@ -76,4 +76,4 @@ module _ {n p : ℕ} {b g : List ℕ} (k : Book (length g) n b) (h : Lower (deco
     strike-held y w q ys zs e d six =
         let s = place-stands y in
         ap₂ (λ (i : ℕ) (l : List ℕ). placed 0 i l) (add-one p) (bytes-removed k p w q (s .0) ys zs e d six)
-        ∙ sym (struck-held b (book-ascends k) h (sym held-found ∙ y) (omega (arith, book-count k, s .0)) (s .1))
+        ∙ sym (struck-held b (valid-ascends k) h (sym held-found ∙ y) (omega (arith, valid-count k, s .0)) (s .1))

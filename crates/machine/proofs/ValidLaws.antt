@@ -1,9 +1,9 @@
 -- What is known of a register that question 5 has passed.
 --
---   book-register, book-layout  ==  what the bytes state is a register, and they are its layout
---   book-count, book-ascends, book-line  ==  how many entries it has, that they ascend, and that each is what its line states
+--   valid-register, valid-layout  ==  what the bytes state is a register, and they are its layout
+--   valid-count, valid-ascends, valid-line  ==  how many entries it has, that they ascend, and that each is what its line states
 --   Sizes size n b              ==  the sizes, all of them small
---   book-sizes                  ==  a register has them
+--   valid-sizes                  ==  a register has them
 --   line-fits, entry-fits       ==  a line ends within the bytes, and its place is a small number
 --   entry-part                  ==  the part of the bytes that an entry's line is
 use mathlib.Core.Path.{_≡_, refl, sym, ap, _∙_}
@@ -22,7 +22,7 @@ use Rattle.layout.specs.Layout.{Register, cells, headLength, lineLength, layout
 use Rattle.layout.specs.Lines.{lineStart, lineAt, cellsOf, EntryLine, HeadLaid, EntriesLaid, BlanksLaid}
 use Rattle.layout.proofs.RegisterLaws.{register-decides}
 use Rattle.layout.proofs.LineLaws.{laid-lines, line-entry, entries-counted, line-short}
-use Rattle.machine.specs.Books.{Book}
+use Rattle.machine.specs.Valid.{Valid}
 
 pub record Sizes (size n capacity : ℕ) (b : List ℕ) : Type 0 where
   pub cells-fit : size ≤ 128
@@ -35,32 +35,32 @@ pub record Sizes (size n capacity : ℕ) (b : List ℕ) : Type 0 where
 capped-more : (a c : ℕ) (g : List ℕ) → a ≤ c → capped a g ≡ true → capped c g ≡ true
 capped-more a c g h e = at-capped c g (λ k l. omega (arith, capped-at a g e k l))
 
-module _ {size n : ℕ} {b : List ℕ} (k : Book size n b) where
-  pub book-register : IsRegister (decode b)
+module _ {size n : ℕ} {b : List ℕ} (k : Valid size n b) where
+  pub valid-register : IsRegister (decode b)
   unfolding laidOut
-  book-register = register-decides (decode b) .0 (and-yes (isRegister (decode b)) (equal (layout (decode b)) b) (k .laid) .0)
+  valid-register = register-decides (decode b) .0 (and-yes (isRegister (decode b)) (equal (layout (decode b)) b) (k .laid) .0)
 
-  pub book-layout : b ≡ layout (decode b)
+  pub valid-layout : b ≡ layout (decode b)
   unfolding laidOut
-  book-layout = sym (equal-eq (layout (decode b)) b (and-yes (isRegister (decode b)) (equal (layout (decode b)) b) (k .laid) .1))
+  valid-layout = sym (equal-eq (layout (decode b)) b (and-yes (isRegister (decode b)) (equal (layout (decode b)) b) (k .laid) .1))
 
-  pub book-count : length (decode b .entries) ≡ n
-  book-count = entries-counted b ∙ sym (k .counts)
+  pub valid-count : length (decode b .entries) ≡ n
+  valid-count = entries-counted b ∙ sym (k .counts)
 
-  pub book-ascends : Ascends (decode b .entries)
-  book-ascends = book-register .entries-ascend
+  pub valid-ascends : Ascends (decode b .entries)
+  valid-ascends = valid-register .entries-ascend
 
-  pub book-line : (e : ℕ) → e < n → (EntryLine size 15 (lineAt size b e)) × (cellsOf size (lineAt size b e) ≡ getD (decode b .entries) e [])
+  pub valid-line : (e : ℕ) → e < n → (EntryLine size 15 (lineAt size b e)) × (cellsOf size (lineAt size b e) ≡ getD (decode b .entries) e [])
   unfolding decodeShape decode
-  book-line e h =
+  valid-line e h =
       let p = laid-lines b .0 (k .laid) .1 in
       let l = laid-lines b .0 (k .laid) .0 .limits .grid-limits .top-limit in
       let x = p .lines e (omega (arith, k .counts)) in
       rw (k .sized) (record { bytes = x .bytes; at-most = capped-more _ 15 (cellsOf _ (lineAt _ b e)) l (x .at-most) }, sym (line-entry b (k .laid) e (omega (arith, k .counts))))
 
-  pub book-sizes : Sizes size n (decodeShape b .capacity) b
+  pub valid-sizes : Sizes size n (decodeShape b .capacity) b
   unfolding layoutLength decodeShape decode
-  book-sizes =
+  valid-sizes =
       let p = laid-lines b .0 (k .laid) .0 in
       let l = p .limits .grid-limits in
       let fit : size ≤ 128 = omega (arith, k .sized, size-fits (decodeShape b .rows) (decodeShape b .columns) (l .rows-limits .1) (l .column-limits .1)) in
@@ -73,7 +73,7 @@ module _ {size n : ℕ} {b : List ℕ} (k : Book size n b) where
       }
 
   pub line-fits : (e w : ℕ) → e < decodeShape b .capacity → w ≡ lineLength size → (31 + e * w + w ≤ length b) × (31 + e * w + w ≤ 192531)
-  line-fits e w h q = let z = book-sizes in fits (decodeShape b .capacity) h (rw (← q) at (z .length-is)) (z .capacity-fits) (omega (arith, z .width-fits))
+  line-fits e w h q = let z = valid-sizes in fits (decodeShape b .capacity) h (rw (← q) at (z .length-is)) (z .capacity-fits) (omega (arith, z .width-fits))
     where
       fits : (c : ℕ) → e < c → length b ≡ 31 + c * w → c ≤ 500 → w ≤ 385 → (31 + e * w + w ≤ length b) × (31 + e * w + w ≤ 192531)
       fits c h l a d =
@@ -82,7 +82,7 @@ module _ {size n : ℕ} {b : List ℕ} (k : Book size n b) where
           (omega (arith, l, x), omega (arith, y))
 
   pub entry-fits : (e w : ℕ) → e < n → w ≡ lineLength size → (31 + e * w + w ≤ length b) × (31 + e * w + w ≤ 192531)
-  entry-fits e w h q = line-fits e w (omega (arith, book-sizes .count-fits)) q
+  entry-fits e w h q = line-fits e w (omega (arith, valid-sizes .count-fits)) q
 
   pub entry-part : (e w : ℕ) → w ≡ lineLength size → take (31 + e * w + w - (31 + e * w)) (drop (31 + e * w) b) ≡ lineAt size b e
   unfolding lineAt lineStart
