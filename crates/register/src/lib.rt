@@ -1,9 +1,9 @@
 // The register's calls on lent bytes: open, enter, strike and fit, and one call told which.
 pub mod answers;
-pub mod asking;
+mod asking;
 pub mod calling;
 pub mod entering;
 pub mod fitting;
 pub mod opening;
-pub mod places;
+mod places;
 pub mod striking;
