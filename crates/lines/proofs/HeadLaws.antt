@@ -24,7 +24,7 @@ pub field-written : (b ys : List ℕ) (at x : ℕ) → at + 6 ≤ length b → y
 unfolding withField
 field-written b ys at x h e = rw (e, six at, six-long b at h) refl
 
-fill-field : {p l : List ℕ} {k : ℕ} {o : List ℕ} (x : ℕ) → Filled p l k o → k + 6 ≤ length l → Filled (p ++ field 6 x) l (k + 6) (withField k x o)
+pub fill-field : {p l : List ℕ} {k : ℕ} {o : List ℕ} (x : ℕ) → Filled p l k o → k + 6 ≤ length l → Filled (p ++ field 6 x) l (k + 6) (withField k x o)
 unfolding withField
 fill-field {p} {l} {k} {o} x f h =
     let d : drop k o ≡ drop k l = rw (f .bytes) (drop-at p (drop k l) k (f .front)) in

@@ -1,4 +1,5 @@
 pub mod ByteLaws
+pub mod EqualityLaws
 pub mod FieldLaws
 pub mod FillLaws
 pub mod HeadLaws

@@ -30,7 +30,7 @@ pub fn read_head(register: &[u8]) -> Head
 }
 
 // Writes a number into the six bytes from a place on.
-fn write_field(out: &mut [u8], at: usize, number: usize)
+pub fn write_field(out: &mut [u8], at: usize, number: usize)
     requires { ⌜ at + 6 ≤ length (now out) ⌝ }
     ensures { λ _. ⌜ now (out .exit) ≡ withField at number (now (out .entry)) ⌝ }
 {

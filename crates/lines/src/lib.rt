@@ -1,6 +1,7 @@
-// The numbers and lines of a register, read, written and moved, and its bytes; tables for its cells.
+// The numbers and lines of a register, read, written and moved, and its bytes, compared; tables for its cells.
 pub mod bytes;
 pub mod entries;
+pub mod equality;
 pub mod head;
 pub mod numbers;
 pub mod tables;

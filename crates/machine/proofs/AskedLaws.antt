@@ -1,6 +1,8 @@
 -- What the register's calls ask, exactly: which arguments pass every question.
 --
 --   grid-pass    ==  questions 6 and 7 of a grid: it is one
+--   numberQuestions s  ==  questions 1 to 4
+--   number-numbered, numbers-pass  ==  each has a number; they ask the limits
 --   open-pass    ==  open's: the limits, and a slice of the exact length
 --   enter-pass   ==  enter's: a register, a grid, and its class held or room for it
 --   strike-pass  ==  strike's: a register, a grid, and its class held
@@ -20,6 +22,7 @@ use Rattle.bounds.specs.Bounds.{IsBounds}
 use Rattle.bounds.proofs.BoundsLaws.{bounds-asked, bounds-numbered}
 use Rattle.layout.specs.Layout.{Shape, Register, cells, layoutLength, InLimits, laidOut}
 use Rattle.machine.specs.Calls.{question4, question5, gridQuestions, holds, question9, question10, openQuestions, enterQuestions, strikeQuestions, fitQuestions}
+use Rattle.machine.specs.Valid.{numbersNo}
 
 -- ---- a grid's questions
 
@@ -42,6 +45,25 @@ unfolding gridQuestions
 grid-pass s g =
     let z = first-no-zero (gridQuestions s g) (grid-numbered s g) in
     (λ e. let h = z .0 e in grid-yes s g (h .0) (h .1 .0), λ i. z .1 (yes-length s g i, (yes-cells s g i, tt)))
+
+-- ---- the four numbers
+
+abbrev pub numberQuestions : Shape → List Question
+numberQuestions s = question1 (s .rows) ∷ question2 (s .columns) ∷ question3 (s .top) ∷ question4 (s .capacity) ∷ []
+
+module _ (s : Shape) where
+  pub number-numbered : Numbered (numberQuestions s)
+  unfolding question1 question2 question3 question4
+  number-numbered = (omega arith, (omega arith, (omega arith, (omega arith, tt))))
+
+  pub numbers-pass : (numbersNo s ≡ 0) ↔ InLimits s
+  unfolding numbersNo question4
+  numbers-pass =
+      let z = first-no-zero (numberQuestions s) number-numbered in
+      let a = limits-asked (s .rows) (s .columns) (s .top) (question4 (s .capacity) ∷ []) in (
+        λ e. let h = a .0 (z .0 e) in record { grid-limits = h .0; capacity-limits = range-yes 1 500 (s .capacity) (h .1 .0) },
+        λ i. z .1 (a .1 (i .grid-limits, (yes-range 1 500 (s .capacity) (i .capacity-limits), tt))),
+      )
 
 -- ---- open
 

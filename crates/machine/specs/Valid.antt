@@ -3,6 +3,7 @@
 --   placed number place bytes   ==  such an outcome
 --   Valid size n b              ==  b is a valid register, with n entries of so many cells
 --   shape m n top capacity      ==  such a shape
+--   numbersNo s                 ==  the first no of questions 1 to 4
 --   openNo s length             ==  the first no of open's questions, of a slice of that length
 --   PrunesCopies m n top low high number lows highs  ==  the number and the bounds are those that prune leaves of low and high
 --   asked b g                   ==  the first no of questions 5, 6 and 7 of enter and strike
@@ -23,6 +24,9 @@ placed number place bytes = record { number = number; place = place; bytes = byt
 
 abbrev pub shape : ℕ → ℕ → ℕ → ℕ → Shape
 shape m n top capacity = record { rows = m; columns = n; top = top; capacity = capacity }
+
+unfoldable pub numbersNo : Shape → ℕ
+numbersNo s = firstNo (question1 (s .rows) ∷ question2 (s .columns) ∷ question3 (s .top) ∷ question4 (s .capacity) ∷ [])
 
 unfoldable pub openNo : Shape → ℕ → ℕ
 openNo s length =

@@ -6,6 +6,7 @@
 --   length-numbers, at-numbers, in-numbers, of-numbers, every-number, number-every  ==  the same of the numbers below n
 --   every-next                                   ==  a test of the numbers below n, one number further
 --   part-within, part-is                         ==  the part from 0 on of a list that begins with a given list
+--   part-length                                  ==  the length of the part from 0 on
 --   at-map                                       ==  an entry of a mapped list
 --   in-flatMap, of-flatMap                       ==  membership in lists put one after another
 --   select-yes, select-no, in-select, of-select, select-ext, select-none, length-select, select-split, select-within  ==  the elements that pass a test
@@ -22,7 +23,7 @@ use native.Mathlib.Nat.{add-zero, zero-add, not-suc-le-zero}
 use native.Mathlib.Decide.{ℕ-discrete}
 use native.Mathlib.Omega.{arith}
 use lib.ListN.{length, getD, take, length-append}
-use lib.Seq.{ext-getD, take-at}
+use lib.Seq.{ext-getD, take-at, length-take-le}
 use lib.Dec.{eqb}
 use borrow.Author.Tests.{eq-eqb, ne-eqb, eqb-true}
 use Rattle.permutations.specs.Lists.{tabulate, numbers, select, every, some, All, occurrences}
@@ -64,6 +65,9 @@ module _ {ℓ} {A : Type ℓ} where
 
   pub part-is : (x x′ : List A) (k : ℕ) → length x ≡ k → take (k - 0) (x ++ x′) ≡ x
   part-is x x′ k e = take-at x x′ (k - 0) (omega arith)
+
+  pub part-length : (z : List A) (k : ℕ) → k ≤ length z → length (take (k - 0) z) ≡ k
+  part-length z k h = let e : k - 0 ≡ k = omega arith in rw e (length-take-le k z h)
 
   pub in-tabulate : (s n : ℕ) (f : ℕ → A) (i : ℕ) → i < n → List·Memᴰ (f (s + i)) (tabulate s n f)
   unfolding tabulate

@@ -23,6 +23,7 @@ use Rattle.grids.specs.Least.{least}
 use Rattle.grids.specs.Questions.{firstNo, Limits, question6, question7}
 use Rattle.grids.proofs.QuestionLaws.{firstNo-pass, firstNo-stop, limits-pass, size-fits}
 use Rattle.permutations.specs.Lists.{every}
+use Rattle.permutations.proofs.ListLaws.{part-length}
 use Rattle.canonical.specs.Represent.{representQuestions, Represented}
 use Rattle.layout.specs.Layout.{Shape, cells, layoutLength, decodeShape, decode, InLimits, laidOut}
 use Rattle.layout.proofs.LineLaws.{laid-lines}
@@ -34,7 +35,6 @@ use Rattle.machine.proofs.LeastSteps.{answered-refusal}
 use Rattle.machine.proofs.ValidLaws.{valid-sizes}
 use Rattle.register.specs.declared.asking.Asked.{Asked}
 use Rattle.register.specs.Asked.{Asks}
-use Rattle.register.proofs.PlaceSteps.{part-length}
 
 pub laid-yes : {t : Bool} (b : List ℕ) → t ≡ laidOut b → not t ≡ false → laidOut b ≡ true
 laid-yes {t} b e y = sym e ∙ not-false t y

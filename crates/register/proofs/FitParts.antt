@@ -13,7 +13,7 @@ use Prim.Native.Nat.{ℕ, _-_, _*_, _≤_}
 use native.Mathlib.Omega.{arith}
 use lib.ListN.{length, take}
 use Rattle.permutations.specs.Lists.{select}
-use Rattle.permutations.proofs.ListLaws.{part-within, part-is, length-select}
+use Rattle.permutations.proofs.ListLaws.{part-within, part-is, part-length, length-select}
 use Rattle.bounds.specs.Bounds.{IsBounds, inBounds}
 use Rattle.layout.specs.Layout.{Shape, cells, decodeShape, decode, laidOut}
 use Rattle.lines.specs.declared.head.Head.{Head}
@@ -23,7 +23,6 @@ use Rattle.machine.specs.Valid.{placed, Valid, PrunesCopies}
 use Rattle.machine.proofs.ValidLaws.{valid-count, valid-sizes}
 use Rattle.machine.proofs.FitSteps.{fit-lengths, fit-none, fit-bounds, fit-counts, pruned-sizes}
 use Rattle.register.proofs.AskSteps.{head-size, head-valid}
-use Rattle.register.proofs.PlaceSteps.{part-length}
 
 pub count-small : {size n : ℕ} {b : List ℕ} → Valid size n b → (t : List ℕ → Bool) {r : ℕ} → r ≡ length (select t (decode b .entries)) → r ≤ 500
 count-small {b = b} k t e = let z = valid-sizes k in omega (arith, e, length-select t (decode b .entries), valid-count k, z .count-fits, z .capacity-fits)

@@ -1,8 +1,8 @@
 -- Open, from what the code finds to the outcome.
 --
---   open-limits               ==  one of questions 1 to 3 gets a no
---   capacity-no, length-no    ==  the questions before get a yes, this one a no
---   no-limits-size            ==  a grid within the limits has at most 128 cells
+--   limits-no, capacity-no    ==  one of questions 1 to 3 gets a no; they get a yes, and question 4 a no
+--   numbers-yes, numbers-limits  ==  questions 1 to 4 get a yes, and what that tells
+--   open-numbers, length-no   ==  one of them gets a no; they get a yes, and question 6 a no
 --   open-yes                  ==  every question gets a yes
 --   length-is, open-small     ==  how long a register is
 --   open-asked                ==  what is asked of a slice is asked of its length
@@ -21,53 +21,60 @@ use borrow.Author.Tests.{eq-eqb, ne-eqb}
 use borrow.Rule.Slice.PartMut.{midOf, putMid}
 use Rattle.permutations.specs.Lists.{every}
 use Rattle.grids.specs.Questions.{Question, firstNo, limitsNo, question6}
-use Rattle.grids.proofs.QuestionLaws.{firstNo-pass, firstNo-stop, yes-range, limits-decide, limits-refuse, limits-pass, size-fits}
+use Rattle.grids.proofs.QuestionLaws.{firstNo-pass, firstNo-stop, first-no-stays, first-no-next, yes-range, limits-decide, limits-refuse, limits-pass, size-fits}
 use Rattle.grids.proofs.QuestionSteps.{range-no}
 use Rattle.layout.specs.Layout.{Shape, cells, lineLength, headLine, blankLine, layout, layoutLength, InLimits}
 use Rattle.layout.specs.Lines.{lineStart}
 use Rattle.layout.proofs.LineLaws.{line-short}
 use Rattle.layout.proofs.MoveLaws.{Opened, opened-head-part, opened-next, opened-all}
 use Rattle.machine.specs.Calls.{Outcome, answered, question4, openQuestions, opened}
-use Rattle.machine.specs.Valid.{placed, shape, openNo}
-use Rattle.machine.proofs.AskedLaws.{open-pass}
+use Rattle.machine.specs.Valid.{placed, shape, numbersNo, openNo}
+use Rattle.machine.proofs.AskedLaws.{numberQuestions, number-numbered, numbers-pass, open-pass}
 use Rattle.machine.proofs.LeastSteps.{answered-refusal}
 use Rattle.machine.proofs.ValidMoves.{Room, lines-fit, tail-part, put-tail}
 
-module _ (m n top capacity x : ℕ) where
-  -- question 6 of a length
-  abbrev exact : Question
-  exact = record { number = 6; answer = eqb x (layoutLength (shape m n top capacity)) }
+-- questions 1 to 4
+module _ (m n top capacity : ℕ) {k : ℕ} (e : k ≡ limitsNo m n top) where
+  pub limits-no : (k ≡ 0 → ⊥) → k ≡ numbersNo (shape m n top capacity)
+  unfolding numbersNo
+  limits-no h = e ∙ sym (limits-refuse m n top (question4 capacity ∷ []) (λ z. h (e ∙ z)))
 
-  rest : List Question
-  rest = question4 capacity ∷ exact ∷ []
+  module _ (z : k ≡ 0) where
+    past-limits : numbersNo (shape m n top capacity) ≡ firstNo (question4 capacity ∷ [])
+    unfolding numbersNo
+    past-limits = limits-pass m n top (question4 capacity ∷ []) (limits-decide m n top .0 (sym e ∙ z))
 
-  pub open-limits : {k : ℕ} → k ≡ limitsNo m n top → (k ≡ 0 → ⊥) → k ≡ openNo (shape m n top capacity) x
-  unfolding openNo rest
-  open-limits e h = e ∙ sym (limits-refuse m n top rest (λ z. h (e ∙ z)))
-
-  module _ {k : ℕ} (e : k ≡ limitsNo m n top) (z : k ≡ 0) where
-    past-limits : openNo (shape m n top capacity) x ≡ firstNo (question4 capacity ∷ exact ∷ [])
-    unfolding openNo rest
-    past-limits = limits-pass m n top rest (limits-decide m n top .0 (sym e ∙ z))
-
-    pub capacity-no : ((1 ≤ capacity) × (capacity ≤ 500) → ⊥) → 4 ≡ openNo (shape m n top capacity) x
+    pub capacity-no : ((1 ≤ capacity) × (capacity ≤ 500) → ⊥) → 4 ≡ numbersNo (shape m n top capacity)
     unfolding question4
     capacity-no h = sym (past-limits ∙ firstNo-stop (question4 capacity) _ (range-no 1 500 capacity h))
 
-    module _ (hc : (1 ≤ capacity) × (capacity ≤ 500)) where
-      past-capacity : openNo (shape m n top capacity) x ≡ firstNo (exact ∷ [])
-      unfolding question4
-      past-capacity = past-limits ∙ firstNo-pass (question4 capacity) _ (yes-range 1 500 capacity hc)
+    pub numbers-yes : (1 ≤ capacity) × (capacity ≤ 500) → 0 ≡ numbersNo (shape m n top capacity)
+    unfolding question4 firstNo
+    numbers-yes h = sym (past-limits ∙ firstNo-pass (question4 capacity) [] (yes-range 1 500 capacity h))
 
-      pub length-no : (x ≡ layoutLength (shape m n top capacity) → ⊥) → 6 ≡ openNo (shape m n top capacity) x
-      length-no h = sym (past-capacity ∙ firstNo-stop exact [] (ne-eqb x (layoutLength (shape m n top capacity)) h))
+-- question 6 of a length
+module _ (s : Shape) (x : ℕ) {k : ℕ} (e : k ≡ numbersNo s) where
+  abbrev exact : Question
+  exact = record { number = 6; answer = eqb x (layoutLength s) }
 
-      pub open-yes : x ≡ layoutLength (shape m n top capacity) → 0 ≡ openNo (shape m n top capacity) x
-      unfolding firstNo
-      open-yes d = sym (past-capacity ∙ firstNo-pass exact [] (eq-eqb x (layoutLength (shape m n top capacity)) d))
+  pub open-numbers : (k ≡ 0 → ⊥) → k ≡ openNo s x
+  unfolding openNo numbersNo
+  open-numbers h = e ∙ sym (first-no-stays (numberQuestions s) (exact ∷ []) (λ z. h (e ∙ z)))
 
-pub no-limits-size : (m n top : ℕ) {k : ℕ} → k ≡ limitsNo m n top → k ≡ 0 → m * n ≤ 128
-no-limits-size m n top e z = let l = limits-decide m n top .0 (sym e ∙ z) in size-fits m n (l .rows-limits .1) (l .column-limits .1)
+  module _ (z : k ≡ 0) where
+    past-numbers : openNo s x ≡ firstNo (exact ∷ [])
+    unfolding openNo numbersNo
+    past-numbers = first-no-next (numberQuestions s) (exact ∷ []) (number-numbered s) (sym e ∙ z)
+
+    pub length-no : (x ≡ layoutLength s → ⊥) → 6 ≡ openNo s x
+    length-no h = sym (past-numbers ∙ firstNo-stop exact [] (ne-eqb x (layoutLength s) h))
+
+    pub open-yes : x ≡ layoutLength s → 0 ≡ openNo s x
+    unfolding firstNo
+    open-yes d = sym (past-numbers ∙ firstNo-pass exact [] (eq-eqb x (layoutLength s) d))
+
+pub numbers-limits : (s : Shape) {k : ℕ} → k ≡ numbersNo s → k ≡ 0 → InLimits s
+numbers-limits s e z = numbers-pass s .0 (sym e ∙ z)
 
 pub length-is : (m n top capacity : ℕ) {w : ℕ} → w ≡ lineLength (m * n) → layoutLength (shape m n top capacity) ≡ 31 + capacity * w
 unfolding layoutLength

@@ -1,6 +1,5 @@
 -- From what the code finds at a line to the place of a grid.
 --
---   part-length             ==  the length of the first elements of an array
 --   entry-line              ==  the part of the register that is lent to be read is an entry's line
 --   entry-length, entry-compared  ==  what was read is the entry
 --   past-entry, at-entry    ==  the test whether an entry is the grid
@@ -12,11 +11,10 @@ use mathlib.Core.Logic.{_⊎_, inl, inr}
 use Prim.Native.Nat.{ℕ, _+_, _-_, _*_, _/_, _≤_, _<_}
 use native.Mathlib.Omega.{arith}
 use lib.ListN.{length, getD, take, drop}
-use lib.Seq.{length-take-le}
 use lib.Dec.{ltb}
 use borrow.Author.Tests.{lt-ltb, le-ltb}
 use Rattle.permutations.proofs.BoolLaws.{yes-or-no, refuted}
-use Rattle.permutations.proofs.ListLaws.{part-is}
+use Rattle.permutations.proofs.ListLaws.{part-is, part-length}
 use Rattle.grids.specs.declared.comparisons.Comparison.{Comparison}
 use Rattle.grids.specs.Order.{_≼_, _≺_, equal}
 use Rattle.grids.specs.Comparisons.{isEqual, compared}
@@ -31,9 +29,6 @@ use Rattle.machine.proofs.PlaceLaws.{between-low, between-high}
 use Rattle.machine.proofs.ValidLaws.{valid-line, valid-sizes, entry-part}
 use Rattle.register.specs.declared.places.Span.{Span}
 use Rattle.register.specs.Spans.{Halved}
-
-pub part-length : (z : List ℕ) (k : ℕ) → k ≤ length z → length (take (k - 0) z) ≡ k
-part-length z k h = let e : k - 0 ≡ k = omega arith in rw e (length-take-le k z h)
 
 module _ {size n : ℕ} {b : List ℕ} (k : Valid size n b) (e w : ℕ) (h : e < n) (q : w ≡ lineLength size) where
   pub entry-line : (z : List ℕ) → 128 ≤ length z → (length (take (size - 0) z) ≤ 128) × EntryLine (length (take (size - 0) z)) 15 (take (31 + e * w + w - (31 + e * w)) (drop (31 + e * w) b))

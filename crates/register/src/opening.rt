@@ -10,11 +10,11 @@ ghost use mathlib.Core.List.{[]};
 ghost use lib.ListN.{length};
 ghost use Rattle.layout.specs.Layout.{layout, layoutLength, InLimits};
 ghost use Rattle.machine.specs.Calls.{opened};
-ghost use Rattle.machine.specs.Valid.{placed, openNo, shape};
+ghost use Rattle.machine.specs.Valid.{placed, numbersNo, openNo, shape};
 
-// Questions 1, 2, 3, 4 and 6 of open: the number of the first that gets a no, or 0.
-fn open_no(m: usize, n: usize, top: usize, capacity: usize, length: usize) -> u32
-    ensures { λ r. ⌜ r ≡ openNo (shape m n top capacity) length ⌝ }
+// Questions 1 to 4: the number of the first that gets a no, or 0.
+pub fn numbers_no(m: usize, n: usize, top: usize, capacity: usize) -> u32
+    ensures { λ r. ⌜ r ≡ numbersNo (shape m n top capacity) ⌝ }
 {
     let number = questions::limits_no(m, n, top);
     if number != 0 {
@@ -25,6 +25,17 @@ fn open_no(m: usize, n: usize, top: usize, capacity: usize, length: usize) -> u3
     }
     if 500 < capacity {
         return 4;
+    }
+    0
+}
+
+// Questions 1, 2, 3, 4 and 6 of open: the number of the first that gets a no, or 0.
+fn open_no(m: usize, n: usize, top: usize, capacity: usize, length: usize) -> u32
+    ensures { λ r. ⌜ r ≡ openNo (shape m n top capacity) length ⌝ }
+{
+    let number = numbers_no(m, n, top, capacity);
+    if number != 0 {
+        return number;
     }
     let width = entries::line_length(m * n);
     if length != 31 + capacity * width {

@@ -10,4 +10,5 @@ pub mod LateEntry
 pub mod Demand3
 pub mod Demand1
 pub mod Fit
+pub mod Planbook
 pub mod TurnedDown

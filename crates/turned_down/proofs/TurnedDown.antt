@@ -15,6 +15,8 @@ use Rattle.machine.specs.Calls.{fitted}
 use Rattle.machine.specs.CallLists.{registerCalls, Meets}
 use Rattle.machine.proofs.Demand1Laws.{demand1}
 use Rattle.machine.proofs.Demand3Laws.{demand3}
+use Rattle.protocol.specs.Transcript.{transcript}
+use Rattle.protocol.specs.Programs.{Prints, transcribed, MeetsTranscribe}
 use Rattle.turned_down.specs.PermutationFaults.{Composes, Inverts, Tests}
 use Rattle.turned_down.specs.TurnedDown.{Turned, orderFaults, table, TurnedDown, Met}
 use Rattle.turned_down.proofs.Permutations.{orders-turned}
@@ -24,10 +26,11 @@ use Rattle.turned_down.proofs.Prune.{never-prunes, never-empty, removes
 use Rattle.turned_down.proofs.Demand3.{stores-first, full-unlooked, not-held-unlooked, invents-count, invents-fit, leaves-last-line, appends-entries, places-from-zero, inserts-late, opens-nothing, enters-nothing, opens-any-slice, refuses-own-bytes}
 use Rattle.turned_down.proofs.Demand1.{refuses-opens, refuses-enters, grows-slice, open-grows-slice, fit-writes, held-writes, open-writes-refusing, opens-capacity-0, asks-cells-first, asks-register-last, trusts-bytes}
 use Rattle.turned_down.proofs.Fit.{fits-as-sent, prunes-lent-bounds}
+use Rattle.turned_down.proofs.Planbook.{goes-on-after-13, prints-register-after-11, ends-at-malformed, prints-under-zero, malformed-reaches, refuses-cells-as-malformed, asks-length-first, silent-without-commands, takes-unended, counts-without-room, clears-rest}
 
 pub turned-down : TurnedDown
 unfolding TurnedDown table
-turned-down = (hands-back, (one-for-all, (refuses-all, (sorts-by-turns, (follows-first, (orders-backwards, (pads-with-zeros, (ignores-length, (ignores-cells, (writes-refusing, (moves-refusing, (never-same, (judges-by-row-sums, (compares-sorted, (orders-from-b, (ignores-b, (moves-with-103, (never-prunes, (never-empty, (removes-nothing, (raises-no-low, (lowers-no-high, (prunes-unsorted, (invents-removed, (writes-empty, (shortens-bounds, (leaves-above-top, (ignores-order, (prune-writes-refusing, (stores-first, (full-unlooked, (not-held-unlooked, (invents-count, (invents-fit, (leaves-last-line, (appends-entries, (places-from-zero, (inserts-late, (opens-nothing, (enters-nothing, (opens-any-slice, (refuses-own-bytes, (refuses-opens, (refuses-enters, (grows-slice, (open-grows-slice, (fit-writes, (held-writes, (open-writes-refusing, (opens-capacity-0, (asks-cells-first, (asks-register-last, (trusts-bytes, (fits-as-sent, (prunes-lent-bounds, all-append Turned (orderFaults 8) (orderFaults 16) (orders-turned 8 (omega arith)) (orders-turned 16 (omega arith)))))))))))))))))))))))))))))))))))))))))))))))))))))))))
+turned-down = (hands-back, (one-for-all, (refuses-all, (sorts-by-turns, (follows-first, (orders-backwards, (pads-with-zeros, (ignores-length, (ignores-cells, (writes-refusing, (moves-refusing, (never-same, (judges-by-row-sums, (compares-sorted, (orders-from-b, (ignores-b, (moves-with-103, (never-prunes, (never-empty, (removes-nothing, (raises-no-low, (lowers-no-high, (prunes-unsorted, (invents-removed, (writes-empty, (shortens-bounds, (leaves-above-top, (ignores-order, (prune-writes-refusing, (stores-first, (full-unlooked, (not-held-unlooked, (invents-count, (invents-fit, (leaves-last-line, (appends-entries, (places-from-zero, (inserts-late, (opens-nothing, (enters-nothing, (opens-any-slice, (refuses-own-bytes, (refuses-opens, (refuses-enters, (grows-slice, (open-grows-slice, (fit-writes, (held-writes, (open-writes-refusing, (opens-capacity-0, (asks-cells-first, (asks-register-last, (trusts-bytes, (fits-as-sent, (prunes-lent-bounds, (goes-on-after-13, (prints-register-after-11, (ends-at-malformed, (prints-under-zero, (malformed-reaches, (refuses-cells-as-malformed, (asks-length-first, (silent-without-commands, (takes-unended, (counts-without-room, (clears-rest, all-append Turned (orderFaults 8) (orderFaults 16) (orders-turned 8 (omega arith)) (orders-turned 16 (omega arith))))))))))))))))))))))))))))))))))))))))))))))))))))))))))))))))))))
 
 ours : Meets registerCalls
 unfolding registerCalls
@@ -45,7 +48,7 @@ unfolding MeetsPrune
 pruning m n top low high = prunes m n top low high _ refl
 
 pub met : Met
-unfolding MeetsSame Composes Inverts Tests
+unfolding MeetsSame Composes Inverts Tests Prints MeetsTranscribe
 met = record {
   represents = (representing, represents, represent-least representing represents);
   compares = (
@@ -61,4 +64,6 @@ met = record {
     λ b low high. record { outcome = fitted b low high; low = low; high = high },
     record { answers = λ b low high. refl; low-kept = λ b low high. refl; high-kept = λ b low high. refl },
   );
+  prints = (transcript, λ input. refl);
+  transcribes = (transcribed, λ input register out. refl);
 }

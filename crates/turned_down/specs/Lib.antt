@@ -3,4 +3,5 @@ pub mod RepresentFaults
 pub mod SameFaults
 pub mod PruneFaults
 pub mod RegisterFaults
+pub mod PlanbookFaults
 pub mod TurnedDown

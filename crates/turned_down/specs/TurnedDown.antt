@@ -17,11 +17,13 @@ use Rattle.machine.specs.CallLists.{Implementation, Meets}
 use Rattle.machine.specs.FitSlices.{Fitting, MeetsFit}
 use Rattle.machine.specs.Demand1.{Demand1}
 use Rattle.machine.specs.Demand3.{Demand3}
+use Rattle.protocol.specs.Programs.{Printing, Prints, Transcribing, MeetsTranscribe}
 use Rattle.turned_down.specs.PermutationFaults.{Composing, Inverting, Testing, Composes, Inverts, Tests, ComposesBackwards, AcceptsRepeats, AcceptsTooLarge, AcceptsOtherSizes, ReturnsArgument, AcceptsSize0, AcceptsPast}
 use Rattle.turned_down.specs.RepresentFaults.{HandsBack, OneForAll, RefusesAll, SortsByTurns, FollowsFirst, OrdersBackwards, PadsWithZeros, IgnoresLength, IgnoresCells, WritesRefusing, MovesRefusing}
 use Rattle.turned_down.specs.SameFaults.{NeverSame, JudgesByRowSums, ComparesSorted, OrdersFromB, IgnoresB, MovesWith103}
 use Rattle.turned_down.specs.PruneFaults.{NeverPrunes, NeverEmpty, RemovesNothing, RaisesNoLow, LowersNoHigh, PrunesUnsorted, InventsRemoved, WritesEmpty, ShortensBounds, LeavesAboveTop, IgnoresOrder, PruneWritesRefusing}
 use Rattle.turned_down.specs.RegisterFaults.{StoresFirst, FullUnlooked, NotHeldUnlooked, InventsCount, InventsFit, LeavesLastLine, AppendsEntries, PlacesFromZero, InsertsLate, OpensNothing, EntersNothing, OpensAnySlice, RefusesOwnBytes, GrowsSlice, OpenGrowsSlice, FitWrites, HeldWrites, OpenWritesRefusing, OpensCapacity0, AsksCellsFirst, AsksRegisterLast, TrustsBytes, FitsAsSent, PrunesLentBounds}
+use Rattle.turned_down.specs.PlanbookFaults.{GoesOnAfter13, PrintsRegisterAfter11, EndsAtMalformed, PrintsUnderZero, MalformedReaches, RefusesCellsAsMalformed, AsksLengthFirst, SilentWithoutCommands, TakesUnended, CountsWithoutRoom, ClearsRest}
 
 pub record Fault : Type 1 where
   pub Program : Type 0
@@ -116,6 +118,19 @@ table =
     -- by the contract of fit: entries that are no representatives counted in the bounds as sent; the bounds that it is lent pruned
     ∷ fault Meets FitsAsSent
     ∷ fault MeetsFit PrunesLentBounds
+    -- by what planbook prints: after 13 and 11, at a line that is not laid, for calls that are refused; the order of the checks, no command, no line feed
+    ∷ fault Prints GoesOnAfter13
+    ∷ fault Prints PrintsRegisterAfter11
+    ∷ fault Prints EndsAtMalformed
+    ∷ fault Prints PrintsUnderZero
+    ∷ fault Prints MalformedReaches
+    ∷ fault Prints RefusesCellsAsMalformed
+    ∷ fault Prints AsksLengthFirst
+    ∷ fault Prints SilentWithoutCommands
+    ∷ fault Prints TakesUnended
+    -- by the contract of the function on slices that the program calls: a slice that is too small, the rest of the output slice
+    ∷ fault MeetsTranscribe CountsWithoutRoom
+    ∷ fault MeetsTranscribe ClearsRest
     -- orders that follow each other, and their reverses
     ∷ (orderFaults 8 ++ orderFaults 16)
 
@@ -131,3 +146,5 @@ pub record Met : Type 0 where
   pub tests : (width : ℕ) → (f : Testing) × Tests width f
   pub keeps : (i : Implementation) × Meets i × Demand1 i × Demand3 i
   pub fits : (f : Fitting) × MeetsFit f
+  pub prints : (p : Printing) × Prints p
+  pub transcribes : (f : Transcribing) × MeetsTranscribe f

@@ -1,3 +1,2 @@
-pub mod EqualityLaws
 pub mod BlankLaws
 pub mod Question5Laws

@@ -1,5 +1,5 @@
 // Blank lines.
-use crate::equality;
+use lines::equality;
 ghost use mathlib.Core.Path.{_≡_};
 ghost use mathlib.Core.Bool.{true};
 ghost use mathlib.Core.List.{[], _∷_, _++_};

@@ -1,4 +1,3 @@
 // Question 5: line 1, the lines of the entries and the blank lines of a register.
 mod blanks;
-mod equality;
 pub mod question5;

@@ -1,7 +1,7 @@
 // Question 5.
 use crate::blanks;
-use crate::equality;
 use grids::questions;
+use lines::equality;
 use lines::head::Head;
 ghost use mathlib.Core.Path.{_≡_};
 ghost use mathlib.Core.Bool.{true};

@@ -3,3 +3,4 @@ pub mod Orders
 pub mod Edges
 pub mod Registers
 pub mod Books
+pub mod Transcripts

@@ -28,6 +28,13 @@ pub struct Book {
     pub leaves: Vec<u8>,
 }
 
+/// A run of `planbook`: its input and its output.
+#[derive(Clone, Debug)]
+pub struct Run {
+    pub input: Vec<u8>,
+    pub output: Vec<u8>,
+}
+
 /// The byte strings of question 5.
 pub fn registers() -> Vec<Bytes> {
     let cases = table("Registers", "registers", "answer = ");
@@ -59,6 +66,17 @@ pub fn books() -> Vec<Book> {
         before: text_bytes(field(case, "before")),
         calls: calls(case),
         leaves: text_bytes(field(case, "leaves")),
+    };
+    cases.iter().map(read).collect()
+}
+
+/// The runs of `planbook`. Their lines may have tabs.
+pub fn transcripts() -> Vec<Run> {
+    let cases = table("Transcripts", "runs", " input = ");
+    let bytes = |case: &String, name: &str| text_bytes(&field(case, name).replace("\\t", "\t"));
+    let read = |case: &String| Run {
+        input: bytes(case, "input"),
+        output: bytes(case, "output"),
     };
     cases.iter().map(read).collect()
 }

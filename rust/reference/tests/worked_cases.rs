@@ -1,8 +1,9 @@
 //! The worked cases of the definitions, answered by the reference.
 
 use reference::layout::Contents;
+use reference::planbook::transcript;
 use reference::register::{open, Answer};
-use reference::worked_cases::{books, openings, registers};
+use reference::worked_cases::{books, openings, registers, transcripts};
 
 #[test]
 fn question_5_answers_as_the_table_says() {
@@ -32,5 +33,12 @@ fn books_are_kept_as_the_table_says() {
             assert_eq!(call.on_register(&mut register), *answer, "{call:?}");
         }
         assert_eq!(register, book.leaves, "{book:?}");
+    }
+}
+
+#[test]
+fn planbook_prints_what_the_table_says() {
+    for run in transcripts() {
+        assert_eq!(transcript(&run.input), run.output, "{run:?}");
     }
 }

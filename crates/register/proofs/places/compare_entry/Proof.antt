@@ -2,9 +2,9 @@
 use native.Mathlib.Omega.{arith}
 use lib.ListN.{length}
 use borrow.Author.Needs.{needs}
-use Rattle.permutations.proofs.ListLaws.{part-within}
+use Rattle.permutations.proofs.ListLaws.{part-within, part-length}
 use Rattle.machine.proofs.ValidLaws.{valid-sizes, entry-fits}
-use Rattle.register.proofs.PlaceSteps.{part-length, entry-line, entry-length, entry-compared}
+use Rattle.register.proofs.PlaceSteps.{entry-line, entry-length, entry-compared}
 use Rattle.register.proofs.places.compare_entry.Statement.{statement}
 use Rattle.register.proofs.places.compare_entry.Tie as tie
 

@@ -3,7 +3,7 @@ use mathlib.Core.Path.{refl}
 use Prim.Native.Nat.{_-_}
 use native.Mathlib.Omega.{arith}
 use borrow.Author.Needs.{needs}
-use Rattle.validation.proofs.EqualityLaws.{holds, fails}
+use Rattle.lines.proofs.EqualityLaws.{holds, fails}
 use Rattle.validation.proofs.BlankLaws.{BlankTo, start-inside, blank-none, blank-all, line-inside, part-some, blank-next, blank-no}
 use Rattle.validation.proofs.blanks.blanks_laid.Statement.{statement}
 use Rattle.validation.proofs.blanks.blanks_laid.Tie as tie

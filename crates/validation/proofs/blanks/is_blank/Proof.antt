@@ -5,7 +5,7 @@ use native.Mathlib.Omega.{arith}
 use borrow.Author.Needs.{needs}
 use lib.Dec.{eqb}
 use lib.ListN.{getD}
-use Rattle.validation.proofs.EqualityLaws.{EqualTo, equal-none, equal-next, equal-blank}
+use Rattle.lines.proofs.EqualityLaws.{EqualTo, equal-none, equal-next, equal-blank}
 use Rattle.validation.proofs.blanks.is_blank.Statement.{statement}
 use Rattle.validation.proofs.blanks.is_blank.Tie as tie
 

@@ -3,7 +3,7 @@ use mathlib.Core.Path.{refl, sym, _∙_}
 use native.Mathlib.Omega.{arith}
 use borrow.Author.Needs.{needs}
 use Rattle.grids.proofs.QuestionLaws.{limits-decide}
-use Rattle.validation.proofs.EqualityLaws.{fails}
+use Rattle.lines.proofs.EqualityLaws.{fails}
 use Rattle.validation.proofs.question5.within_limits.Statement.{statement}
 use Rattle.validation.proofs.question5.within_limits.Tie as tie
 

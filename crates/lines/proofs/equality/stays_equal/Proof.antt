@@ -1,7 +1,7 @@
 -- `stays_equal` meets its contract.
 use borrow.Author.Tests.{eq-eqb, ne-eqb}
-use Rattle.validation.proofs.equality.stays_equal.Statement.{statement}
-use Rattle.validation.proofs.equality.stays_equal.Tie as tie
+use Rattle.lines.proofs.equality.stays_equal.Statement.{statement}
+use Rattle.lines.proofs.equality.stays_equal.Tie as tie
 
 returns : tie.Need-returns
 returns c = rw (ne-eqb (c .before .args .x) (c .before .args .y) (c .if1 .taken))

@@ -5,9 +5,9 @@ use Prim.Native.Nat.{_≤_, _-_}
 use native.Mathlib.Omega.{arith}
 use borrow.Author.Needs.{needs}
 use lib.ListN.{length, getD}
-use Rattle.validation.proofs.EqualityLaws.{EqualTo, equal-none, equal-next, equal-start}
-use Rattle.validation.proofs.equality.begins_with.Statement.{statement}
-use Rattle.validation.proofs.equality.begins_with.Tie as tie
+use Rattle.lines.proofs.EqualityLaws.{EqualTo, equal-none, equal-next, equal-start}
+use Rattle.lines.proofs.equality.begins_with.Statement.{statement}
+use Rattle.lines.proofs.equality.begins_with.Tie as tie
 
 abbrev Inv-loop : tie.InvT-loop
 Inv-loop bytes start equal₀ k₀ equal k = (k ≤ length start) × EqualTo bytes (λ i. getD start i 0) true k equal

@@ -1,0 +1,5 @@
+pub mod Input
+pub mod Commands
+pub mod Transcript
+pub mod Programs
+pub mod Demand3

@@ -1,0 +1,1 @@
+// No code: what planbook reads and prints, for the crates above.

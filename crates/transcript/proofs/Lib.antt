@@ -1,0 +1,9 @@
+pub mod FieldLaws
+pub mod PartLaws
+pub mod CommandLaws
+pub mod CallSteps
+pub mod InputSteps
+pub mod ReportSteps
+pub mod StartSteps
+pub mod AnswerSteps
+pub mod RunSteps

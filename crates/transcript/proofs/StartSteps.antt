@@ -1,0 +1,230 @@
+-- What is asked before any command, as the code goes about it.
+--
+--   shape-written    ==  four fields, written one after another, and a line feed are line 1
+--   line-decides     ==  a comparison with line 1 so written, of the numbers that the input states there
+--   Unfed l          ==  no byte of l is a line feed
+--   unfed-fields     ==  none is in numbers laid in fields
+--   first-fed        ==  bytes without one and a line feed behind them are the first line
+--   first-joined     ==  the first line and the further ones, put one after another, are the bytes
+--   shape-whole, shape-lines  ==  an input that begins with line 1 of some numbers has its 25 bytes, and they are its first line
+--   shape-told       ==  question 12 gets a yes exactly if the input begins with line 1 of the numbers that it states there
+--   shape-states     ==  then these are the numbers that line 1 states
+--   rest-lines       ==  where each check gets a yes, the further lines begin behind the first 25 bytes
+--   LineRead input m n top capacity  ==  the input is short enough, line 1 is laid, and these are its numbers
+--   line-read        ==  what the code knows of it then
+--   long-refused, short-refused, line-refused, numbers-refused, length-refused  ==  the ways out with a no: 11, 12, 12, 1 to 4, 13
+--   start-made       ==  the way out with a yes
+use mathlib.Core.Path.{_≡_, refl, sym, ap, _∙_}
+use mathlib.Core.List.{List, [], _∷_, _++_, flatten, append-assoc, append-nil}
+use mathlib.Core.Bool.{Bool, true, false, true≢false, not}
+use mathlib.Core.Logic.{_↔_}
+use Prim.Native.Nat.{ℕ, zero, suc, _+_, _-_, _*_, _/_, _%_, _≤_, _<_}
+use native.Mathlib.Omega.{arith}
+use lib.ListN.{length, getD, take, drop, set, length-append, take-append-drop}
+use lib.Seq.{take-at, take-take}
+use borrow.Author.Tests.{ne-eqb, not-true, not-false}
+use Rattle.permutations.specs.Lists.{All}
+use Rattle.permutations.proofs.BoolLaws.{refuted}
+use Rattle.permutations.proofs.ListLaws.{all-append}
+use Rattle.grids.proofs.OrderLaws.{equal-eq, eq-equal}
+use Rattle.layout.specs.Decimal.{lead, field}
+use Rattle.layout.specs.Layout.{Shape, lineLength, fields, layoutLength, numberAt, decodeShape, InLimits}
+use Rattle.layout.proofs.LayoutLaws.{length-fields}
+use Rattle.layout.proofs.LineLaws.{drop-take}
+use Rattle.lines.specs.Head.{withField}
+use Rattle.lines.proofs.FillLaws.{fill-none, fill, filled-whole}
+use Rattle.lines.proofs.HeadLaws.{fill-field}
+use Rattle.machine.specs.Valid.{shape, numbersNo}
+use Rattle.register.proofs.OpenSteps.{numbers-limits, length-is}
+use Rattle.protocol.specs.Input.{onto, lines, firstLine, furtherLines, shapeLine}
+use Rattle.protocol.specs.Transcript.{shapeIn, question12, startNo}
+use Rattle.protocol.proofs.InputLaws.{lines-joined, shape-length}
+use Rattle.protocol.proofs.RunLaws.{over-limit, start-line, start-numbers, start-length, start-pass}
+use Rattle.transcript.specs.declared.starts.Start.{Start}
+use Rattle.transcript.specs.Starts.{Starts}
+
+-- ---- line 1 is written
+
+length-shape : (s : Shape) → length (shapeLine s) ≡ 25
+unfolding shapeLine
+length-shape s =
+    let l = s .rows ∷ s .columns ∷ s .top ∷ s .capacity ∷ [] in
+    length-append (fields 6 l) (10 ∷ []) ∙ omega (arith, length-fields 6 l)
+
+pub shape-written : (l : List ℕ) {o p q r : List ℕ} (s : Shape) → length l ≡ 25 → o ≡ withField 0 (s .rows) l → p ≡ withField 6 (s .columns) o → q ≡ withField 12 (s .top) p →
+    r ≡ withField 18 (s .capacity) q → set r 24 10 ≡ shapeLine s
+unfolding shapeLine fields flatten
+shape-written l s z a b c d =
+    let f = fill-field (s .rows) (fill-none l) (omega arith) in
+    let g = fill-field (s .columns) f (omega arith) in
+    let h = fill-field (s .top) g (omega arith) in
+    let i = fill-field (s .capacity) h (omega arith) in
+    rw (d, c, b, a) (filled-whole _ (fill _ 10 i (omega arith) refl) (simp (append-assoc, append-nil)) (omega arith))
+
+pub line-decides : (input l : List ℕ) {o p q r : List ℕ} {m n top capacity : ℕ} {t : Bool} → length l ≡ 25 → m ≡ numberAt 6 0 input → n ≡ numberAt 6 6 input → top ≡ numberAt 6 12 input → capacity ≡ numberAt 6 18 input →
+    o ≡ withField 0 m l → p ≡ withField 6 n o → q ≡ withField 12 top p → r ≡ withField 18 capacity q → (t ≡ true) ↔ (take (length (set r 24 10)) input ≡ set r 24 10) →
+    (t ≡ true) ↔ (take 25 input ≡ shapeLine (decodeShape input))
+unfolding decodeShape
+line-decides input l z e f g h a b c d k =
+    let w = shape-written l (decodeShape input) z (rw e at a) (rw f at b) (rw g at c) (rw h at d) in
+    rw (w, length-shape (decodeShape input)) at k
+
+-- ---- the first line of bytes
+
+abbrev Unfed : List ℕ → Type 0
+Unfed l = All (λ b. b ≡ 10 → ⊥) l
+
+unfed-append : (k l : List ℕ) → Unfed k → Unfed l → Unfed (k ++ l)
+unfed-append k l g h = all-append (λ b. b ≡ 10 → ⊥) k l g h
+
+unfed-lead : (w x : ℕ) → Unfed (lead w x)
+unfolding lead
+unfed-lead zero x = tt
+unfed-lead (suc w) zero = unfed-append (lead w zero) (32 ∷ []) (unfed-lead w zero) (λ e. omega arith, tt)
+unfed-lead (suc w) (suc x) = unfed-append (lead w (suc x / 10)) ((48 + suc x % 10) ∷ []) (unfed-lead w (suc x / 10)) (λ e. omega arith, tt)
+
+unfed-field : (w x : ℕ) → Unfed (field w x)
+unfolding field
+unfed-field zero x = tt
+unfed-field (suc w) x = unfed-append (lead w (x / 10)) ((48 + x % 10) ∷ []) (unfed-lead w (x / 10)) (λ e. omega arith, tt)
+
+unfed-fields : (w : ℕ) (l : List ℕ) → Unfed (fields w l)
+unfolding fields flatten
+unfed-fields w [] = tt
+unfed-fields w (x ∷ l) = unfed-append (field w x) (fields w l) (unfed-field w x) (unfed-fields w l)
+
+first-fed : (l rest : List ℕ) → Unfed l → lines (l ++ (10 ∷ rest)) ≡ (l ++ (10 ∷ [])) ∷ lines rest
+unfolding lines onto
+first-fed [] rest h = refl
+first-fed (b ∷ l) rest h = rw (ne-eqb b 10 (h .0), lines) (ap (onto b) (first-fed l rest (h .1)))
+
+first-joined : (input : List ℕ) → firstLine input ++ flatten (furtherLines input) ≡ input
+unfolding firstLine furtherLines flatten
+first-joined input = go (lines input) ∙ lines-joined input
+  where
+    go : (ls : List (List ℕ)) → getD ls 0 [] ++ flatten (drop 1 ls) ≡ flatten ls
+    go [] = refl
+    go (l ∷ ls) = refl
+
+-- ---- line 1 of the input
+
+number-front : (i n : ℕ) (b : List ℕ) → i + 6 ≤ n → numberAt 6 i (take n b) ≡ numberAt 6 i b
+unfolding numberAt
+number-front i n b h = rw (drop-take i n b, take-take 6 (n - i) (drop i b) (omega arith)) refl
+
+front-states : (b : List ℕ) → decodeShape (take 25 b) ≡ decodeShape b
+unfolding decodeShape
+front-states b = λ i. record {
+  rows = number-front 0 25 b (omega arith) i;
+  columns = number-front 6 25 b (omega arith) i;
+  top = number-front 12 25 b (omega arith) i;
+  capacity = number-front 18 25 b (omega arith) i;
+}
+
+module _ (input : List ℕ) (s : Shape) (e : take 25 input ≡ shapeLine s) where
+  shape-whole : 25 ≤ length input
+  shape-whole = omega (arith, ap length e, length-shape s, simp length-append at (ap length (take-append-drop 25 input)))
+
+  shape-lines : lines input ≡ shapeLine s ∷ lines (drop 25 input)
+  unfolding shapeLine
+  shape-lines =
+      let l = fields 6 (s .rows ∷ s .columns ∷ s .top ∷ s .capacity ∷ []) in
+      let w : input ≡ l ++ (10 ∷ drop 25 input) = sym (take-append-drop 25 input) ∙ rw e (append-assoc l (10 ∷ []) (drop 25 input)) in
+      ap lines w ∙ first-fed l (drop 25 input) (unfed-fields 6 _)
+
+  first-is : firstLine input ≡ shapeLine s
+  unfolding firstLine
+  first-is = rw shape-lines refl
+
+  rest-is : lines (drop 25 input) ≡ furtherLines input
+  unfolding furtherLines
+  rest-is = rw shape-lines refl
+
+pub shape-states : (input : List ℕ) → take 25 input ≡ shapeLine (decodeShape input) → shapeIn input ≡ decodeShape input
+unfolding shapeIn
+shape-states input e = ap decodeShape (first-is input (decodeShape input) e ∙ sym e) ∙ front-states input
+
+pub shape-told : (input : List ℕ) → (question12 input .answer ≡ true) ↔ (take 25 input ≡ shapeLine (decodeShape input))
+unfolding question12 shapeIn
+shape-told input = (to, back)
+  where
+    front : (f g : List ℕ) → f ++ g ≡ input → length f ≡ 25 → take 25 input ≡ f
+    front f g e z = rw (← e) (take-at f g 25 z)
+
+    to : question12 input .answer ≡ true → take 25 input ≡ shapeLine (decodeShape input)
+    to e =
+        let t = front (firstLine input) (flatten (furtherLines input)) (first-joined input) (shape-length input e) in
+        t ∙ sym (equal-eq (shapeLine (shapeIn input)) (firstLine input) e) ∙ ap shapeLine (ap decodeShape (sym t) ∙ front-states input)
+
+    back : take 25 input ≡ shapeLine (decodeShape input) → question12 input .answer ≡ true
+    back e = eq-equal (shapeLine (shapeIn input)) (firstLine input) (ap shapeLine (shape-states input e) ∙ sym (first-is input (decodeShape input) e))
+
+pub rest-lines : (input : List ℕ) → startNo input ≡ 0 → (25 ≤ length input) × (lines (drop 25 input) ≡ furtherLines input)
+rest-lines input e =
+    let l = shape-told input .0 (start-pass input .0 e .line-laid) in
+    (shape-whole input (decodeShape input) l, rest-is input (decodeShape input) l)
+
+-- ---- the ways out
+
+refused : (input : List ℕ) {k : ℕ} → startNo input ≡ k → (k ≡ 0 → ⊥) → {r : Start} → r .number ≡ k → Starts input r
+refused input e n p = record { number-is = p ∙ sym e; shape-is = λ z. absurd (n (sym p ∙ z)); length-is = λ z. absurd (n (sym p ∙ z)) }
+
+module _ (input : List ℕ) where
+  pub long-refused : 65536 < length input → {r : Start} → r .number ≡ 11 → Starts input r
+  long-refused h p = refused input (over-limit input h) (λ z. omega arith) p
+
+  module _ (short : length input ≤ 65536) where
+    unlaid : (take 25 input ≡ shapeLine (decodeShape input) → ⊥) → {r : Start} → r .number ≡ 12 → Starts input r
+    unlaid n p = refused input (start-line input short (refuted (question12 input .answer) (shape-told input) n)) (λ z. omega arith) p
+
+    pub short-refused : length input < 25 → {r : Start} → r .number ≡ 12 → Starts input r
+    short-refused h p = unlaid (λ e. omega (arith, shape-whole input (decodeShape input) e)) p
+
+    pub line-refused : {t : Bool} → (t ≡ true) ↔ (take 25 input ≡ shapeLine (decodeShape input)) → not t ≡ true → {r : Start} → r .number ≡ 12 → Starts input r
+    line-refused {t} d n p = unlaid (λ e. true≢false (sym (d .1 e) ∙ not-true t n)) p
+
+pub record LineRead (input : List ℕ) (m n top capacity : ℕ) : Type 0 where
+  pub short : length input ≤ 65536
+  pub laid : take 25 input ≡ shapeLine (decodeShape input)
+  pub rows-read : m ≡ numberAt 6 0 input
+  pub columns-read : n ≡ numberAt 6 6 input
+  pub top-read : top ≡ numberAt 6 12 input
+  pub capacity-read : capacity ≡ numberAt 6 18 input
+
+module _ {input : List ℕ} {m n top capacity : ℕ} where
+  pub line-read : {t : Bool} → length input ≤ 65536 → (t ≡ true) ↔ (take 25 input ≡ shapeLine (decodeShape input)) → not t ≡ false → m ≡ numberAt 6 0 input → n ≡ numberAt 6 6 input → top ≡ numberAt 6 12 input →
+      capacity ≡ numberAt 6 18 input → LineRead input m n top capacity
+  line-read {t} s d l a b c e = record { short = s; laid = d .0 (not-false t l); rows-read = a; columns-read = b; top-read = c; capacity-read = e }
+
+  module _ (o : LineRead input m n top capacity) where
+    states : shape m n top capacity ≡ shapeIn input
+    unfolding decodeShape
+    states = (λ i. record { rows = o .rows-read i; columns = o .columns-read i; top = o .top-read i; capacity = o .capacity-read i }) ∙ sym (shape-states input (o .laid))
+
+    line-yes : question12 input .answer ≡ true
+    line-yes = shape-told input .1 (o .laid)
+
+    module _ {k : ℕ} (e : k ≡ numbersNo (shape m n top capacity)) where
+      pub numbers-refused : (k ≡ 0 → ⊥) → {r : Start} → r .number ≡ k → Starts input r
+      numbers-refused h p = refused input (go k (sym (rw states at e)) h) h p
+        where
+          go : (k : ℕ) → numbersNo (shapeIn input) ≡ k → (k ≡ 0 → ⊥) → startNo input ≡ k
+          go zero d n = absurd (n refl)
+          go (suc k) d n = start-numbers input (o .short) line-yes k d
+
+      module _ (z : k ≡ 0) {w : ℕ} (q : w ≡ lineLength (m * n)) where
+        within : InLimits (shapeIn input)
+        within = rw states at (numbers-limits (shape m n top capacity) e z)
+
+        sized : layoutLength (shapeIn input) ≡ 31 + capacity * w
+        sized = rw (← states) (length-is m n top capacity q)
+
+        pub length-refused : 65536 < 31 + capacity * w → {r : Start} → r .number ≡ 13 → Starts input r
+        length-refused h p = refused input (start-length input (o .short) line-yes within (omega (arith, sized))) (λ d. omega arith) p
+
+        pub start-made : 31 + capacity * w ≤ 65536 → Starts input (record { number = 0; rows = m; columns = n; top = top; capacity = capacity; length = 31 + capacity * w })
+        start-made h = record {
+          number-is = sym (start-pass input .1 (record { input-short = o .short; line-laid = line-yes; limits = within; register-short = omega (arith, sized) }));
+          shape-is = λ d. states;
+          length-is = λ d. sym sized;
+        }

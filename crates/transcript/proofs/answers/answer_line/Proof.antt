@@ -1,0 +1,61 @@
+-- `answer_line` meets its contract: the line is not laid, or its call is made.
+use mathlib.Core.Path.{_∙_}
+use native.Mathlib.Omega.{arith}
+use borrow.Author.Needs.{needs}
+use Rattle.permutations.proofs.ListLaws.{part-length}
+use Rattle.transcript.proofs.CallSteps.{answer-malformed, answer-called}
+use Rattle.transcript.proofs.answers.answer_line.Statement.{statement}
+use Rattle.transcript.proofs.answers.answer_line.Tie as tie
+
+slice-aggregate-read-command : tie.Need-slice-aggregate-read-command
+slice-aggregate-read-command c = search needs
+
+read-command-requires : tie.Need-read-command-requires
+read-command-requires c κs = search needs
+
+returns : tie.Need-returns
+returns c =
+    let a = c .before .before .before .before .before .before in
+    answer-malformed (c .before .before .read-command .ensures) (a .args .register .now) (c .if1 .taken)
+
+cell-count-requires : tie.Need-cell-count-requires
+cell-count-requires c κs = search needs
+
+sub-make-call : tie.Need-sub-make-call
+sub-make-call c = search needs
+
+part-make-call-start : tie.Need-part-make-call-start
+part-make-call-start c = search needs
+
+part-make-call-end : tie.Need-part-make-call-end
+part-make-call-end c = search needs
+
+make-call-requires : tie.Need-make-call-requires
+make-call-requires c κs =
+    let a = c .before .before .before .before .before .before .before .before .before .before in
+    let r = c .before .before .before .before .before .before .read-command in
+    let n = c .before .before .before .cell-count in
+    (a .pre, omega arith, r .ensures .small, part-length (r .last .1 .1 .0) (n .result) (omega (arith, r .ensures .kept, n .ensures .1)) ∙ n .ensures .0)
+
+same-length : tie.Need-same-length
+same-length c = search needs
+
+returns-2 : tie.Need-returns-2
+returns-2 c =
+    let a = c .before .before .before .before .before .before .before .before .before .before .before .before .before in
+    answer-called (c .before .before .before .before .before .before .before .before .before .read-command .ensures) (a .args .register .now) (c .before .before .before .before .before .before .before .if1 .left) (c .before .before .before .before .before .before .cell-count .ensures .0) (c .before .before .make-call .ensures)
+
+pub answer-line-spec : {M : Type 1} → statement M
+answer-line-spec =
+    tie.close
+    (tie.spec
+    slice-aggregate-read-command
+    read-command-requires
+    returns
+    cell-count-requires
+    sub-make-call
+    part-make-call-start
+    part-make-call-end
+    make-call-requires
+    same-length
+    returns-2)

@@ -1,0 +1,87 @@
+-- `fit_parted` meets its contract: the cells are parted into arrays, and their first elements are the bounds of the call.
+use mathlib.Core.Path.{ap, _∙_}
+use native.Mathlib.Omega.{arith}
+use borrow.Author.Needs.{needs}
+use Rattle.permutations.proofs.ListLaws.{part-within, part-length}
+use Rattle.machine.specs.CallLists.{registerCalls, called}
+use Rattle.transcript.proofs.CallSteps.{fit-parts}
+use Rattle.transcript.proofs.commands.fit_parted.Statement.{statement}
+use Rattle.transcript.proofs.commands.fit_parted.Tie as tie
+
+sub-part : tie.Need-sub-part
+sub-part c = search needs
+
+part-low-start : tie.Need-part-low-start
+part-low-start c = search needs
+
+part-low-end : tie.Need-part-low-end
+part-low-end c = search needs
+
+sub-part-2 : tie.Need-sub-part-2
+sub-part-2 c = search needs
+
+part-high-start : tie.Need-part-high-start
+part-high-start c = search needs
+
+part-high-end : tie.Need-part-high-end
+part-high-end c = search needs
+
+part-requires : tie.Need-part-requires
+part-requires c κs = search needs
+
+sub-call : tie.Need-sub-call
+sub-call c = search needs
+
+part-call-start : tie.Need-part-call-start
+part-call-start c = search needs
+
+part-call-end : tie.Need-part-call-end
+part-call-end c =
+    let a = c .before .before .before .before .before .before .before .before .before in
+    let d = c .before .before .before .before .part in
+    part-within (d .last .1 .0) _ (a .args .size) (d .kept .1 .0 ∙ part-length _ (a .args .size) (omega arith))
+
+sub-call-2 : tie.Need-sub-call-2
+sub-call-2 c = search needs
+
+part-call-start-2 : tie.Need-part-call-start-2
+part-call-start-2 c = search needs
+
+part-call-end-2 : tie.Need-part-call-end-2
+part-call-end-2 c =
+    let a = c .before .before .before .before .before .before .before .before .before .before .before in
+    let d = c .before .before .before .before .before .before .part in
+    part-within (d .last .1 .1 .0) _ (a .args .size) (d .kept .1 .1 .0 ∙ part-length _ (a .args .size) (omega arith))
+
+call-requires : tie.Need-call-requires
+call-requires c κs = search needs
+
+same-length : tie.Need-same-length
+same-length c = search needs
+
+returns : tie.Need-returns
+returns c =
+    let a = c .before .before .before .before .before .before .before .before .before .before .before .before .before .before .before in
+    let d = c .before .before .before .before .before .before .before .before .before .before .part in
+    c .before .before .call .ensures ∙ ap (called registerCalls (a .args .register .now)) (fit-parts (a .args .size) (a .args .cells .now) _ (d .last .1 .0) (d .last .1 .1 .0) (omega arith) (d .ensures) _ _)
+
+pub fit-parted-spec : {M : Type 1} → statement M
+fit-parted-spec =
+    tie.close
+    (tie.spec
+    sub-part
+    part-low-start
+    part-low-end
+    sub-part-2
+    part-high-start
+    part-high-end
+    part-requires
+    sub-call
+    part-call-start
+    part-call-end
+    sub-call-2
+    part-call-start-2
+    part-call-end-2
+    call-requires
+    same-length
+    returns)

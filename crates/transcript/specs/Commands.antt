@@ -1,0 +1,23 @@
+-- Command lines as the code reads them.
+--
+--   ReadsCommand size line cells r  ==  r is the command of a line that is laid as it should be, and its cells are in front; 0 for another line
+--   Parts c size low high  ==  the bounds that the cells c hold in turn
+use mathlib.Core.Path.{_≡_}
+use mathlib.Core.List.{List}
+use mathlib.Core.Bool.{true, false}
+use Prim.Native.Nat.{ℕ, _≤_}
+use lib.ListN.{length, take}
+use Rattle.protocol.specs.Input.{cellCount, commandIn, cellsIn, isLaid}
+use Rattle.protocol.specs.Commands.{lows, highs}
+
+pub record ReadsCommand (size : ℕ) (line cells : List ℕ) (r : ℕ) : Type 0 where
+  pub malformed : r ≡ 0 → isLaid size line ≡ false
+  pub laid : (r ≡ 0 → ⊥) → isLaid size line ≡ true
+  pub command-is : (r ≡ 0 → ⊥) → r ≡ commandIn line
+  pub cells-are : (r ≡ 0 → ⊥) → take (cellCount size r) cells ≡ cellsIn size line
+  pub kept : length cells ≡ 256
+  pub small : r ≤ 3
+
+pub record Parts (c : List ℕ) (size : ℕ) (low high : List ℕ) : Type 0 where
+  pub low-is : low ≡ lows size c
+  pub high-is : high ≡ highs size c

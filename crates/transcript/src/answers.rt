@@ -1,0 +1,50 @@
+// The lines that are printed for command lines.
+use crate::commands;
+use crate::input::line_end;
+use crate::reports;
+use crate::reports::Report;
+ghost use mathlib.Core.Path.{_≡_};
+ghost use Prim.Native.Nat.{_≤_};
+ghost use lib.ListN.{length};
+ghost use Rattle.transcript.specs.Answers.{Answers, Answered, Runs};
+
+// Makes the call of a command line, unless the line is not laid as it should be.
+fn answer_line(line: &[u8], size: usize, register: &mut [u8]) -> Report
+    requires { ⌜ size ≤ 128 ⌝ }
+    ensures { λ r. ⌜ Answers size (now (line .entry)) (now (register .entry)) (now (register .exit)) r ⌝ }
+{
+    let mut cells = [0u8; 256];
+    let command = commands::read_command(line, size, &mut cells);
+    if command == 0 {
+        return Report {
+            command: 0,
+            number: 12,
+            place: 0,
+        };
+    }
+    let count = commands::cell_count(size, command);
+    let placed = commands::make_call(register, size, command, &cells[0..count]);
+    Report {
+        command,
+        number: placed.number,
+        place: placed.place,
+    }
+}
+
+// Answers the lines of the input from the second on, and writes what is printed for them over the first bytes of a slice. Returns
+// how many bytes that is.
+pub fn answer_lines(input: &[u8], size: usize, register: &mut [u8], out: &mut [u8]) -> usize
+    requires { ⌜ Runs (now input) size (now register) (now out) ⌝ }
+    ensures { λ r. ⌜ Answered (now (input .entry)) (now (register .exit)) (now (out .entry)) (now (out .exit)) r ⌝ }
+{
+    let mut at = 25;
+    let mut printed = 0;
+    while at < input.len() {
+        let end = line_end(input, at);
+        let report = answer_line(&input[at..end], size, register);
+        reports::write_report(&mut out[printed..], report);
+        printed += 19;
+        at = end;
+    }
+    printed
+}

@@ -1,0 +1,95 @@
+// Command lines.
+use crate::fields;
+use lines::numbers;
+use register::answers::Placed;
+use register::calling;
+use register::calling::Command;
+ghost use mathlib.Core.Path.{_≡_};
+ghost use Prim.Native.Nat.{_*_, _≤_};
+ghost use lib.ListN.{length};
+ghost use Rattle.machine.specs.CallLists.{registerCalls, called};
+ghost use Rattle.machine.specs.Valid.{placed};
+ghost use Rattle.protocol.specs.Input.{cellCount};
+ghost use Rattle.protocol.specs.Commands.{callOf};
+ghost use Rattle.transcript.specs.Commands.{ReadsCommand, Parts};
+
+// How many cells a command has, of grids with so many.
+pub fn cell_count(size: usize, command: usize) -> usize
+    requires { ⌜ size ≤ 128 ⌝ }
+    ensures { λ r. ⌜ (r ≡ cellCount size command) × (r ≤ 256) ⌝ }
+{
+    if command == 3 {
+        return 2 * size;
+    }
+    size
+}
+
+// The command of a line, with its cells written to the front of a slice; 0 where the line is not laid as it should be.
+pub fn read_command(line: &[u8], size: usize, cells: &mut [u8]) -> usize
+    requires { ⌜ (size ≤ 128) × (length (now cells) ≡ 256) ⌝ }
+    ensures { λ r. ⌜ ReadsCommand size (now (line .entry)) (now (cells .exit)) r ⌝ }
+{
+    if line.len() < 6 {
+        return 0;
+    }
+    let command = numbers::six_wide(line, 0);
+    if command < 1 {
+        return 0;
+    }
+    if 3 < command {
+        return 0;
+    }
+    let count = cell_count(size, command);
+    let end = 6 + 3 * count;
+    if line.len() != end + 1 {
+        return 0;
+    }
+    if line[end] != 10 {
+        return 0;
+    }
+    if !fields::is_field(&line[0..6], command) {
+        return 0;
+    }
+    if !fields::read_cells(&line[6..end], &mut cells[0..count]) {
+        return 0;
+    }
+    command
+}
+
+// Parts cells that hold low and high in turn.
+fn part(cells: &[u8], low: &mut [u8], high: &mut [u8])
+    requires { ⌜ (length (now low) ≤ 128) × (length (now high) ≡ length (now low)) × (length (now cells) ≡ 2 * length (now low)) ⌝ }
+    ensures { λ _. ⌜ Parts (now (cells .entry)) (length (now (low .entry))) (now (low .exit)) (now (high .exit)) ⌝ }
+{
+    let mut i = 0;
+    while i < low.len() {
+        low[i] = cells[2 * i];
+        high[i] = cells[2 * i + 1];
+        i += 1;
+    }
+}
+
+// Makes the call fit of cells that hold low and high in turn.
+fn fit_parted(register: &mut [u8], size: usize, cells: &[u8]) -> Placed
+    requires { ⌜ (size ≤ 128) × (length (now cells) ≡ 2 * size) ⌝ }
+    ensures { λ r. ⌜ placed (r .number) (r .place) (now (register .exit)) ≡ called registerCalls (now (register .entry)) (callOf size 3 (now (cells .entry))) ⌝ }
+{
+    let mut low = [0u8; 128];
+    let mut high = [0u8; 128];
+    part(cells, &mut low[0..size], &mut high[0..size]);
+    calling::call(register, Command::Fit, &low[0..size], &high[0..size])
+}
+
+// Makes the call of a command with its cells.
+pub fn make_call(register: &mut [u8], size: usize, command: usize, cells: &[u8]) -> Placed
+    requires { ⌜ (size ≤ 128) × (1 ≤ command) × (command ≤ 3) × (length (now cells) ≡ cellCount size command) ⌝ }
+    ensures { λ r. ⌜ placed (r .number) (r .place) (now (register .exit)) ≡ called registerCalls (now (register .entry)) (callOf size command (now (cells .entry))) ⌝ }
+{
+    if command == 1 {
+        return calling::call(register, Command::Enter, cells, cells);
+    }
+    if command == 2 {
+        return calling::call(register, Command::Strike, cells, cells);
+    }
+    fit_parted(register, size, cells)
+}

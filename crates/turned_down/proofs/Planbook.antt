@@ -1,0 +1,267 @@
+-- Faulty programs for planbook do not print what it prints.
+--
+--   large, nine           ==  shapes whose register is too large; the second has 9 rows too
+--   bare                  ==  an input without command lines, for a shape of one cell
+--   blank                 ==  the same input with an empty line
+--   aboveLine, above      ==  a line that enters a cell above top, and that input with it
+--   unendedLine, unended  ==  a line that lacks only its line feed, and that input with it
+--   long                  ==  an input of 65,537 bytes
+--   Computed, computed    ==  what the definitions give
+--   lentRegister, lentOut ==  slices that are large enough
+--   length-register, length-out, roomy  ==  their lengths, and that they are
+--   long-no, long-printed ==  it gets 11, and its line is all that is printed
+--   The other names are those of the faults.
+use mathlib.Core.Path.{_≡_, refl, sym, ap, _∙_}
+use mathlib.Core.List.{List, [], _∷_, _++_, flatten}
+use mathlib.Core.Bool.{true, false, true≢false}
+use Prim.Native.Nat.{ℕ, _<_}
+use native.Mathlib.Omega.{arith}
+use lib.ListN.{length, take, drop, replicate, length-replicate, length-drop}
+use lib.Dec.{leb}
+use borrow.Author.Tests.{le-leb}
+use Rattle.permutations.proofs.BoolLaws.{yes-and}
+use Rattle.permutations.specs.Lists.{tabulate, every}
+use Rattle.grids.specs.Order.{equal}
+use Rattle.grids.specs.Grids.{capped}
+use Rattle.grids.specs.Questions.{firstNo, inRange, question1, question2, question3, question6, question7}
+use Rattle.layout.specs.Decimal.{lead, field, digit, valueFrom, value}
+use Rattle.layout.specs.Layout.{Shape, fields, entryWidth, lineLength, headLine, layout, layoutLength, numberAt, decodeShape, laidOut}
+use Rattle.layout.specs.Lines.{cellsOf}
+use Rattle.machine.specs.Calls.{question4, gridQuestions}
+use Rattle.machine.specs.CallLists.{accepted}
+use Rattle.machine.specs.Machine.{shown, stepUnless, step}
+use Rattle.protocol.specs.Input.{onto, lines, firstLine, furtherLines, shapeLine, commandLine, cellCount, commandIn, cellsIn, isLaid}
+use Rattle.protocol.specs.Commands.{callOf, report, answerCall, malformed, answer}
+use Rattle.protocol.specs.Transcript.{byteLimit, shapeIn, question11, question12, question13, startQuestions, startNo, reports, setAfter, bookFrom, printedFrom, transcript}
+use Rattle.protocol.specs.Programs.{Prints, outputLimit, Transcribed, hasRoom, transcribed, MeetsTranscribe}
+use Rattle.protocol.proofs.RunLaws.{over-limit, start-refused, transcribed-rest}
+use Rattle.turned_down.specs.PlanbookFaults.{laidIn, cellsOn, firstStep, GoesOnAfter13, PrintsRegisterAfter11, EndsAtMalformed, PrintsUnderZero, MalformedReaches, RefusesCellsAsMalformed, AsksLengthFirst, SilentWithoutCommands, TakesUnended, CountsWithoutRoom, ClearsRest}
+use Rattle.turned_down.specs.TurnedDown.{fault, Turned}
+use Rattle.turned_down.proofs.Differences.{unequal}
+use Rattle.turned_down.proofs.RegisterCases.{cell}
+use Rattle.turned_down.proofs.RegisterCases as cases
+
+abbrev large : Shape
+large = record { rows = 8; columns = 16; top = 15; capacity = 500 }
+
+abbrev nine : Shape
+nine = record { rows = 9; columns = 16; top = 15; capacity = 500 }
+
+abbrev bare : List ℕ
+bare = shapeLine cell
+
+abbrev blank : List ℕ
+blank = bare ++ (10 ∷ [])
+
+abbrev aboveLine : List ℕ
+aboveLine = commandLine 1 (2 ∷ [])
+
+abbrev above : List ℕ
+above = bare ++ aboveLine
+
+abbrev unendedLine : List ℕ
+unendedLine = field 6 1 ++ field 3 0
+
+abbrev unended : List ℕ
+unended = bare ++ unendedLine
+
+long : List ℕ
+long = replicate 65537 32
+
+record Computed : Type 0 where
+  none-printed : length (transcript []) ≡ 19
+  large-no : startNo (shapeLine large) ≡ 13
+  large-printed : length (transcript (shapeLine large)) ≡ 19
+  nine-length : length (shapeLine nine) ≡ 25
+  nine-laid : question12 (shapeLine nine) .answer ≡ true
+  nine-register : layoutLength (shapeIn (shapeLine nine)) ≡ 216531
+  nine-printed : equal (report 0 13 0) (transcript (shapeLine nine)) ≡ false
+  bare-no : startNo bare ≡ 0
+  bare-lines : furtherLines bare ≡ []
+  bare-printed : equal [] (transcript bare) ≡ false
+  blank-no : startNo blank ≡ 0
+  blank-lines : furtherLines blank ≡ (10 ∷ []) ∷ []
+  blank-unlaid : laidIn blank (10 ∷ []) ≡ false
+  blank-printed : equal (report 0 12 0) (transcript blank) ≡ false
+  blank-register : drop 19 (transcript blank) ≡ shown (shapeIn blank) []
+  above-no : startNo above ≡ 0
+  above-lines : furtherLines above ≡ aboveLine ∷ []
+  above-laid : laidIn above aboveLine ≡ true
+  above-refused : accepted (firstStep above aboveLine .number) ≡ false
+  above-top : capped (shapeIn above .top) (cellsOn above aboveLine) ≡ false
+  above-command : equal (field 6 0) (take 6 (transcript above)) ≡ false
+  above-printed : equal (report 0 12 0) (take 19 (transcript above)) ≡ false
+  unended-no : startNo unended ≡ 0
+  unended-lines : furtherLines unended ≡ unendedLine ∷ []
+  unended-unlaid : laidIn unended unendedLine ≡ false
+  unended-laid : laidIn unended (unendedLine ++ (10 ∷ [])) ≡ true
+  unended-printed : take 19 (transcript unended) ≡ report 0 12 0
+
+computed : Computed
+unfolding tabulate every flatten equal capped firstNo inRange question1 question2 question3 question6 question7 lead field digit valueFrom value fields entryWidth lineLength headLine layout layoutLength numberAt decodeShape cellsOf question4 gridQuestions accepted shown stepUnless step onto lines firstLine furtherLines shapeLine commandLine cellCount commandIn cellsIn isLaid callOf report answerCall malformed answer shapeIn question11 question12 question13 startQuestions startNo reports setAfter bookFrom printedFrom transcript
+computed = record {
+  none-printed = refl;
+  large-no = refl;
+  large-printed = refl;
+  nine-length = refl;
+  nine-laid = refl;
+  nine-register = refl;
+  nine-printed = refl;
+  bare-no = refl;
+  bare-lines = refl;
+  bare-printed = refl;
+  blank-no = refl;
+  blank-lines = refl;
+  blank-unlaid = refl;
+  blank-printed = refl;
+  blank-register = refl;
+  above-no = refl;
+  above-lines = refl;
+  above-laid = refl;
+  above-refused = refl;
+  above-top = refl;
+  above-command = refl;
+  above-printed = refl;
+  unended-no = refl;
+  unended-lines = refl;
+  unended-unlaid = refl;
+  unended-laid = refl;
+  unended-printed = refl;
+}
+
+-- ---- 13 and 11
+
+pub goes-on-after-13 : Turned (fault Prints GoesOnAfter13)
+unfolding Prints GoesOnAfter13
+goes-on-after-13 = record {
+  example = λ input. replicate 20 32;
+  done = λ input z. omega (arith, length-replicate {A = ℕ} 20 32);
+  refused = λ p f d.
+      let more = f (shapeLine large) (computed .large-no) in
+      let e = ap length (d (shapeLine large)) in
+      omega (arith, computed .large-printed);
+}
+
+long-no : startNo long ≡ 11
+unfolding long
+long-no = over-limit long (omega (arith, length-replicate {A = ℕ} 65537 32))
+
+long-printed : transcript long ≡ report 0 11 0
+long-printed = start-refused long 10 long-no .0
+
+pub prints-register-after-11 : Turned (fault Prints PrintsRegisterAfter11)
+unfolding Prints PrintsRegisterAfter11 report fields field lead flatten
+prints-register-after-11 = record {
+  example = λ input. report 0 11 0 ++ shown cell [];
+  done = λ input z. (shown cell [], cases.computed .none-laid, refl);
+  refused = λ p f d.
+      let r = f long long-no in
+      let none = ap (drop 19) (sym long-printed ∙ sym (d long) ∙ r .2) in
+      true≢false (sym (r .1) ∙ ap laidOut (sym none) ∙ cases.computed .nothing-unlaid);
+}
+
+-- ---- command lines
+
+pub ends-at-malformed : Turned (fault Prints EndsAtMalformed)
+unfolding Prints EndsAtMalformed
+ends-at-malformed = record {
+  example = λ input. report 0 12 0;
+  done = λ input l ls z e u. refl;
+  refused = λ p f d.
+      unequal _ _ (computed .blank-printed) (sym (f blank _ _ (computed .blank-no) (computed .blank-lines) (computed .blank-unlaid)) ∙ d blank);
+}
+
+pub prints-under-zero : Turned (fault Prints PrintsUnderZero)
+unfolding Prints PrintsUnderZero field lead
+prints-under-zero = record {
+  example = λ input. field 6 0;
+  done = λ input l ls z e h r. refl;
+  refused = λ p f d.
+      let e = f above _ _ (computed .above-no) (computed .above-lines) (computed .above-laid) (computed .above-refused) in
+      unequal _ _ (computed .above-command) (sym e ∙ ap (take 6) (d above));
+}
+
+pub malformed-reaches : Turned (fault Prints MalformedReaches)
+unfolding Prints MalformedReaches
+malformed-reaches = record {
+  example = λ input. replicate 20 32 ++ shown (shapeIn input) [];
+  done = λ input l z e u same. let n = ap length same in omega arith;
+  refused = λ p f d.
+      f blank _ (computed .blank-no) (computed .blank-lines) (computed .blank-unlaid) (ap (drop 19) (d blank) ∙ computed .blank-register);
+}
+
+pub refuses-cells-as-malformed : Turned (fault Prints RefusesCellsAsMalformed)
+unfolding Prints RefusesCellsAsMalformed report fields field lead flatten
+refuses-cells-as-malformed = record {
+  example = λ input. report 0 12 0;
+  done = λ input l ls z e h c. refl;
+  refused = λ p f d.
+      let e = f above _ _ (computed .above-no) (computed .above-lines) (computed .above-laid) (computed .above-top) in
+      unequal _ _ (computed .above-printed) (sym e ∙ ap (take 19) (d above));
+}
+
+-- ---- the order of the checks, no command, no line feed
+
+pub asks-length-first : Turned (fault Prints AsksLengthFirst)
+unfolding Prints AsksLengthFirst
+asks-length-first = record {
+  example = λ input. report 0 13 0;
+  done = λ input h l r. refl;
+  refused = λ p f d.
+      let e = f (shapeLine nine) (omega (arith, computed .nine-length)) (computed .nine-laid) (omega (arith, computed .nine-register)) in
+      unequal _ _ (computed .nine-printed) (sym e ∙ d (shapeLine nine));
+}
+
+pub silent-without-commands : Turned (fault Prints SilentWithoutCommands)
+unfolding Prints SilentWithoutCommands
+silent-without-commands = record {
+  example = λ input. [];
+  done = λ input z e. refl;
+  refused = λ p f d. unequal _ _ (computed .bare-printed) (sym (f bare (computed .bare-no) (computed .bare-lines)) ∙ d bare);
+}
+
+pub takes-unended : Turned (fault Prints TakesUnended)
+unfolding Prints TakesUnended report fields field lead flatten equal
+takes-unended = record {
+  example = λ input. [];
+  done = λ input l z e u h. unequal [] (report 0 12 0) refl;
+  refused = λ p f d.
+      f unended _ (computed .unended-no) (computed .unended-lines) (computed .unended-unlaid) (computed .unended-laid) (ap (take 19) (d unended) ∙ computed .unended-printed);
+}
+
+-- ---- the function on slices
+
+pub counts-without-room : Turned (fault MeetsTranscribe CountsWithoutRoom)
+unfolding MeetsTranscribe CountsWithoutRoom transcribed hasRoom
+counts-without-room = record {
+  example = λ input register out. record { count = 1; register = register; out = out };
+  done = λ input register out e. omega arith;
+  refused = λ f d c. omega (arith, d [] [] [] refl, ap (λ (t : Transcribed). t .count) (c [] [] []));
+}
+
+-- slices with room enough
+lentRegister : List ℕ
+lentRegister = replicate 65536 0
+
+lentOut : List ℕ
+lentOut = replicate 1310720 0
+
+length-register : length lentRegister ≡ 65536
+unfolding lentRegister
+length-register = length-replicate {A = ℕ} 65536 0
+
+length-out : length lentOut ≡ 1310720
+unfolding lentOut
+length-out = length-replicate {A = ℕ} 1310720 0
+
+roomy : hasRoom lentRegister lentOut ≡ true
+unfolding hasRoom
+roomy = yes-and (leb byteLimit (length lentRegister)) (leb outputLimit (length lentOut)) (le-leb byteLimit (length lentRegister) (omega (arith, length-register))) (le-leb outputLimit (length lentOut) (omega (arith, length-out)))
+
+pub clears-rest : Turned (fault MeetsTranscribe ClearsRest)
+unfolding MeetsTranscribe ClearsRest
+clears-rest = record {
+  example = λ input register out. record { count = length (transcript input); register = register; out = transcript input };
+  done = λ input register out r h e. omega (arith, ap length e, length-drop (length (transcript input)) (transcript input), length-drop (length (transcript input)) out);
+  refused = λ f d c. d [] lentRegister lentOut roomy (omega (arith, computed .none-printed, length-out)) (ap (λ (t : Transcribed). drop (length (transcript [])) (t .out)) (c [] lentRegister lentOut) ∙ transcribed-rest [] lentRegister lentOut roomy);
+}

@@ -1,0 +1,216 @@
+//! Inputs of 65,536 bytes, a little less and more.
+
+use planbook::inputs::drawn_command;
+use planbook::lines::{ended, enter, fit, line_1, LIMIT};
+use planbook::outputs::{refusal, Outcome};
+use planbook::{check, check_both, check_each, run};
+use reference::lists::Pool;
+use reference::random::Random;
+use std::time::Instant;
+
+/// Line 1 of a register of 2 by 2, top 1, capacity 2.
+fn head() -> Vec<u8> {
+    line_1([2, 2, 1, 2])
+}
+
+/// The bytes with more of these behind, so many in all.
+fn filled(bytes: Vec<u8>, more: &[u8], length: usize) -> Vec<u8> {
+    bytes
+        .into_iter()
+        .chain(more.iter().copied().cycle())
+        .take(length)
+        .collect()
+}
+
+/// Line 1 and line feeds.
+fn line_feeds(length: usize) -> Vec<u8> {
+    filled(head(), b"\n", length)
+}
+
+/// Line 1 and one line of spaces, which is not ended.
+fn spaces(length: usize) -> Vec<u8> {
+    filled(head(), b" ", length)
+}
+
+/// Line 1 and lines of carriage returns.
+fn carriage_returns(length: usize) -> Vec<u8> {
+    filled(head(), b"\r\n", length)
+}
+
+/// Line 1 and good lines, the last cut.
+fn cut(length: usize) -> Vec<u8> {
+    let lines = [
+        enter(&[1, 0, 0, 1]),
+        enter(&[0, 0, 1, 1]),
+        enter(&[0, 1, 0, 1]),
+    ]
+    .concat();
+    filled(head(), &lines, length)
+}
+
+/// Line 1, good lines, and a line up to the length that is not laid as it should be.
+fn good_and_a_spoilt_line(length: usize) -> Vec<u8> {
+    let good = cut(length - 300);
+    let ended_at = good
+        .iter()
+        .rposition(|&byte| byte == b'\n')
+        .expect("line 1 is ended")
+        + 1;
+    ended(filled(good[..ended_at].to_vec(), b"x", length - 1))
+}
+
+/// Line 1 and good lines only, of 19 and of 31 bytes: these make up every length that is large.
+fn good(length: usize) -> Vec<u8> {
+    let (enter, fit) = (enter(&[1, 0, 0, 1]), fit(&[0; 4], &[1; 4]));
+    let rest = length - head().len();
+    let fits = (0..19)
+        .find(|fits| (rest - 31 * fits).is_multiple_of(19))
+        .expect("19 is prime");
+    let enters = (rest - 31 * fits) / 19;
+    [head(), fit.repeat(fits), enter.repeat(enters)].concat()
+}
+
+/// Random bytes behind line 1.
+fn random_bytes(length: usize) -> Vec<u8> {
+    let bytes = Random::new(length as u64).cells(length - head().len(), 255);
+    [head(), bytes].concat()
+}
+
+/// Lines 1 over and over.
+fn lines_1(length: usize) -> Vec<u8> {
+    filled(Vec::new(), &head(), length)
+}
+
+/// Every kind of input of which line 1 passes.
+const KINDS: [fn(usize) -> Vec<u8>; 8] = [
+    line_feeds,
+    spaces,
+    carriage_returns,
+    cut,
+    good_and_a_spoilt_line,
+    good,
+    random_bytes,
+    lines_1,
+];
+
+#[test]
+fn inputs_up_to_65536_bytes_pass() {
+    for length in [LIMIT - 2, LIMIT - 1, LIMIT] {
+        let inputs = KINDS.map(|kind| kind(length));
+        for (input, output) in inputs.iter().zip(check_each(&inputs)) {
+            assert_eq!(input.len(), length);
+            assert_eq!(Outcome::read(input, &output).register.len(), 57);
+        }
+    }
+}
+
+#[test]
+fn longer_inputs_are_11() {
+    for length in [
+        LIMIT + 1,
+        LIMIT + 2,
+        LIMIT + 19,
+        70_000,
+        2 * LIMIT,
+        1_000_000,
+    ] {
+        let inputs = KINDS.map(|kind| kind(length));
+        for (input, output) in inputs.iter().zip(check_each(&inputs)) {
+            assert_eq!(input.len(), length);
+            assert_eq!(output, refusal(11));
+        }
+    }
+}
+
+#[test]
+fn without_a_line_1_it_is_12_up_to_65536_bytes_and_11_above() {
+    for byte in *b"\n 1x\0\xff" {
+        for (length, number) in [
+            (LIMIT - 1, 12),
+            (LIMIT, 12),
+            (LIMIT + 1, 11),
+            (2 * LIMIT, 11),
+        ] {
+            check_both(&vec![byte; length], &refusal(number));
+        }
+    }
+}
+
+#[test]
+fn the_last_byte_of_the_largest_input_counts() {
+    // The last line is an enter. Without its line feed it is 12; a byte further on, all is 11.
+    let (all, line) = (good(LIMIT), enter(&[1, 0, 0, 1]));
+    let whole = Outcome::read(&all, &check(&all));
+    assert_eq!(whole.printed.last(), Some(&[1, 101, 1]));
+    let unended = &all[..LIMIT - 1];
+    let printed = Outcome::read(unended, &check(unended)).printed;
+    assert_eq!(printed.last(), Some(&[0, 12, 0]));
+    assert_eq!(printed.len(), whole.printed.len());
+    let shorter = &all[..LIMIT - line.len()];
+    let longer = [shorter, b" ", &line].concat();
+    check_both(&longer, &refusal(11));
+}
+
+#[test]
+fn as_many_spoilt_lines_as_an_input_has() {
+    let count = LIMIT - head().len();
+    assert_eq!(count, 65_511);
+    let input = [head(), vec![b'\n'; count]].concat();
+    let empty = b"     2     2     1     2     0\n            \n            \n";
+    let expected = [refusal(12).repeat(count), empty.to_vec()].concat();
+    check_both(&input, &expected);
+    let start = Instant::now();
+    let printed = run(&input);
+    println!("65,511 malformed lines: {:?}", start.elapsed());
+    assert!(printed == expected);
+}
+
+#[test]
+fn the_longest_output() {
+    // Of all registers within 65,536 bytes, the longest has 7 rows, 14 columns and 222 lines.
+    let head = line_1([7, 14, 15, 222]);
+    let count = LIMIT - head.len();
+    let expected = [refusal(12).repeat(count), check(&head)].concat();
+    assert_eq!(expected.len(), 1_310_230);
+    check_both(&[head, vec![b'\n'; count]].concat(), &expected);
+}
+
+#[test]
+fn as_many_commands_as_an_input_has() {
+    // Lines of one cell are the shortest: 10 bytes, and 6,551 of them.
+    let mut random = Random::new(241);
+    let pool = Pool::drawn(&mut random, 1, 1, 15, 16);
+    let mut input = line_1([1, 1, 15, 16]);
+    while input.len() + 10 <= LIMIT {
+        let line = drawn_command(&mut random, &pool);
+        if line.len() == 10 {
+            input.extend(line);
+        }
+    }
+    input.push(b'\n');
+    assert_eq!(input.len(), LIMIT);
+    let outcome = Outcome::read(&input, &check(&input));
+    assert_eq!(outcome.printed.len(), 6_552);
+    assert_eq!(outcome.printed.last(), Some(&[0, 12, 0]));
+}
+
+#[test]
+fn long_lines() {
+    // One line as long as many, at the front, in the middle and at the end.
+    let good = [enter(&[1, 0, 0, 1]), enter(&[0, 0, 1, 1])];
+    let one = [head(), good[0].clone()].concat();
+    let length_of_one = check(&one).len();
+    for length in [100, 4_095, 4_096, 4_097, 8_192, 32_768, 65_000] {
+        let line = ended(vec![b'0'; length]);
+        for input in [
+            [head(), line.clone(), good.concat()].concat(),
+            [one.clone(), line.clone(), good[1].clone()].concat(),
+            [head(), good.concat(), line.clone()].concat(),
+        ] {
+            let outcome = Outcome::read(&input, &check(&input));
+            let spoilt = outcome.printed.iter().filter(|line| line[1] == 12);
+            assert_eq!(spoilt.count(), 1);
+            assert_eq!(outcome.register.len() + 19, length_of_one);
+        }
+    }
+}

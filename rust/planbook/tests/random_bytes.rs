@@ -1,0 +1,106 @@
+//! Random bytes, and random edits of inputs that are laid as they should be.
+
+use planbook::check_each;
+use planbook::inputs::{drawn, edited, one_of, LIKELY};
+use planbook::lines::{ended, line_1};
+use planbook::outputs::{refusal, Met, Outcome};
+use reference::lists::Pool;
+use reference::random::Random;
+
+#[test]
+fn any_bytes() {
+    let mut random = Random::new(231);
+    let any = |_| {
+        let length = random.below(200) as usize;
+        random.cells(length, 255)
+    };
+    let inputs: Vec<Vec<u8>> = (0..200).map(any).collect();
+    for output in check_each(&inputs) {
+        assert_eq!(output, refusal(12));
+    }
+}
+
+/// So many bytes out of these.
+fn out_of(random: &mut Random, bytes: &[u8], count: usize) -> Vec<u8> {
+    (0..count).map(|_| one_of(random, bytes)).collect()
+}
+
+/// Spaces and then digits, 6 in all, most of them spaces.
+fn field(random: &mut Random) -> Vec<u8> {
+    let spaces = [3, 4, 4, 5, 5, 5, 5, 5, 5, 6][random.below(10) as usize];
+    let digits = out_of(random, b"0123456789", 6 - spaces);
+    [vec![b' '; spaces], digits].concat()
+}
+
+#[test]
+fn lines_1_of_spaces_and_digits() {
+    let mut random = Random::new(232);
+    let mut line = |_| {
+        let fields: Vec<Vec<u8>> = (0..4).map(|_| field(&mut random)).collect();
+        ended(fields.concat())
+    };
+    let outputs = check_each(&(0..500).map(&mut line).collect::<Vec<_>>());
+    for number in [1, 2, 3, 4, 12] {
+        assert!(outputs.contains(&refusal(number)), "{number}");
+    }
+    assert!(outputs.iter().any(|output| output.len() > 19));
+}
+
+#[test]
+fn likely_bytes_behind_line_1() {
+    let mut random = Random::new(233);
+    let mut inputs = Vec::new();
+    for bytes in [LIKELY, b"  1\n", b"     0123\n", b" \n"] {
+        for _ in 0..60 {
+            let (m, n) = (random.between(1, 2), random.between(1, 2));
+            let length = random.below(4000) as usize;
+            let head = line_1([m, n, 1, 2]);
+            inputs.push([head, out_of(&mut random, bytes, length)].concat());
+        }
+    }
+    for (input, output) in inputs.iter().zip(check_each(&inputs)) {
+        assert!(!Outcome::read(input, &output).register.is_empty());
+    }
+}
+
+#[test]
+fn edited_inputs() {
+    let mut random = Random::new(234);
+    let mut inputs = Vec::new();
+    for _ in 0..1500 {
+        let (m, n) = (random.between(1, 3) as usize, random.between(1, 3) as usize);
+        let (top, capacity) = (random.between(0, 12) as u8, random.between(1, 4));
+        let pool = Pool::drawn(&mut random, m, n, top, 6);
+        let mut lines = drawn(&mut random, &pool, capacity, 25);
+        // Line 1 is edited now and then only: most edits of it end the run.
+        let head = match random.once_in(10) {
+            true => Vec::new(),
+            false => lines.remove(0),
+        };
+        let mut rest = lines.concat();
+        for _ in 0..random.between(1, 8) {
+            rest = edited(&mut random, &rest);
+        }
+        inputs.push([head, rest].concat());
+    }
+    let mut met = Met::new();
+    for (input, output) in inputs.iter().zip(check_each(&inputs)) {
+        Outcome::read(input, &output).count(&mut met);
+    }
+    assert!(met[&(0, 12)] > 4000, "{met:?}");
+    for answer in [
+        (1, 0),
+        (1, 7),
+        (1, 9),
+        (1, 101),
+        (2, 0),
+        (2, 7),
+        (2, 10),
+        (3, 0),
+        (3, 7),
+        (3, 8),
+        (3, 102),
+    ] {
+        assert!(met[&answer] > 100, "{met:?}");
+    }
+}
