@@ -12,6 +12,7 @@
 --   laid-exactly       ==  the test of a line says yes exactly if it is the line of some command and cells
 --   laid-length        ==  how many bytes it has then
 --   inTurn low high    ==  the first of low, the first of high, the second of low, ..
+--   in-turn-parts      ==  cells of an even number are the bounds read from them, in turn
 --   enter-call, strike-call, fit-call  ==  the calls of such lines; the cells of a fit are low and high in turn
 --   ShapeLaid s l      ==  l is line 1 with the numbers of s, each below 1,000,000
 --   shape-stated       ==  then they are read from it
@@ -20,16 +21,16 @@
 use mathlib.Core.Path.{_≡_, refl, sym, ap, ap₂, _∙_}
 use mathlib.Core.List.{List, [], _∷_, _++_, flatten}
 use mathlib.Core.Bool.{Bool, true, false}
-use mathlib.Core.Logic.{_↔_}
+use mathlib.Core.Logic.{_⊎_, inl, inr, _↔_}
 use Prim.Native.Nat.{ℕ, zero, suc, _+_, _-_, _*_, _/_, _%_, _^_, _≤_, _<_}
 use native.Mathlib.Nat.{mul-comm, mod-lt}
 use native.Mathlib.Omega.{arith}
 use lib.ListN.{length, getD, drop, length-append}
-use lib.Seq.{take-at, drop-at}
+use lib.Seq.{take-at, drop-at, ext-getD}
 use lib.Dec.{eqb, lit<}
 use borrow.Author.Tests.{eqb-true, eqb-false, eq-eqb, ne-eqb}
 use Rattle.permutations.proofs.BoolLaws.{and-yes, yes-and}
-use Rattle.permutations.proofs.ListLaws.{tabulate-is}
+use Rattle.permutations.proofs.ListLaws.{length-tabulate, at-tabulate, tabulate-is}
 use Rattle.grids.specs.Order.{equal}
 use Rattle.grids.specs.Grids.{capped}
 use Rattle.grids.specs.Questions.{inRange}
@@ -267,6 +268,44 @@ at-in-turn (x ∷ low) (y ∷ high) (suc i) e h =
     let q : 2 * suc i + 1 ≡ suc (suc (2 * i + 1)) = omega arith in
     let r = at-in-turn low high i (omega arith) (omega arith) in
     (rw p (r .0), rw q (r .1))
+
+length-in-turn : (low high : List ℕ) → length low ≡ length high → length (inTurn low high) ≡ 2 * length low
+unfolding inTurn
+length-in-turn [] high e = refl
+length-in-turn (x ∷ low) [] e = absurd (omega arith)
+length-in-turn (x ∷ low) (y ∷ high) e = omega (arith, length-in-turn low high (omega arith))
+
+halves : (j : ℕ) → (i : ℕ) × ((j ≡ 2 * i) ⊎ (j ≡ 2 * i + 1))
+halves zero = (0, inl refl)
+halves (suc zero) = (0, inr refl)
+halves (suc (suc j)) = go (halves j)
+  where
+    go : (i : ℕ) × ((j ≡ 2 * i) ⊎ (j ≡ 2 * i + 1)) → (i : ℕ) × ((suc (suc j) ≡ 2 * i) ⊎ (suc (suc j) ≡ 2 * i + 1))
+    go (i, inl e) = (suc i, inl (omega arith))
+    go (i, inr e) = (suc i, inr (omega arith))
+
+pub in-turn-parts : (size : ℕ) (c : List ℕ) → length c ≡ 2 * size → inTurn (lows size c) (highs size c) ≡ c
+unfolding lows highs
+in-turn-parts size c e = ext-getD 0 (inTurn low high) c (whole ∙ sym e) λ j b. at j (omega (arith, whole)) (halves j)
+  where
+    low : List ℕ
+    low = lows size c
+
+    high : List ℕ
+    high = highs size c
+
+    many : length low ≡ size
+    many = length-tabulate 0 size (λ i. getD c (2 * i) 0)
+
+    same : length low ≡ length high
+    same = many ∙ sym (length-tabulate 0 size (λ i. getD c (2 * i + 1) 0))
+
+    whole : length (inTurn low high) ≡ 2 * size
+    whole = length-in-turn low high same ∙ ap (λ (n : ℕ). 2 * n) many
+
+    at : (j : ℕ) → j < 2 * size → (i : ℕ) × ((j ≡ 2 * i) ⊎ (j ≡ 2 * i + 1)) → getD (inTurn low high) j 0 ≡ getD c j 0
+    at j b (i, inl d) = rw d (at-in-turn low high i same (omega (arith, many)) .0 ∙ at-tabulate size (λ i. getD c (2 * i) 0) i 0 (omega arith))
+    at j b (i, inr d) = rw d (at-in-turn low high i same (omega (arith, many)) .1 ∙ at-tabulate size (λ i. getD c (2 * i + 1) 0) i 0 (omega arith))
 
 module _ {size : ℕ} {line : List ℕ} where
   pub enter-call : {g : List ℕ} → CommandLaid size 1 g line → callIn size line ≡ enter g

@@ -18,6 +18,7 @@
 --   book-laid, length-book  ==  the register printed is one, of the length that line 1 gives
 --   book-counts        ==  its count is the number of live classes
 --   book-fits, transcript-fits  ==  it has at most 65,536 bytes, and the whole output at most 1,310,720
+--   transcript-some    ==  something is printed for every input
 --   transcribed-prints, transcribes-prints  ==  with room enough, the bytes that count are what planbook prints; so a program that writes them prints it
 --   transcribed-rest   ==  the bytes behind them are kept
 --   transcribed-fits, count-within  ==  no more bytes count than the output slice has
@@ -289,6 +290,14 @@ transcript-fits input = go (startNo input) refl
     go zero e =
         rw (transcript-ends input e, length-append (reports (shapeIn input) [] (furtherLines input)) (book input), length-reports (shapeIn input) [] (furtherLines input))
         (omega (arith, length-drop 1 (lines input), lines-fewer input, start-pass input .0 e .input-short, book-fits input))
+    go (suc k) e = rw (start-refused input k e .0) (omega (arith, length-report 0 (suc k) 0))
+
+pub transcript-some : (input : List ℕ) → 0 < length (transcript input)
+unfolding layoutLength
+transcript-some input = go (startNo input) refl
+  where
+    go : (k : ℕ) → startNo input ≡ k → 0 < length (transcript input)
+    go zero e = rw (transcript-ends input e, length-append (reports (shapeIn input) [] (furtherLines input)) (book input)) (omega (arith, length-book input e))
     go (suc k) e = rw (start-refused input k e .0) (omega (arith, length-report 0 (suc k) 0))
 
 -- ---- the function on slices

@@ -1,1 +1,1 @@
-// No code: what planbook reads and prints, for the crates above.
+// What planbook reads and prints: definitions and theorems. The code that does so stands above.

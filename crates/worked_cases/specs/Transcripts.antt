@@ -106,16 +106,7 @@ runs =
           ∷ "    10  0  0  1  1\n"
           ∷ "     1  1  0  0  1\n"
           ∷ [];
-      output = "     0    12     0\n"
-          ∷ "     0    12     0\n"
-          ∷ "     0    12     0\n"
-          ∷ "     0    12     0\n"
-          ∷ "     0    12     0\n"
-          ∷ "     1     0     1\n"
-          ∷ "     2     2     1     2     1\n"
-          ∷ "  0  1  1  0\n"
-          ∷ "            \n"
-          ∷ [];
+      output = replicate 5 "     0    12     0\n" ++ ("     1     0     1\n" ∷ "     2     2     1     2     1\n" ∷ "  0  1  1  0\n" ∷ "            \n" ∷ []);
     }
     -- no cells, too few, too many, a byte more, a byte fewer
     ∷ record {
@@ -127,16 +118,7 @@ runs =
           ∷ "    1  0  0  1  1\n"
           ∷ "     1  1  0  0  1\n"
           ∷ [];
-      output = "     0    12     0\n"
-          ∷ "     0    12     0\n"
-          ∷ "     0    12     0\n"
-          ∷ "     0    12     0\n"
-          ∷ "     0    12     0\n"
-          ∷ "     1     0     1\n"
-          ∷ "     2     2     1     2     1\n"
-          ∷ "  0  1  1  0\n"
-          ∷ "            \n"
-          ∷ [];
+      output = replicate 5 "     0    12     0\n" ++ ("     1     0     1\n" ∷ "     2     2     1     2     1\n" ∷ "  0  1  1  0\n" ∷ "            \n" ∷ []);
     }
     -- a cell of 256, one of 999, also in a fit
     ∷ record {
@@ -146,14 +128,7 @@ runs =
           ∷ "     3  0  1  0  1  0  1  0256\n"
           ∷ "     1  1  0  0  1\n"
           ∷ [];
-      output = "     0    12     0\n"
-          ∷ "     0    12     0\n"
-          ∷ "     0    12     0\n"
-          ∷ "     1     0     1\n"
-          ∷ "     2     2     1     2     1\n"
-          ∷ "  0  1  1  0\n"
-          ∷ "            \n"
-          ∷ [];
+      output = replicate 3 "     0    12     0\n" ++ ("     1     0     1\n" ∷ "     2     2     1     2     1\n" ∷ "  0  1  1  0\n" ∷ "            \n" ∷ []);
     }
     -- a leading zero, in a cell and in the command; a cell or the command left-justified; a blank cell
     ∷ record {
@@ -165,16 +140,7 @@ runs =
           ∷ "     1  0  0  1   \n"
           ∷ "     1  1  0  0  1\n"
           ∷ [];
-      output = "     0    12     0\n"
-          ∷ "     0    12     0\n"
-          ∷ "     0    12     0\n"
-          ∷ "     0    12     0\n"
-          ∷ "     0    12     0\n"
-          ∷ "     1     0     1\n"
-          ∷ "     2     2     1     2     1\n"
-          ∷ "  0  1  1  0\n"
-          ∷ "            \n"
-          ∷ [];
+      output = replicate 5 "     0    12     0\n" ++ ("     1     0     1\n" ∷ "     2     2     1     2     1\n" ∷ "  0  1  1  0\n" ∷ "            \n" ∷ []);
     }
     -- a carriage return, a tab, a sign, a letter
     ∷ record {
@@ -185,15 +151,7 @@ runs =
           ∷ "     1  0  0  1  x\n"
           ∷ "     1  1  0  0  1\n"
           ∷ [];
-      output = "     0    12     0\n"
-          ∷ "     0    12     0\n"
-          ∷ "     0    12     0\n"
-          ∷ "     0    12     0\n"
-          ∷ "     1     0     1\n"
-          ∷ "     2     2     1     2     1\n"
-          ∷ "  0  1  1  0\n"
-          ∷ "            \n"
-          ∷ [];
+      output = replicate 4 "     0    12     0\n" ++ ("     1     0     1\n" ∷ "     2     2     1     2     1\n" ∷ "  0  1  1  0\n" ∷ "            \n" ∷ []);
     }
     -- a fit with half the cells, an enter and a strike with twice as many
     ∷ record {
@@ -203,14 +161,7 @@ runs =
           ∷ "     2  0  0  0  0  0  0  0  0\n"
           ∷ "     1  1  0  0  1\n"
           ∷ [];
-      output = "     0    12     0\n"
-          ∷ "     0    12     0\n"
-          ∷ "     0    12     0\n"
-          ∷ "     1     0     1\n"
-          ∷ "     2     2     1     2     1\n"
-          ∷ "  0  1  1  0\n"
-          ∷ "            \n"
-          ∷ [];
+      output = replicate 3 "     0    12     0\n" ++ ("     1     0     1\n" ∷ "     2     2     1     2     1\n" ∷ "  0  1  1  0\n" ∷ "            \n" ∷ []);
     }
     -- a last line without its line feed: not laid besides, and laid but for that
     ∷ record {

@@ -6,6 +6,21 @@ use std::collections::BTreeMap;
 /// The bytes of a printed line.
 const PRINTED: usize = 19;
 
+/// Every number that answers a command that is laid as it should be.
+pub const ANSWERS: [(u64, u64); 11] = [
+    (1, 0),
+    (1, 7),
+    (1, 9),
+    (1, 101),
+    (2, 0),
+    (2, 7),
+    (2, 10),
+    (3, 0),
+    (3, 7),
+    (3, 8),
+    (3, 102),
+];
+
 /// How often each command was answered by each number.
 pub type Met = BTreeMap<(u64, u64), usize>;
 

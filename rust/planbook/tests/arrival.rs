@@ -7,7 +7,7 @@ use reference::planbook::transcript;
 use reference::random::Random;
 
 /// Document 01's input.
-const INPUT: &[u8] = include_bytes!("../../../examples/plans.txt");
+const INPUT: &[u8] = include_bytes!("../../../crates/planbook/stdin");
 
 /// Checks that pieces print what they print in one piece.
 fn check_pieces(pieces: &[&[u8]]) {
@@ -68,8 +68,9 @@ fn nothing_arrives() {
 
 #[test]
 fn standard_input_is_a_file() {
-    let example = root().join("examples").join("plans.txt");
-    assert!(run_on_file(&example) == transcript(INPUT));
+    let example = root().join("examples").join("two_by_two.txt");
+    let text = include_bytes!("../../../examples/two_by_two.txt");
+    assert!(run_on_file(&example) == transcript(text));
     let stored = root().join("crates").join("planbook").join("stdin");
     assert!(run_on_file(&stored) == transcript(INPUT));
     // Any file is an input, such as this one.

@@ -5,7 +5,7 @@ use planbook::outputs::{refusal, Outcome};
 use planbook::{check, check_each};
 
 /// Document 01's input.
-const INPUT: &[u8] = include_bytes!("../../../examples/plans.txt");
+const INPUT: &[u8] = include_bytes!("../../../crates/planbook/stdin");
 
 /// The lines of document 01's input.
 fn lines() -> Vec<Vec<u8>> {

@@ -4,26 +4,11 @@ use planbook::check_each;
 use planbook::classes::shuffled;
 use planbook::inputs::drawn;
 use planbook::lines::{enter, fit, fit_all, line_1, strike};
-use planbook::outputs::{check_met, Met, Outcome};
+use planbook::outputs::{check_met, Met, Outcome, ANSWERS};
 use reference::designs::{all, Design};
 use reference::examples::shapes_up_to;
 use reference::lists::Pool;
 use reference::random::Random;
-
-/// Every number that answers a command that is laid as it should be.
-const ANSWERS: [(u64, u64); 11] = [
-    (1, 0),
-    (1, 7),
-    (1, 9),
-    (1, 101),
-    (2, 0),
-    (2, 7),
-    (2, 10),
-    (3, 0),
-    (3, 7),
-    (3, 8),
-    (3, 102),
-];
 
 /// Checks the inputs. Returns how often each command was answered by each number.
 fn check_lists(inputs: &[Vec<u8>]) -> Met {

@@ -1,25 +1,15 @@
-//! Runs whose output is written out: document 01's, the stored one, marked plans.
+//! Runs whose output is written out: document 01's, the examples, marked plans.
 
 use planbook::check;
 use planbook::lines::{enter, fit, line_1};
-use planbook::run;
 use reference::examples::{plan, register};
 use reference::forms::written;
 
-/// Document 01's input.
-const INPUT: &str = include_str!("../../../examples/plans.txt");
+/// Document 01's input, as it is stored beside the program.
+const INPUT: &str = include_str!("../../../crates/planbook/stdin");
 
-/// And what the program prints for it.
-const OUTPUT: &str = "     1     0     1
-     1   101     1
-     2    10     0
-     3     0     1
-     1     0     1
-     1     9     0
-     2     2     1     2     2
-  0  0  1  1
-  0  1  1  0
-";
+/// And its output.
+const OUTPUT: &str = include_str!("../../../crates/planbook/stdout");
 
 /// What is printed for the input, as the reference prints it too.
 fn printed(input: &[u8]) -> String {
@@ -63,19 +53,14 @@ fn the_run_that_document_01_prints() {
 }
 
 #[test]
-fn the_run_that_is_stored_beside_the_program() {
-    let input = include_bytes!("../../../crates/planbook/stdin");
-    let output = include_bytes!("../../../crates/planbook/stdout");
-    assert_eq!(run(input), output);
-}
-
-#[test]
 fn two_arrangements_of_marked_plan_1_are_charged_once() {
     let expected = "     1     0     1
      1   101     1
      2     3     3     2     1
   1  2  3  3  2  2
                   \n";
+    let example = include_bytes!("../../../examples/two_by_three.txt");
+    assert_eq!(printed(example), expected);
     assert_eq!(entered(3, 2, &["223/231", "123/322"]), expected);
     assert_eq!(entered(3, 2, &["123/322", "223/231"]), expected);
 }
@@ -87,6 +72,8 @@ fn two_arrangements_of_marked_plan_2_are_charged_once() {
      2     2     1     2     1
   0  1  1  0
             \n";
+    let example = include_bytes!("../../../examples/two_by_two.txt");
+    assert_eq!(printed(example), expected);
     assert_eq!(entered(1, 2, &["10/01", "01/10"]), expected);
     assert_eq!(entered(1, 2, &["01/10", "10/01"]), expected);
 }

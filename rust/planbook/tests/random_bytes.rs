@@ -3,7 +3,7 @@
 use planbook::check_each;
 use planbook::inputs::{drawn, edited, one_of, LIKELY};
 use planbook::lines::{ended, line_1};
-use planbook::outputs::{refusal, Met, Outcome};
+use planbook::outputs::{refusal, Met, Outcome, ANSWERS};
 use reference::lists::Pool;
 use reference::random::Random;
 
@@ -88,19 +88,7 @@ fn edited_inputs() {
         Outcome::read(input, &output).count(&mut met);
     }
     assert!(met[&(0, 12)] > 4000, "{met:?}");
-    for answer in [
-        (1, 0),
-        (1, 7),
-        (1, 9),
-        (1, 101),
-        (2, 0),
-        (2, 7),
-        (2, 10),
-        (3, 0),
-        (3, 7),
-        (3, 8),
-        (3, 102),
-    ] {
+    for answer in ANSWERS {
         assert!(met[&answer] > 100, "{met:?}");
     }
 }

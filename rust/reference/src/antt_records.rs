@@ -66,7 +66,9 @@ pub fn text_bytes(value: &str) -> Vec<u8> {
             Some((_, times)) => times.trim().parse().expect("a number of times"),
             None => 1,
         };
-        let quoted = quoted.replace("\\n", "\n").replace("\\r", "\r");
+        let escapes = [("\\n", "\n"), ("\\r", "\r"), ("\\t", "\t")];
+        let plain = |text: String, (escape, byte): (&str, &str)| text.replace(escape, byte);
+        let quoted = escapes.into_iter().fold(quoted.to_string(), plain);
         bytes.extend(quoted.repeat(times).into_bytes());
     }
     bytes

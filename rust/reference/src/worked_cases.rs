@@ -70,13 +70,12 @@ pub fn books() -> Vec<Book> {
     cases.iter().map(read).collect()
 }
 
-/// The runs of `planbook`. Their lines may have tabs.
+/// The runs of `planbook`.
 pub fn transcripts() -> Vec<Run> {
     let cases = table("Transcripts", "runs", " input = ");
-    let bytes = |case: &String, name: &str| text_bytes(&field(case, name).replace("\\t", "\t"));
     let read = |case: &String| Run {
-        input: bytes(case, "input"),
-        output: bytes(case, "output"),
+        input: text_bytes(field(case, "input")),
+        output: text_bytes(field(case, "output")),
     };
     cases.iter().map(read).collect()
 }

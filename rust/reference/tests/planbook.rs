@@ -9,20 +9,11 @@ use reference::register::Answer;
 use std::io::Write;
 use std::process::{Command, Stdio};
 
-/// Document 01's input.
-const INPUT: &str = include_str!("../../../examples/plans.txt");
+/// Document 01's input, as it is stored beside the program.
+const INPUT: &str = include_str!("../../../crates/planbook/stdin");
 
-/// And what the program prints for it.
-const OUTPUT: &str = "     1     0     1
-     1   101     1
-     2    10     0
-     3     0     1
-     1     0     1
-     1     9     0
-     2     2     1     2     2
-  0  0  1  1
-  0  1  1  0
-";
+/// And its output.
+const OUTPUT: &str = include_str!("../../../crates/planbook/stdout");
 
 /// Line 1 of a register of 2 by 2, top 1, capacity 2.
 const LINE_1: &str = "     2     2     1     2\n";
