@@ -35,8 +35,8 @@ use borrow.Author.Tests.{leb-true, le-leb, lt-leb}
 use Rattle.permutations.specs.Lists.{select}
 use Rattle.permutations.proofs.BoolLaws.{and-yes}
 use Rattle.permutations.proofs.ListLaws.{select-yes, select-no}
-use Rattle.grids.specs.Questions.{Question, firstNo, question1, question2, question3}
-use Rattle.grids.proofs.QuestionLaws.{Numbered, first-no-zero, firstNo-pass, firstNo-stop, first-no-stays, first-no-next, range-yes, yes-range, limits-asked}
+use Rattle.grids.specs.Questions.{firstNo, question1, question2, question3}
+use Rattle.grids.proofs.QuestionLaws.{Numbered, first-no-zero, firstNo-pass, firstNo-stop, first-no-stays, first-no-next, range-yes, limits-asked}
 use Rattle.layout.specs.Layout.{Shape, cells, layoutLength, count, InLimits, laidOut}
 use Rattle.layout.proofs.LayoutLaws.{length-layout}
 use Rattle.machine.specs.Calls.{Outcome, question4}

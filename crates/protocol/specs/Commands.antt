@@ -9,7 +9,7 @@
 --   answer s l line   ==  what is printed for a command line, by a machine with the numbers s and the set l
 use mathlib.Core.List.{List, [], _∷_, _++_}
 use mathlib.Core.Bool.{true, false}
-use Prim.Native.Nat.{ℕ, zero, suc, _+_, _*_}
+use Prim.Native.Nat.{ℕ, _+_, _*_}
 use lib.ListN.{getD}
 use lib.Dec.{eqb}
 use Rattle.permutations.specs.Lists.{tabulate}

@@ -12,7 +12,7 @@
 --   isLaid size l     ==  the line is laid so: the command is 1 to 3, and no cell is above 255
 use mathlib.Core.List.{List, [], _∷_, _++_}
 use mathlib.Core.Bool.{Bool, true, false, _&&_}
-use Prim.Native.Nat.{ℕ, zero, suc, _*_}
+use Prim.Native.Nat.{ℕ, _*_}
 use lib.ListN.{getD, drop}
 use lib.Dec.{eqb}
 use Rattle.grids.specs.Order.{equal}

@@ -12,20 +12,19 @@
 use mathlib.Core.Path.{_≡_, refl, sym, ap, ap₂, _∙_}
 use mathlib.Core.List.{List, [], _∷_, _++_}
 use mathlib.Core.Bool.{Bool, true, false, not}
-use Prim.Native.Nat.{ℕ, _+_, _-_, _*_, _≤_, _<_}
+use Prim.Native.Nat.{ℕ, _+_, _-_, _*_, _≤_}
 use native.Mathlib.Omega.{arith}
 use lib.ListN.{length, take, drop}
 use lib.Seq.{take-at}
-use lib.Dec.{eqb}
 use borrow.Author.Tests.{eq-eqb, not-false}
-use borrow.Rule.Slice.PartMut.{midOf, putMid, same-len-mid}
+use borrow.Rule.Slice.PartMut.{midOf, same-len-mid}
 use Rattle.grids.specs.Least.{least}
 use Rattle.grids.specs.Questions.{firstNo, Limits, question6, question7}
 use Rattle.grids.proofs.QuestionLaws.{firstNo-pass, firstNo-stop, limits-pass, size-fits}
 use Rattle.permutations.specs.Lists.{every}
 use Rattle.permutations.proofs.ListLaws.{part-length}
 use Rattle.canonical.specs.Represent.{representQuestions, Represented}
-use Rattle.layout.specs.Layout.{Shape, cells, layoutLength, decodeShape, decode, InLimits, laidOut}
+use Rattle.layout.specs.Layout.{Shape, layoutLength, decodeShape, decode, laidOut}
 use Rattle.layout.proofs.LineLaws.{laid-lines}
 use Rattle.lines.specs.declared.head.Head.{Head}
 use Rattle.lines.specs.Head.{States}

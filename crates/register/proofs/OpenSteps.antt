@@ -10,12 +10,11 @@
 --   opened-no, opened-yes     ==  the ways out of open
 use mathlib.Core.Path.{_≡_, refl, sym, ap, ap₂, _∙_}
 use mathlib.Core.List.{List, [], _∷_, _++_}
-use mathlib.Core.Bool.{true, false, and-true}
-use mathlib.Core.Logic.{_↔_}
-use Prim.Native.Nat.{ℕ, suc, _+_, _-_, _*_, _≤_, _<_}
+use mathlib.Core.Bool.{and-true}
+use Prim.Native.Nat.{ℕ, _+_, _-_, _*_, _≤_, _<_}
 use native.Mathlib.Nat.{mul-le-mul}
 use native.Mathlib.Omega.{arith}
-use lib.ListN.{length, take, drop}
+use lib.ListN.{length, drop}
 use lib.Dec.{eqb}
 use borrow.Author.Tests.{eq-eqb, ne-eqb}
 use borrow.Rule.Slice.PartMut.{midOf, putMid}
@@ -27,7 +26,7 @@ use Rattle.layout.specs.Layout.{Shape, cells, lineLength, headLine, blankLine, 
 use Rattle.layout.specs.Lines.{lineStart}
 use Rattle.layout.proofs.LineLaws.{line-short}
 use Rattle.layout.proofs.MoveLaws.{Opened, opened-head-part, opened-next, opened-all}
-use Rattle.machine.specs.Calls.{Outcome, answered, question4, openQuestions, opened}
+use Rattle.machine.specs.Calls.{answered, question4, openQuestions, opened}
 use Rattle.machine.specs.Valid.{placed, shape, numbersNo, openNo}
 use Rattle.machine.proofs.AskedLaws.{numberQuestions, number-numbered, numbers-pass, open-pass}
 use Rattle.machine.proofs.LeastSteps.{answered-refusal}

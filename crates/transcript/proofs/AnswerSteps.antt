@@ -6,7 +6,7 @@
 --   answering-room, answering-size  ==  there is room for one more line; a grid has at most 128 cells
 --   answering-kept  ==  the register keeps its length
 use mathlib.Core.Path.{_≡_, refl, sym, ap, _∙_}
-use mathlib.Core.List.{List, [], _∷_, _++_, append-assoc, append-nil}
+use mathlib.Core.List.{List, [], _++_, append-assoc, append-nil}
 use mathlib.Core.Bool.{Bool, true, false}
 use Prim.Native.Nat.{ℕ, _+_, _-_, _*_, _≤_, _<_}
 use native.Mathlib.Omega.{arith}
@@ -23,8 +23,7 @@ use Rattle.machine.proofs.ValidMoves.{tail-part, put-tail}
 use Rattle.lines.proofs.FillLaws.{Filled, fill-none}
 use Rattle.protocol.specs.Input.{lines, furtherLines, commandIn, cellsIn, isLaid}
 use Rattle.protocol.specs.Commands.{callOf, report, Answer, answerCall, malformed, answer}
-use Rattle.protocol.specs.Transcript.{byteLimit, shapeIn, startNo, reports, setAfter}
-use Rattle.protocol.specs.Programs.{outputLimit}
+use Rattle.protocol.specs.Transcript.{shapeIn, reports, setAfter}
 use Rattle.protocol.proofs.ReportLaws.{length-report, call-answer, malformed-answer}
 use Rattle.protocol.proofs.RunLaws.{start-pass, length-shown}
 use Rattle.transcript.specs.declared.reports.Report.{Report}

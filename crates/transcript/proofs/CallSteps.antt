@@ -10,12 +10,10 @@ use mathlib.Core.Bool.{true, false, true≢false}
 use Prim.Native.Nat.{ℕ, _-_, _*_, _≤_}
 use native.Mathlib.Omega.{arith}
 use lib.ListN.{length, take}
-use borrow.Author.Tests.{eq-eqb, ne-eqb}
 use Rattle.permutations.proofs.ListLaws.{length-tabulate, part-is, part-length}
-use Rattle.machine.specs.Calls.{Outcome}
-use Rattle.machine.specs.CallLists.{Call, enter, strike, fit, registerCalls, called}
+use Rattle.machine.specs.CallLists.{enter, strike, fit, registerCalls, called}
 use Rattle.machine.specs.Valid.{placed}
-use Rattle.protocol.specs.Input.{cellCount, commandIn, cellsIn, isLaid}
+use Rattle.protocol.specs.Input.{cellCount, cellsIn}
 use Rattle.protocol.specs.Commands.{lows, highs, callOf}
 use Rattle.transcript.specs.Commands.{ReadsCommand, Parts}
 use Rattle.transcript.specs.Answers.{Answers}

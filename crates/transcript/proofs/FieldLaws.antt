@@ -7,7 +7,7 @@
 --   cells-none, cells-next, cells-all  ==  the loop's start, one turn, and its end
 --   cells-above, cells-unlaid  ==  a cell above 255, and one that is not laid so
 use mathlib.Core.Path.{_≡_, refl, sym, ap, _∙_}
-use mathlib.Core.List.{List, [], _∷_, _++_, map, flatten, append-nil}
+use mathlib.Core.List.{List, [], _++_, map, append-nil}
 use mathlib.Core.Bool.{Bool, true, false, true≢false}
 use mathlib.Core.Logic.{_↔_}
 use Prim.Native.Nat.{ℕ, _+_, _-_, _*_, _≤_, _<_}
@@ -17,13 +17,12 @@ use native.Mathlib.Omega.{arith}
 use lib.ListN.{length, getD, take, drop, set, length-map, length-drop}
 use lib.Seq.{take-all, length-take-le}
 use Rattle.permutations.proofs.ListLaws.{part-is, part-length, at-map}
-use Rattle.grids.specs.Grids.{capped}
 use Rattle.grids.proofs.QuestionLaws.{capped-at, at-capped}
 use Rattle.layout.specs.Decimal.{field}
 use Rattle.layout.specs.Layout.{fields, numberAt}
 use Rattle.layout.specs.Lines.{cellsOf}
 use Rattle.layout.proofs.DecimalLaws.{length-field}
-use Rattle.layout.proofs.LayoutLaws.{field-at, length-fields}
+use Rattle.layout.proofs.LayoutLaws.{field-at}
 use Rattle.layout.proofs.LineLaws.{of-parts, length-cells, cell-at}
 use Rattle.lines.proofs.LineLaws.{ReadTo, read-none, read-next, read-all}
 use Rattle.transcript.specs.Fields.{ReadsCells}

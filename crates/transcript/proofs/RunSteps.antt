@@ -8,14 +8,13 @@
 --   start-ended      ==  a check gets a no, and its line is written
 --   start-fits, start-ready  ==  every check gets a yes: the register fits its slice, and the run can begin
 --   run-done         ==  what the run leaves is what the whole is to leave
-use mathlib.Core.Path.{_≡_, refl, sym, ap, ap₂, _∙_}
-use mathlib.Core.List.{List, [], _∷_, _++_, append-assoc}
-use mathlib.Core.Bool.{true, false}
+use mathlib.Core.Path.{_≡_, refl, sym, ap, _∙_}
+use mathlib.Core.List.{List, [], _++_, append-assoc}
+use mathlib.Core.Bool.{false}
 use Prim.Native.Nat.{ℕ, zero, suc, _+_, _-_, _*_, _≤_, _<_}
 use native.Mathlib.Omega.{arith}
 use lib.ListN.{length, take, drop, length-append, length-drop}
 use lib.Seq.{take-at, drop-at, take-length, drop-drop}
-use lib.Dec.{leb}
 use borrow.Author.Tests.{le-leb, lt-leb}
 use borrow.Rule.Slice.PartMut.{midOf, putMid}
 use Rattle.permutations.proofs.ListLaws.{part-length}
@@ -28,8 +27,8 @@ use Rattle.machine.proofs.Demand3Laws.{open-answers}
 use Rattle.machine.proofs.ValidMoves.{tail-part, put-tail}
 use Rattle.protocol.specs.Input.{furtherLines}
 use Rattle.protocol.specs.Commands.{report}
-use Rattle.protocol.specs.Transcript.{byteLimit, shapeIn, startNo, reports, setAfter, book, transcript}
-use Rattle.protocol.specs.Programs.{outputLimit, over, Transcribed, transcribing, hasRoom, transcribed}
+use Rattle.protocol.specs.Transcript.{byteLimit, shapeIn, startNo, reports, book, transcript}
+use Rattle.protocol.specs.Programs.{outputLimit, over, transcribing, hasRoom, transcribed}
 use Rattle.protocol.proofs.ReportLaws.{length-report}
 use Rattle.protocol.proofs.RunLaws.{start-pass, start-refused, book-shown, length-book, transcript-ends, transcript-fits}
 use Rattle.transcript.specs.declared.starts.Start.{Start}

@@ -3,9 +3,7 @@ use crate::commands;
 use crate::input::line_end;
 use crate::reports;
 use crate::reports::Report;
-ghost use mathlib.Core.Path.{_≡_};
 ghost use Prim.Native.Nat.{_≤_};
-ghost use lib.ListN.{length};
 ghost use Rattle.transcript.specs.Answers.{Answers, Answered, Runs};
 
 // Makes the call of a command line, unless the line is not laid as it should be.

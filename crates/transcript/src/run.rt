@@ -6,10 +6,7 @@ use crate::starts;
 use crate::starts::Start;
 use register::opening;
 ghost use mathlib.Core.Path.{_≡_};
-ghost use Prim.Native.Nat.{_≤_};
-ghost use lib.ListN.{length};
 ghost use Rattle.protocol.specs.Programs.{transcribed, transcribing};
-ghost use Rattle.transcript.specs.Starts.{Starts};
 ghost use Rattle.transcript.specs.Runs.{Ran, Ready};
 
 // Opens the register over all of a slice of its length, answers the command lines, and writes what is printed over the first bytes of
