@@ -1,11 +1,11 @@
-// The lines of entries: their length, read, written, put in and taken out. The part of the register from a line's first byte onward
-// is lent.
+// The lines of entries: their length, read, written, put in and taken out; and the length of a register. The part of the register
+// from a line's first byte onward is lent.
 use crate::numbers;
 ghost use mathlib.Core.Path.{_≡_};
 ghost use mathlib.Core.List.{_++_};
-ghost use Prim.Native.Nat.{_+_, _≤_};
+ghost use Prim.Native.Nat.{_+_, _*_, _≤_};
 ghost use lib.ListN.{length, take, drop};
-ghost use Rattle.layout.specs.Layout.{lineLength, entryLine, blankLine};
+ghost use Rattle.layout.specs.Layout.{headLength, lineLength, entryLine, blankLine};
 ghost use Rattle.layout.specs.Lines.{cellsOf, EntryLine};
 
 // How many bytes the line of an entry with so many cells has, the line feed included.
@@ -14,6 +14,14 @@ pub fn line_length(size: usize) -> usize
     ensures { λ r. ⌜ (r ≡ lineLength size) × (r ≤ 385) ⌝ }
 {
     3 * size + 1
+}
+
+// How many bytes a register has whose entries have so many cells.
+pub fn register_length(size: usize, capacity: usize) -> usize
+    requires { ⌜ (size ≤ 128) × (capacity ≤ 500) ⌝ }
+    ensures { λ r. ⌜ (r ≡ headLength + capacity * lineLength size) × (r ≤ 192531) ⌝ }
+{
+    31 + capacity * line_length(size)
 }
 
 // Reads the cells of an entry's line.

@@ -3,7 +3,12 @@ use libc::STDIN_FILENO;
 use libc::STDOUT_FILENO;
 use transcript::run;
 ghost use mathlib.Core.Path.{_≡_};
-ghost use lib.ListN.{length};
+ghost use mathlib.Core.Bool.{true};
+ghost use Prim.Native.Nat.{_≤_, _<_};
+ghost use lib.ListN.{length, take};
+ghost use Rattle.io.specs.Counts.{Counts};
+ghost use Rattle.protocol.specs.Transcript.{byteLimit, transcript};
+ghost use Rattle.protocol.specs.Programs.{hasRoom};
 
 // Room for the input, and for the byte that makes it too long.
 fn input_buffer() -> [u8; 65537]
@@ -19,11 +24,27 @@ fn output_buffer() -> [u8; 1310720]
     [0; 1310720]
 }
 
+// Reads standard input into a slice with room for a byte over the limit. Returns how many bytes were read.
+fn read_input(input: &mut [u8]) -> usize
+    requires { ⌜ byteLimit < length (now input) ⌝ }
+    ensures { λ r. ⌜ Counts r (now (input .exit)) ⌝ }
+{
+    io::read_full(STDIN_FILENO, input)
+}
+
+// Writes what is printed for the input over the first bytes of a slice. Returns how many bytes that is.
+fn print_into(input: &[u8], register: &mut [u8], out: &mut [u8]) -> usize
+    requires { ⌜ hasRoom (now register) (now out) ≡ true ⌝ }
+    ensures { λ r. ⌜ (r ≤ length (now (out .exit))) × (take r (now (out .exit)) ≡ transcript (now (input .entry))) ⌝ }
+{
+    run::transcribe(input, register, out)
+}
+
 fn main() {
     let mut input = input_buffer();
     let mut register = io::large_buffer();
     let mut out = output_buffer();
-    let got = io::read_full(STDIN_FILENO, &mut input);
-    let printed = run::transcribe(&input[..got], &mut register, &mut out);
+    let got = read_input(&mut input);
+    let printed = print_into(&input[..got], &mut register, &mut out);
     io::write_all(STDOUT_FILENO, &out[..printed]);
 }

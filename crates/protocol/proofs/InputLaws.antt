@@ -44,9 +44,8 @@ use Rattle.layout.proofs.LayoutLaws.{length-fields, field-at, fields-read}
 use Rattle.layout.proofs.LineLaws.{length-cells}
 use Rattle.machine.specs.CallLists.{enter, strike, fit}
 use Rattle.protocol.specs.Input.{onto, lines, firstLine, shapeLine, commandLine, cellCount, commandIn, cellsIn, isLaid}
-use Rattle.protocol.specs.Commands.{lows, highs, callOf}
+use Rattle.protocol.specs.Commands.{lows, highs, callOf, callIn}
 use Rattle.protocol.specs.Transcript.{shapeIn, question12}
-use Rattle.protocol.specs.Demand3.{callIn}
 
 -- ---- the lines
 

@@ -1,7 +1,7 @@
 -- Laws of the lines that planbook prints.
 --
 --   length-report      ==  a printed line has 19 bytes
---   States k x p b     ==  the bytes b state the numbers k, x and p, 6 wide each
+--   ReportStates k x p b     ==  the bytes b state the numbers k, x and p, 6 wide each
 --   report-states      ==  a printed line states its command, number and place or count, if each is below 1,000,000
 --   call-answer, malformed-answer  ==  what is answered to a line that is laid, and to another
 --   length-answer, length-reports  ==  one line is printed for each line
@@ -31,7 +31,7 @@ use Rattle.machine.specs.CallLists.{Call, enter, strike, fit}
 use Rattle.machine.specs.Machine.{Step, stepUnless, enterClass, strikeClass, fitClasses, step}
 use Rattle.machine.proofs.MachineLaws.{Good}
 use Rattle.protocol.specs.Input.{commandIn, cellsIn, isLaid}
-use Rattle.protocol.specs.Commands.{callOf, report, answerCall, malformed, answer}
+use Rattle.protocol.specs.Commands.{callOf, callIn, report, answerCall, malformed, answer}
 use Rattle.protocol.specs.Transcript.{reports}
 use Rattle.protocol.proofs.InputLaws.{CommandLaid, laid-command, laid-exactly}
 
@@ -41,12 +41,12 @@ pub length-report : (k x p : ℕ) → length (report k x p) ≡ 19
 unfolding report
 length-report k x p = length-append (fields 6 (k ∷ x ∷ p ∷ [])) (10 ∷ []) ∙ omega (arith, length-fields 6 (k ∷ x ∷ p ∷ []))
 
-pub record States (k x p : ℕ) (b : List ℕ) : Type 0 where
+pub record ReportStates (k x p : ℕ) (b : List ℕ) : Type 0 where
   pub command : numberAt 6 0 b ≡ k
   pub number : numberAt 6 6 b ≡ x
   pub place : numberAt 6 12 b ≡ p
 
-pub report-states : (k x p : ℕ) → k < 1000000 → x < 1000000 → p < 1000000 → States k x p (report k x p)
+pub report-states : (k x p : ℕ) → k < 1000000 → x < 1000000 → p < 1000000 → ReportStates k x p (report k x p)
 unfolding report numberAt
 report-states k x p a b c = record { command = read 0 (omega arith) a; number = read 1 (omega arith) b; place = read 2 (omega arith) c }
   where
@@ -56,7 +56,7 @@ report-states k x p a b c = record { command = read 0 (omega arith) a; number = 
 -- ---- the answers
 
 pub call-answer : (s : Shape) (l : List (List ℕ)) (line : List ℕ) → isLaid (cells s) line ≡ true →
-    answer s l line ≡ answerCall (commandIn line) (step s l (callOf (cells s) (commandIn line) (cellsIn (cells s) line)))
+    answer s l line ≡ answerCall (commandIn line) (step s l (callIn (cells s) line))
 unfolding answer
 call-answer s l line e = rw (e, answer)
 
@@ -141,13 +141,13 @@ module _ (s : Shape) (l : List (List ℕ)) (g : Good s l) where
 
 -- ---- what is stated
 
-pub malformed-states : (s : Shape) (l : List (List ℕ)) (line : List ℕ) → isLaid (cells s) line ≡ false → States 0 12 0 (answer s l line .printed)
+pub malformed-states : (s : Shape) (l : List (List ℕ)) (line : List ℕ) → isLaid (cells s) line ≡ false → ReportStates 0 12 0 (answer s l line .printed)
 unfolding malformed
 malformed-states s l line e = rw (malformed-answer s l line e) (report-states 0 12 0 (omega arith) (omega arith) (omega arith))
 
 pub answer-states : (s : Shape) (l : List (List ℕ)) → Good s l → (k : ℕ) (c line : List ℕ) → CommandLaid (cells s) k c line →
-    States k (step s l (callOf (cells s) k c) .number) (step s l (callOf (cells s) k c) .place) (answer s l line .printed)
-unfolding answerCall
+    ReportStates k (step s l (callOf (cells s) k c) .number) (step s l (callOf (cells s) k c) .place) (answer s l line .printed)
+unfolding answerCall callIn
 answer-states s l g k c line o =
     let q = laid-command o in
     let f = step-fits s l g (callOf (cells s) k c) in

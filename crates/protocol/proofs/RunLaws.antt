@@ -2,11 +2,11 @@
 --
 --   malformed-leaves   ==  lines that are not laid change nothing
 --   over-limit, start-line, start-numbers, start-length  ==  the first no before any command, check by check: 11, 12, 1 to 4, 13
---   Starts input       ==  an input of at most 65,536 bytes whose line 1 is laid, within the limits, with a register of at most 65,536 bytes
+--   Passes input       ==  an input of at most 65,536 bytes whose line 1 is laid, within the limits, with a register of at most 65,536 bytes
 --   start-pass         ==  no check gets a no exactly for such an input
 --   start-limits       ==  so the limits hold, and the register is short enough
 --   start-refused      ==  after a no one line is printed, and no register
---   book-shown         ==  else the register is the machine's after the further lines
+--   register-shown         ==  else the register is the machine's after the further lines
 --   transcript-ends    ==  and a line for each further line, and then the register
 --   set-calls          ==  the machine's set after lines is that after the calls of those that are laid
 --   reports-replies    ==  what is printed for lines is what the machine answers to these calls
@@ -15,25 +15,29 @@
 --   demand3-prints     ==  and no other program does
 --   set-good           ==  what holds of a set reached by calls holds of the set after lines
 --   length-shown       ==  how many bytes the machine shows
---   book-laid, length-book  ==  the register printed is one, of the length that line 1 gives
---   book-counts        ==  its count is the number of live classes
---   book-fits, transcript-fits  ==  it has at most 65,536 bytes, and the whole output at most 1,310,720
+--   register-laid, length-register  ==  the register printed is one, of the length that line 1 gives
+--   register-counts        ==  its count is the number of live classes
+--   register-fits, transcript-fits  ==  it has at most 65,536 bytes, and the whole output at most 1,310,720
 --   transcript-some    ==  something is printed for every input
+--   transcript-cut     ==  an input that is cut off behind the limit prints what the whole does
+--   has-room           ==  slices that are large enough
 --   transcribed-prints, transcribes-prints  ==  with room enough, the bytes that count are what planbook prints; so a program that writes them prints it
 --   transcribed-rest   ==  the bytes behind them are kept
 --   transcribed-fits, count-within  ==  no more bytes count than the output slice has
+--   count-prints       ==  transcribed-prints, of what a call returned and left
 use mathlib.Core.Path.{_≡_, refl, sym, ap, ap₂, _∙_}
 use mathlib.Core.List.{List, [], _∷_, _++_}
 use mathlib.Core.Bool.{Bool, true, false}
 use mathlib.Core.Logic.{_↔_}
 use Prim.Native.Nat.{ℕ, zero, suc, _≤_, _<_}
+use native.Mathlib.Decide.{decLt}
 use native.Mathlib.Omega.{arith}
 use lib.ListN.{length, take, drop, replicate, length-append, length-drop, length-replicate}
-use lib.Seq.{take-at, drop-at}
+use lib.Seq.{take-at, take-all, drop-at, length-take-le}
 use lib.Dec.{leb}
 use borrow.Author.Tests.{leb-true, le-leb, lt-leb}
 use Rattle.permutations.specs.Lists.{select}
-use Rattle.permutations.proofs.BoolLaws.{and-yes}
+use Rattle.permutations.proofs.BoolLaws.{and-yes, yes-and}
 use Rattle.permutations.proofs.ListLaws.{select-yes, select-no}
 use Rattle.grids.specs.Questions.{firstNo, question1, question2, question3}
 use Rattle.grids.proofs.QuestionLaws.{Numbered, first-no-zero, firstNo-pass, firstNo-stop, first-no-stays, first-no-next, range-yes, limits-asked}
@@ -49,10 +53,10 @@ use Rattle.machine.proofs.MachineLaws.{Good, empty-good, registerOf, good-regis
 use Rattle.machine.proofs.Demand3Laws.{demand3}
 use Rattle.machine.proofs.FollowLaws.{Follows, after-open, follows-open, follows-call, follows-next}
 use Rattle.protocol.specs.Input.{lines, furtherLines, commandIn, isLaid}
-use Rattle.protocol.specs.Commands.{report, Answer, answerCall, malformed, answer}
-use Rattle.protocol.specs.Transcript.{byteLimit, shapeIn, question11, question12, question13, startQuestions, startNo, reports, setAfter, bookFrom, printedFrom, book, transcript}
+use Rattle.protocol.specs.Commands.{callIn, report, Answer, answerCall, malformed, answer}
+use Rattle.protocol.specs.Transcript.{byteLimit, shapeIn, question11, question12, question13, startQuestions, startNo, reports, setAfter, registerFrom, printedFrom, printedRegister, transcript}
 use Rattle.protocol.specs.Programs.{Printing, Prints, outputLimit, over, Transcribed, transcribing, hasRoom, transcribed, Transcribing, MeetsTranscribe, printing}
-use Rattle.protocol.specs.Demand3.{callIn, callsIn, reply, replies, inputCalls, PrintsCalls, PrintsDemand3}
+use Rattle.protocol.specs.Demand3.{callsIn, reply, replies, inputCalls, PrintsCalls, PrintsDemand3}
 use Rattle.protocol.proofs.InputLaws.{lines-fewer}
 use Rattle.protocol.proofs.ReportLaws.{length-report, length-reports, call-answer, malformed-answer}
 
@@ -97,7 +101,7 @@ module _ (input : List ℕ) where
       unfolding question13
       start-length h long = past-numbers h ∙ firstNo-stop (question13 (shapeIn input)) [] (lt-leb (layoutLength (shapeIn input)) byteLimit long)
 
-pub record Starts (input : List ℕ) : Type 0 where
+pub record Passes (input : List ℕ) : Type 0 where
   pub input-short : length input ≤ byteLimit
   pub line-laid : question12 input .answer ≡ true
   pub limits : InLimits (shapeIn input)
@@ -107,14 +111,14 @@ start-numbered : (input : List ℕ) → Numbered (startQuestions input)
 unfolding startQuestions question11 question12 question13 question1 question2 question3 question4
 start-numbered input = omega arith
 
-pub start-pass : (input : List ℕ) → (startNo input ≡ 0) ↔ Starts input
+pub start-pass : (input : List ℕ) → (startNo input ≡ 0) ↔ Passes input
 unfolding firstNo startNo startQuestions question4 question11 question13
 start-pass input = (to, back)
   where
     s : Shape
     s = shapeIn input
 
-    to : startNo input ≡ 0 → Starts input
+    to : startNo input ≡ 0 → Passes input
     to e =
         let h = first-no-zero (startQuestions input) (start-numbered input) .0 e in
         let a = limits-asked (s .rows) (s .columns) (s .top) (question4 (s .capacity) ∷ question13 s ∷ []) .0 (h .1 .1) in
@@ -125,7 +129,7 @@ start-pass input = (to, back)
           register-short = leb-true (layoutLength s) byteLimit (a .1 .1 .0);
         }
 
-    back : Starts input → startNo input ≡ 0
+    back : Passes input → startNo input ≡ 0
     back h = past-numbers input (h .input-short) (h .line-laid) (h .limits) ∙ firstNo-pass (question13 s) [] (le-leb (layoutLength s) byteLimit (h .register-short))
 
 pub start-limits : (input : List ℕ) → startNo input ≡ 0 → InLimits (shapeIn input) × (layoutLength (shapeIn input) ≤ byteLimit)
@@ -133,17 +137,17 @@ start-limits input e = let h = start-pass input .0 e in (h .limits, h .register-
 
 -- ---- what is printed
 
-pub start-refused : (input : List ℕ) (k : ℕ) → startNo input ≡ suc k → (transcript input ≡ report 0 (suc k) 0) × (book input ≡ [])
-unfolding transcript book printedFrom bookFrom
-start-refused input k e = (ap (λ (n : ℕ). printedFrom n input) e, ap (λ (n : ℕ). bookFrom n input) e)
+pub start-refused : (input : List ℕ) (k : ℕ) → startNo input ≡ suc k → (transcript input ≡ report 0 (suc k) 0) × (printedRegister input ≡ [])
+unfolding transcript printedRegister printedFrom registerFrom
+start-refused input k e = (ap (λ (n : ℕ). printedFrom n input) e, ap (λ (n : ℕ). registerFrom n input) e)
 
-pub book-shown : (input : List ℕ) → startNo input ≡ 0 → book input ≡ shown (shapeIn input) (setAfter (shapeIn input) [] (furtherLines input))
-unfolding book bookFrom
-book-shown input e = ap (λ (n : ℕ). bookFrom n input) e
+pub register-shown : (input : List ℕ) → startNo input ≡ 0 → printedRegister input ≡ shown (shapeIn input) (setAfter (shapeIn input) [] (furtherLines input))
+unfolding printedRegister registerFrom
+register-shown input e = ap (λ (n : ℕ). registerFrom n input) e
 
-pub transcript-ends : (input : List ℕ) → startNo input ≡ 0 → transcript input ≡ reports (shapeIn input) [] (furtherLines input) ++ book input
-unfolding transcript book printedFrom
-transcript-ends input e = ap (λ (n : ℕ). printedFrom n input) e ∙ ap (λ (n : ℕ). reports (shapeIn input) [] (furtherLines input) ++ bookFrom n input) (sym e)
+pub transcript-ends : (input : List ℕ) → startNo input ≡ 0 → transcript input ≡ reports (shapeIn input) [] (furtherLines input) ++ printedRegister input
+unfolding transcript printedRegister printedFrom
+transcript-ends input e = ap (λ (n : ℕ). printedFrom n input) e ∙ ap (λ (n : ℕ). reports (shapeIn input) [] (furtherLines input) ++ registerFrom n input) (sym e)
 
 -- ---- the lines by their calls
 
@@ -165,7 +169,7 @@ module _ (size : ℕ) (line : List ℕ) (ls : List (List ℕ)) where
   replies-no os e = rw (e, replies)
 
 pub set-calls : (s : Shape) (l ls : List (List ℕ)) → setAfter s l ls ≡ afterwards s l (callsIn (cells s) ls)
-unfolding setAfter afterwards callsIn select callIn answerCall malformed
+unfolding setAfter afterwards callsIn select answerCall malformed
 set-calls s l [] = refl
 set-calls s l (line ∷ ls) = go (λ k. set-calls s k ls) (isLaid (cells s) line) refl
   where
@@ -175,7 +179,7 @@ set-calls s l (line ∷ ls) = go (λ k. set-calls s k ls) (isLaid (cells s) line
     go ih false e = ap (λ (a : Answer). setAfter s (a .next) ls) (malformed-answer s l line e) ∙ ih l ∙ ap (afterwards s l) (sym (calls-no (cells s) line ls e))
 
 pub reports-replies : (s : Shape) (l ls : List (List ℕ)) → reports s l ls ≡ replies (cells s) ls (outcomes s l (callsIn (cells s) ls))
-unfolding reports outcomes outcome callIn answerCall malformed replies
+unfolding reports outcomes outcome answerCall malformed replies
 reports-replies s l [] = refl
 reports-replies s l (line ∷ ls) = go (λ k. reports-replies s k ls) (isLaid (cells s) line) refl
   where
@@ -210,17 +214,17 @@ module _ (i : Implementation) (d : Demand3 i) (input : List ℕ) (e : startNo in
   starts : Follows i (shapeIn input) []
   starts = follows-open i d (shapeIn input) (start-limits input e .0)
 
-  book-left : book input ≡ left i (shown (shapeIn input) []) (inputCalls input)
+  register-left : printedRegister input ≡ left i (shown (shapeIn input) []) (inputCalls input)
   unfolding inputCalls
-  book-left =
-      book-shown input e ∙ ap (shown (shapeIn input)) (set-calls (shapeIn input) [] (furtherLines input)) ∙ sym (left-follows i (shapeIn input) (inputCalls input) [] starts)
+  register-left =
+      register-shown input e ∙ ap (shown (shapeIn input)) (set-calls (shapeIn input) [] (furtherLines input)) ∙ sym (left-follows i (shapeIn input) (inputCalls input) [] starts)
 
   printed-calls : transcript input
       ≡ replies (cells (shapeIn input)) (furtherLines input) (run i (shown (shapeIn input) []) (inputCalls input)) ++ left i (shown (shapeIn input) []) (inputCalls input)
   unfolding inputCalls
   printed-calls =
       transcript-ends input e
-      ∙ ap₂ _++_ (reports-replies (shapeIn input) [] (furtherLines input) ∙ ap (replies (cells (shapeIn input)) (furtherLines input)) (sym (starts (inputCalls input)))) book-left
+      ∙ ap₂ _++_ (reports-replies (shapeIn input) [] (furtherLines input) ∙ ap (replies (cells (shapeIn input)) (furtherLines input)) (sym (starts (inputCalls input)))) register-left
 
 pub prints-demand3 : (p : Printing) → Prints p → PrintsDemand3 p
 unfolding Prints
@@ -262,24 +266,24 @@ module _ (input : List ℕ) (e : startNo input ≡ 0) where
   end-good : Good (shapeIn input) (setAfter (shapeIn input) [] (furtherLines input))
   end-good = set-good (shapeIn input) [] (furtherLines input) (empty-good (shapeIn input) (start-limits input e .0))
 
-  pub book-laid : laidOut (book input) ≡ true
-  book-laid = rw (book-shown input e) (laid (shapeIn input) _ end-good)
+  pub register-laid : laidOut (printedRegister input) ≡ true
+  register-laid = rw (register-shown input e) (laid (shapeIn input) _ end-good)
 
-  pub book-counts : (classes : List (List ℕ))
+  pub register-counts : (classes : List (List ℕ))
       × ListsLive (shapeIn input .rows) (shapeIn input .columns) (live registerCalls (shapeIn input) (shown (shapeIn input) []) (inputCalls input)) classes
-      × (count (book input) ≡ length classes)
-  book-counts =
+      × (count (printedRegister input) ≡ length classes)
+  register-counts =
       let a = after-open registerCalls own (shapeIn input) (start-limits input e .0) (inputCalls input) in
-      (a .classes, a .lists, ap count (book-left registerCalls own input e) ∙ a .counts)
+      (a .classes, a .lists, ap count (register-left registerCalls own input e) ∙ a .counts)
 
-  pub length-book : length (book input) ≡ layoutLength (shapeIn input)
-  length-book = ap length (book-shown input e) ∙ length-shown (shapeIn input) _ end-good
+  pub length-register : length (printedRegister input) ≡ layoutLength (shapeIn input)
+  length-register = ap length (register-shown input e) ∙ length-shown (shapeIn input) _ end-good
 
-pub book-fits : (input : List ℕ) → length (book input) ≤ byteLimit
-book-fits input = go (startNo input) refl
+pub register-fits : (input : List ℕ) → length (printedRegister input) ≤ byteLimit
+register-fits input = go (startNo input) refl
   where
-    go : (k : ℕ) → startNo input ≡ k → length (book input) ≤ byteLimit
-    go zero e = omega (arith, length-book input e, start-limits input e .1)
+    go : (k : ℕ) → startNo input ≡ k → length (printedRegister input) ≤ byteLimit
+    go zero e = omega (arith, length-register input e, start-limits input e .1)
     go (suc k) e = rw (start-refused input k e .1) (omega arith)
 
 pub transcript-fits : (input : List ℕ) → length (transcript input) ≤ outputLimit
@@ -288,8 +292,8 @@ transcript-fits input = go (startNo input) refl
   where
     go : (k : ℕ) → startNo input ≡ k → length (transcript input) ≤ outputLimit
     go zero e =
-        rw (transcript-ends input e, length-append (reports (shapeIn input) [] (furtherLines input)) (book input), length-reports (shapeIn input) [] (furtherLines input))
-        (omega (arith, length-drop 1 (lines input), lines-fewer input, start-pass input .0 e .input-short, book-fits input))
+        rw (transcript-ends input e, length-append (reports (shapeIn input) [] (furtherLines input)) (printedRegister input), length-reports (shapeIn input) [] (furtherLines input))
+        (omega (arith, length-drop 1 (lines input), lines-fewer input, start-pass input .0 e .input-short, register-fits input))
     go (suc k) e = rw (start-refused input k e .0) (omega (arith, length-report 0 (suc k) 0))
 
 pub transcript-some : (input : List ℕ) → 0 < length (transcript input)
@@ -297,10 +301,25 @@ unfolding layoutLength
 transcript-some input = go (startNo input) refl
   where
     go : (k : ℕ) → startNo input ≡ k → 0 < length (transcript input)
-    go zero e = rw (transcript-ends input e, length-append (reports (shapeIn input) [] (furtherLines input)) (book input)) (omega (arith, length-book input e))
+    go zero e = rw (transcript-ends input e, length-append (reports (shapeIn input) [] (furtherLines input)) (printedRegister input)) (omega (arith, length-register input e))
     go (suc k) e = rw (start-refused input k e .0) (omega (arith, length-report 0 (suc k) 0))
 
+-- an input that is cut off behind the limit prints what the whole does
+pub transcript-cut : (input : List ℕ) (n : ℕ) → byteLimit < n → transcript (take n input) ≡ transcript input
+transcript-cut input n h = go (decLt n (length input))
+  where
+    go : Dec (n < length input) → transcript (take n input) ≡ transcript input
+    go (yes long) =
+        let z = length-take-le n input (omega arith) in
+        start-refused (take n input) 10 (over-limit (take n input) (omega arith)) .0 ∙ sym (start-refused input 10 (over-limit input (omega arith)) .0)
+    go (no short) = ap transcript (take-all n input (omega arith))
+
 -- ---- the function on slices
+
+pub has-room : (register out : List ℕ) → byteLimit ≤ length register → outputLimit ≤ length out → hasRoom register out ≡ true
+unfolding hasRoom
+has-room register out h k =
+    yes-and (leb byteLimit (length register)) (leb outputLimit (length out)) (le-leb byteLimit (length register) h) (le-leb outputLimit (length out) k)
 
 module _ (input register out : List ℕ) where
   pub transcribed-prints : hasRoom register out ≡ true → take (transcribed input register out .count) (transcribed input register out .out) ≡ transcript input
@@ -321,8 +340,12 @@ module _ (input register out : List ℕ) where
           rw (e, transcribed) (omega (arith, transcript-fits input, leb-true outputLimit (length out) (r .1)))
       go false e = rw (e, transcribed) (omega arith)
 
-  pub count-within : {r : ℕ} {register′ out′ : List ℕ} → transcribing r register′ out′ ≡ transcribed input register out → length out′ ≡ length out → r ≤ length out′
-  count-within e l = omega (arith, ap (λ (t : Transcribed). t .count) e, transcribed-fits)
+  module _ {r : ℕ} {register′ out′ : List ℕ} (e : transcribing r register′ out′ ≡ transcribed input register out) where
+    pub count-within : length out′ ≡ length out → r ≤ length out′
+    count-within l = omega (arith, ap (λ (t : Transcribed). t .count) e, transcribed-fits)
+
+    pub count-prints : hasRoom register out ≡ true → take r out′ ≡ transcript input
+    count-prints h = ap (λ (t : Transcribed). take (t .count) (t .out)) e ∙ transcribed-prints h
 
 pub transcribes-prints : (f : Transcribing) → MeetsTranscribe f → (register out : List ℕ) → hasRoom register out ≡ true → Prints (printing f register out)
 unfolding MeetsTranscribe Prints printing

@@ -1,7 +1,8 @@
 -- The calls that command lines make, and what is printed for each.
 --
 --   lows size c, highs size c  ==  the bounds that cells hold in turn: low and high of the first cell, of the second, ..
---   callOf size k c   ==  the call of the command k with the cells c: 1 enter, 2 strike, 3 fit
+--   callOf size k c   ==  the call of the command k with the cells c: 1 enter, 2 strike, else fit; a line that is laid has no other command than 3 then
+--   callIn size line  ==  the call of a command line
 --   report k x p      ==  a printed line: the command k, the number x and the place or count p, each 6 wide, and a line feed
 --   Answer            ==  the printed line, and the machine's set afterwards
 --   answerCall k t    ==  what is printed under the command k for a step of the machine
@@ -27,6 +28,9 @@ highs size c = tabulate 0 size (λ i. getD c (2 * i + 1) 0)
 unfoldable pub callOf : ℕ → ℕ → List ℕ → Call
 callOf size k c = elim (eqb k 1) [ true ↦ enter c | false ↦ elim (eqb k 2) [ true ↦ strike c | false ↦ fit (lows size c) (highs size c) ] ]
 
+unfoldable pub callIn : ℕ → List ℕ → Call
+callIn size line = callOf size (commandIn line) (cellsIn size line)
+
 unfoldable pub report : ℕ → ℕ → ℕ → List ℕ
 report k x p = fields 6 (k ∷ x ∷ p ∷ []) ++ (10 ∷ [])
 
@@ -43,6 +47,6 @@ malformed l = record { printed = report 0 12 0; next = l }
 unfoldable pub answer : Shape → List (List ℕ) → List ℕ → Answer
 answer s l line =
     elim (isLaid (cells s) line) [
-      | true ↦ answerCall (commandIn line) (step s l (callOf (cells s) (commandIn line) (cellsIn (cells s) line)))
+      | true ↦ answerCall (commandIn line) (step s l (callIn (cells s) line))
       | false ↦ malformed l
     ]

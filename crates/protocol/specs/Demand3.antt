@@ -1,6 +1,5 @@
 -- Demand 3 of planbook: it prints what the calls of the command lines answer, and then the bytes that they leave.
 --
---   callIn size line   ==  the call of a command line, of grids with so many cells
 --   callsIn size ls    ==  the calls of the lines of ls that are laid, in order
 --   reply k os         ==  what is printed under the command k for the first outcome of os; nothing where there is none
 --   replies size ls os ==  what is printed for the lines ls, where os are the outcomes of their calls, in order
@@ -17,13 +16,10 @@ use Rattle.layout.specs.Layout.{cells, layoutLength}
 use Rattle.machine.specs.Calls.{Outcome}
 use Rattle.machine.specs.CallLists.{Call, Implementation, run, left}
 use Rattle.machine.specs.Demand3.{AfterOpen, Demand3}
-use Rattle.protocol.specs.Input.{furtherLines, commandIn, cellsIn, isLaid}
-use Rattle.protocol.specs.Commands.{callOf, report}
+use Rattle.protocol.specs.Input.{furtherLines, commandIn, isLaid}
+use Rattle.protocol.specs.Commands.{callIn, report}
 use Rattle.protocol.specs.Transcript.{shapeIn, startNo}
 use Rattle.protocol.specs.Programs.{Printing}
-
-unfoldable pub callIn : ℕ → List ℕ → Call
-callIn size line = callOf size (commandIn line) (cellsIn size line)
 
 unfoldable pub callsIn : ℕ → List (List ℕ) → List Call
 callsIn size ls = map (callIn size) (select (isLaid size) ls)

@@ -6,7 +6,7 @@
 --   furtherLines s    ==  the lines after it
 --   shapeLine s       ==  line 1 as it is laid: rows, columns, top and capacity, each 6 wide, and a line feed
 --   commandLine k c   ==  a further line as it is laid: the command k, 6 wide, the cells c, 3 wide, and a line feed
---   cellCount size k  ==  how many cells the command k has, of grids with so many: for 3 low and high of each
+--   cellCount size k  ==  how many cells the command k has, of grids with so many: for 3 low and high of each, else one
 --   commandIn l       ==  the command that a line states
 --   cellsIn size l    ==  the cells that it states, as many as its command has
 --   isLaid size l     ==  the line is laid so: the command is 1 to 3, and no cell is above 255

@@ -2,7 +2,7 @@
 --
 --   Printing            ==  programs from the bytes of the input to those of the output
 --   Prints p            ==  p prints what planbook prints, on every input
---   outputLimit         ==  the most bytes that are printed: a line of 19 for each byte of the input, and the register
+--   outputLimit         ==  room for all that is printed: a line of 19 bytes for each byte of an input, and the register
 --   over x s            ==  the slice s with x written over its first bytes
 --   Transcribed         ==  how many bytes of the output slice count, the register's slice and the output slice afterwards
 --   transcribing count register out  ==  such an outcome
@@ -17,7 +17,7 @@ use mathlib.Core.Bool.{Bool, true, false, _&&_}
 use Prim.Native.Nat.{ℕ}
 use lib.ListN.{length, take, drop}
 use lib.Dec.{leb}
-use Rattle.protocol.specs.Transcript.{byteLimit, book, transcript}
+use Rattle.protocol.specs.Transcript.{byteLimit, printedRegister, transcript}
 
 abbrev pub Printing : Type 0
 Printing = (input : List ℕ) → List ℕ
@@ -45,7 +45,7 @@ hasRoom register out = leb byteLimit (length register) && leb outputLimit (lengt
 unfoldable pub transcribed : List ℕ → List ℕ → List ℕ → Transcribed
 transcribed input register out =
     elim (hasRoom register out) [
-      | true ↦ record { count = length (transcript input); register = over (book input) register; out = over (transcript input) out }
+      | true ↦ record { count = length (transcript input); register = over (printedRegister input) register; out = over (transcript input) out }
       | false ↦ record { count = 0; register = register; out = out }
     ]
 

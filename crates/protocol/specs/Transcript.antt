@@ -9,9 +9,9 @@
 --   startNo input        ==  the first no; 0 if each gets a yes
 --   reports s l ls       ==  what is printed for the lines ls, by a machine with the numbers s and the set l
 --   setAfter s l ls      ==  the machine's set after them
---   bookFrom k input     ==  the register printed last, after the first no k: none, unless k is 0
+--   registerFrom k input ==  the register printed last, after the first no k: none, unless k is 0
 --   printedFrom k input  ==  what is printed: after a no one line, with command 0; else a line for each further line, and then the register
---   book input           ==  the register that planbook prints last
+--   printedRegister input  ==  the register that planbook prints last
 --   transcript input     ==  what planbook prints
 use mathlib.Core.List.{List, [], _∷_, _++_}
 use Prim.Native.Nat.{ℕ, zero, suc}
@@ -68,16 +68,16 @@ setAfter s l (line ∷ ls) = setAfter s (answer s l line .next) ls
 
 -- ---- the whole run
 
-unfoldable pub bookFrom : ℕ → List ℕ → List ℕ
-bookFrom zero input = shown (shapeIn input) (setAfter (shapeIn input) [] (furtherLines input))
-bookFrom (suc k) input = []
+unfoldable pub registerFrom : ℕ → List ℕ → List ℕ
+registerFrom zero input = shown (shapeIn input) (setAfter (shapeIn input) [] (furtherLines input))
+registerFrom (suc k) input = []
 
 unfoldable pub printedFrom : ℕ → List ℕ → List ℕ
-printedFrom zero input = reports (shapeIn input) [] (furtherLines input) ++ bookFrom zero input
+printedFrom zero input = reports (shapeIn input) [] (furtherLines input) ++ registerFrom zero input
 printedFrom (suc k) input = report 0 (suc k) 0
 
-unfoldable pub book : List ℕ → List ℕ
-book input = bookFrom (startNo input) input
+unfoldable pub printedRegister : List ℕ → List ℕ
+printedRegister input = registerFrom (startNo input) input
 
 unfoldable pub transcript : List ℕ → List ℕ
 transcript input = printedFrom (startNo input) input

@@ -4,15 +4,17 @@
 --   numbers-yes, numbers-limits  ==  questions 1 to 4 get a yes, and what that tells
 --   open-numbers, length-no   ==  one of them gets a no; they get a yes, and question 6 a no
 --   open-yes                  ==  every question gets a yes
---   length-is, open-small     ==  how long a register is
+--   length-is                 ==  how long a register is
 --   open-asked                ==  what is asked of a slice is asked of its length
---   opened-passes             ==  what is known where it does
---   opened-no, opened-yes     ==  the ways out of open
+--   opened-no                 ==  the way out with a no
+--   opened-passes, opened-yes ==  what is known where every question gets a yes, and the way out then
+--   limits-size, head-fits    ==  a grid within the limits has at most 128 cells; line 1 fits the slice
+--   Filling s w start e b     ==  line 1 and e blank lines are written, and the next one begins at start
+--   filling-head, filling-room, filling-next, filling-all  ==  the loop's start, room for a line, one turn, and its end
 use mathlib.Core.Path.{_≡_, refl, sym, ap, ap₂, _∙_}
 use mathlib.Core.List.{List, [], _∷_, _++_}
 use mathlib.Core.Bool.{and-true}
 use Prim.Native.Nat.{ℕ, _+_, _-_, _*_, _≤_, _<_}
-use native.Mathlib.Nat.{mul-le-mul}
 use native.Mathlib.Omega.{arith}
 use lib.ListN.{length, drop}
 use lib.Dec.{eqb}
@@ -22,7 +24,7 @@ use Rattle.permutations.specs.Lists.{every}
 use Rattle.grids.specs.Questions.{Question, firstNo, limitsNo, question6}
 use Rattle.grids.proofs.QuestionLaws.{firstNo-pass, firstNo-stop, first-no-stays, first-no-next, yes-range, limits-decide, limits-refuse, limits-pass, size-fits}
 use Rattle.grids.proofs.QuestionSteps.{range-no}
-use Rattle.layout.specs.Layout.{Shape, cells, lineLength, headLine, blankLine, layout, layoutLength, InLimits}
+use Rattle.layout.specs.Layout.{Shape, cells, headLength, lineLength, headLine, blankLine, layout, layoutLength, InLimits}
 use Rattle.layout.specs.Lines.{lineStart}
 use Rattle.layout.proofs.LineLaws.{line-short}
 use Rattle.layout.proofs.MoveLaws.{Opened, opened-head-part, opened-next, opened-all}
@@ -75,12 +77,9 @@ module _ (s : Shape) (x : ℕ) {k : ℕ} (e : k ≡ numbersNo s) where
 pub numbers-limits : (s : Shape) {k : ℕ} → k ≡ numbersNo s → k ≡ 0 → InLimits s
 numbers-limits s e z = numbers-pass s .0 (sym e ∙ z)
 
-pub length-is : (m n top capacity : ℕ) {w : ℕ} → w ≡ lineLength (m * n) → layoutLength (shape m n top capacity) ≡ 31 + capacity * w
+pub length-is : (s : Shape) {x : ℕ} → x ≡ headLength + s .capacity * lineLength (cells s) → x ≡ layoutLength s
 unfolding layoutLength
-length-is m n top capacity q = rw q refl
-
-pub open-small : (capacity w : ℕ) → capacity ≤ 500 → w ≤ 385 → capacity * w ≤ 192500
-open-small capacity w h k = mul-le-mul {n₁ = capacity} {m₁ = w} {n₂ = 500} {m₂ = 385} h k
+length-is s q = q
 
 pub open-asked : (s : Shape) (b : List ℕ) → openNo s (length b) ≡ firstNo (openQuestions s b)
 unfolding openNo openQuestions question6 every

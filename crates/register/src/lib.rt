@@ -1,7 +1,6 @@
-// The register's calls on lent bytes: open, enter, strike and fit, and one call told which.
+// The register's calls on lent bytes: open, enter, strike and fit.
 pub mod answers;
 mod asking;
-pub mod calling;
 pub mod entering;
 pub mod fitting;
 pub mod opening;

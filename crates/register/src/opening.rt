@@ -37,8 +37,7 @@ fn open_no(m: usize, n: usize, top: usize, capacity: usize, length: usize) -> u3
     if number != 0 {
         return number;
     }
-    let width = entries::line_length(m * n);
-    if length != 31 + capacity * width {
+    if length != entries::register_length(m * n, capacity) {
         return 6;
     }
     0

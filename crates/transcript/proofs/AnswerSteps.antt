@@ -1,6 +1,7 @@
 -- The command lines of an input, answered one after another.
 --
---   line-report, line-register, line-good  ==  what is printed for a line on the machine's bytes, what it leaves, and that the set stays one reached by calls
+--   Line x           ==  what is printed for a line on the machine's bytes and left of them is the answer x, and its set is again one reached by calls
+--   line-malformed, line-called, line-answered  ==  so it is of a line that is not laid, of one that is, and of any
 --   Answering input out b o at n  ==  the lines before `at` are answered: b is the machine's register, and what was printed is written over the first n bytes of out, as o
 --   answering-none, answering-next, answering-all  ==  the loop's start, one turn, and its end
 --   answering-room, answering-size  ==  there is room for one more line; a grid has at most 128 cells
@@ -21,8 +22,8 @@ use Rattle.machine.proofs.MachineLaws.{Good, empty-good, step-good}
 use Rattle.machine.proofs.Demand3Laws.{call-same}
 use Rattle.machine.proofs.ValidMoves.{tail-part, put-tail}
 use Rattle.lines.proofs.FillLaws.{Filled, fill-none}
-use Rattle.protocol.specs.Input.{lines, furtherLines, commandIn, cellsIn, isLaid}
-use Rattle.protocol.specs.Commands.{callOf, report, Answer, answerCall, malformed, answer}
+use Rattle.protocol.specs.Input.{lines, furtherLines, commandIn, isLaid}
+use Rattle.protocol.specs.Commands.{callIn, report, Answer, answerCall, malformed, answer}
 use Rattle.protocol.specs.Transcript.{shapeIn, reports, setAfter}
 use Rattle.protocol.proofs.ReportLaws.{length-report, call-answer, malformed-answer}
 use Rattle.protocol.proofs.RunLaws.{start-pass, length-shown}
@@ -46,10 +47,10 @@ module _ (s : Shape) (l : List (List ℕ)) (g : Good s l) (line : List ℕ) {b b
       let m = a .malformed f in
       record { printed = rw (m .0, m .1, m .2) refl; left = m .3 ∙ e; stays = g }
 
-  line-called : isLaid (cells s) line ≡ true → Line (answerCall (commandIn line) (step s l (callOf (cells s) (commandIn line) (cellsIn (cells s) line))))
+  line-called : isLaid (cells s) line ≡ true → Line (answerCall (commandIn line) (step s l (callIn (cells s) line)))
   unfolding answerCall outcome
   line-called t =
-      let c = callOf (cells s) (commandIn line) (cellsIn (cells s) line) in
+      let c = callIn (cells s) line in
       let d = rw e at (a .calls t) ∙ call-same s l g c in
       record {
         printed = rw (a .command-is t, ap (λ (o : Outcome). o .number) d, ap (λ (o : Outcome). o .place) d) refl;

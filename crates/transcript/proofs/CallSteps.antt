@@ -14,7 +14,7 @@ use Rattle.permutations.proofs.ListLaws.{length-tabulate, part-is, part-length}
 use Rattle.machine.specs.CallLists.{enter, strike, fit, registerCalls, called}
 use Rattle.machine.specs.Valid.{placed}
 use Rattle.protocol.specs.Input.{cellCount, cellsIn}
-use Rattle.protocol.specs.Commands.{lows, highs, callOf}
+use Rattle.protocol.specs.Commands.{lows, highs, callOf, callIn}
 use Rattle.transcript.specs.Commands.{ReadsCommand, Parts}
 use Rattle.transcript.specs.Answers.{Answers}
 
@@ -60,6 +60,7 @@ module _ {size : ℕ} {line cells : List ℕ} {k : ℕ} (r : ReadsCommand size l
 
   pub answer-called : (k ≡ 0 → ⊥) → {n : ℕ} → n ≡ cellCount size k → {b′ : List ℕ} {number place : ℕ} → placed number place b′ ≡ called registerCalls b (callOf size k (take (n - 0) cells)) →
       Answers size line b b′ (record { command = k; number = number; place = place })
+  unfolding callIn
   answer-called h {n} e d = record {
     malformed = λ f. absurd (true≢false (sym (r .laid h) ∙ f));
     command-is = λ t. r .command-is h;

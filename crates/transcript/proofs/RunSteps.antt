@@ -27,10 +27,10 @@ use Rattle.machine.proofs.Demand3Laws.{open-answers}
 use Rattle.machine.proofs.ValidMoves.{tail-part, put-tail}
 use Rattle.protocol.specs.Input.{furtherLines}
 use Rattle.protocol.specs.Commands.{report}
-use Rattle.protocol.specs.Transcript.{byteLimit, shapeIn, startNo, reports, book, transcript}
+use Rattle.protocol.specs.Transcript.{byteLimit, shapeIn, startNo, reports, printedRegister, transcript}
 use Rattle.protocol.specs.Programs.{outputLimit, over, transcribing, hasRoom, transcribed}
 use Rattle.protocol.proofs.ReportLaws.{length-report}
-use Rattle.protocol.proofs.RunLaws.{start-pass, start-refused, book-shown, length-book, transcript-ends, transcript-fits}
+use Rattle.protocol.proofs.RunLaws.{start-pass, start-refused, register-shown, length-register, transcript-ends, transcript-fits}
 use Rattle.transcript.specs.declared.starts.Start.{Start}
 use Rattle.transcript.specs.Answers.{Runs, Answered}
 use Rattle.transcript.specs.Starts.{Starts}
@@ -57,8 +57,8 @@ module _ {input b out o : List ℕ} {n : ℕ} (passes : startNo input ≡ 0) (ro
   abbrev lines-printed : List ℕ
   lines-printed = reports (shapeIn input) [] (furtherLines input)
 
-  last : b ≡ book input
-  last = a .register ∙ sym (book-shown input passes)
+  last : b ≡ printedRegister input
+  last = a .register ∙ sym (register-shown input passes)
 
   whole : transcript input ≡ lines-printed ++ b
   whole = transcript-ends input passes ∙ ap (λ (x : List ℕ). lines-printed ++ x) (sym last)
@@ -110,7 +110,7 @@ module _ (input register out : List ℕ) where
   small-out k h = none (rw (le-leb byteLimit (length register) k, lt-leb outputLimit (length out) h) refl)
 
   module _ (k : byteLimit ≤ length register) (h : outputLimit ≤ length out) where
-    done : {count : ℕ} {register′ out′ : List ℕ} → count ≡ length (transcript input) → register′ ≡ over (book input) register → out′ ≡ over (transcript input) out → transcribing count register′ out′ ≡ transcribed input register out
+    done : {count : ℕ} {register′ out′ : List ℕ} → count ≡ length (transcript input) → register′ ≡ over (printedRegister input) register → out′ ≡ over (transcript input) out → transcribing count register′ out′ ≡ transcribed input register out
     unfolding transcribed hasRoom
     done c r o =
         (λ i. transcribing (c i) (r i) (o i))
@@ -148,5 +148,5 @@ module _ (input register out : List ℕ) where
       pub run-done : start .number ≡ 0 → {r : ℕ} {ys out′ : List ℕ} → Ran input ys out out′ r → transcribing r (ys ++ drop (start .length - 0) register) out′ ≡ transcribed input register out
       unfolding over
       run-done z {ys = ys} d =
-          let e : start .length - 0 ≡ length (book input) = omega (arith, s .length-is z, length-book input (start-zero z)) in
+          let e : start .length - 0 ≡ length (printedRegister input) = omega (arith, s .length-is z, length-register input (start-zero z)) in
           done (d .count) (rw (e, d .register) refl) (d .printed)

@@ -28,7 +28,7 @@ use Rattle.permutations.proofs.BoolLaws.{refuted}
 use Rattle.permutations.proofs.ListLaws.{all-append}
 use Rattle.grids.proofs.OrderLaws.{equal-eq, eq-equal}
 use Rattle.layout.specs.Decimal.{lead, field}
-use Rattle.layout.specs.Layout.{Shape, lineLength, fields, layoutLength, numberAt, decodeShape, InLimits}
+use Rattle.layout.specs.Layout.{Shape, headLength, lineLength, fields, layoutLength, numberAt, decodeShape, InLimits}
 use Rattle.layout.proofs.LayoutLaws.{length-fields}
 use Rattle.layout.proofs.LineLaws.{drop-take}
 use Rattle.lines.specs.Head.{withField}
@@ -212,19 +212,19 @@ module _ {input : List ℕ} {m n top capacity : ℕ} where
           go zero d n = absurd (n refl)
           go (suc k) d n = start-numbers input (o .short) line-yes k d
 
-      module _ (z : k ≡ 0) {w : ℕ} (q : w ≡ lineLength (m * n)) where
+      module _ (z : k ≡ 0) {x : ℕ} (q : x ≡ headLength + capacity * lineLength (m * n)) where
         within : InLimits (shapeIn input)
         within = rw states at (numbers-limits (shape m n top capacity) e z)
 
-        sized : layoutLength (shapeIn input) ≡ 31 + capacity * w
-        sized = rw (← states) (length-is m n top capacity q)
+        sized : x ≡ layoutLength (shapeIn input)
+        sized = rw (← states) (length-is (shape m n top capacity) q)
 
-        pub length-refused : 65536 < 31 + capacity * w → {r : Start} → r .number ≡ 13 → Starts input r
+        pub length-refused : 65536 < x → {r : Start} → r .number ≡ 13 → Starts input r
         length-refused h p = refused input (start-length input (o .short) line-yes within (omega (arith, sized))) (λ d. omega arith) p
 
-        pub start-made : 31 + capacity * w ≤ 65536 → Starts input (record { number = 0; rows = m; columns = n; top = top; capacity = capacity; length = 31 + capacity * w })
+        pub start-made : x ≤ 65536 → Starts input (record { number = 0; rows = m; columns = n; top = top; capacity = capacity; length = x })
         start-made h = record {
           number-is = sym (start-pass input .1 (record { input-short = o .short; line-laid = line-yes; limits = within; register-short = omega (arith, sized) }));
           shape-is = λ d. states;
-          length-is = λ d. sym sized;
+          length-is = λ d. sized;
         }

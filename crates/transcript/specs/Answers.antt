@@ -12,8 +12,8 @@ use Rattle.layout.specs.Layout.{cells}
 use Rattle.machine.specs.CallLists.{registerCalls, called}
 use Rattle.machine.specs.Machine.{shown}
 use Rattle.machine.specs.Valid.{placed}
-use Rattle.protocol.specs.Input.{furtherLines, commandIn, cellsIn, isLaid}
-use Rattle.protocol.specs.Commands.{callOf}
+use Rattle.protocol.specs.Input.{furtherLines, commandIn, isLaid}
+use Rattle.protocol.specs.Commands.{callIn}
 use Rattle.protocol.specs.Transcript.{shapeIn, startNo, reports, setAfter}
 use Rattle.protocol.specs.Programs.{outputLimit}
 use Rattle.transcript.specs.declared.reports.Report.{Report}
@@ -21,7 +21,7 @@ use Rattle.transcript.specs.declared.reports.Report.{Report}
 pub record Answers (size : ℕ) (line b b′ : List ℕ) (r : Report) : Type 0 where
   pub malformed : isLaid size line ≡ false → (r .command ≡ 0) × (r .number ≡ 12) × (r .place ≡ 0) × (b′ ≡ b)
   pub command-is : isLaid size line ≡ true → r .command ≡ commandIn line
-  pub calls : isLaid size line ≡ true → placed (r .number) (r .place) b′ ≡ called registerCalls b (callOf size (commandIn line) (cellsIn size line))
+  pub calls : isLaid size line ≡ true → placed (r .number) (r .place) b′ ≡ called registerCalls b (callIn size line)
 
 pub record Runs (input : List ℕ) (size : ℕ) (b out : List ℕ) : Type 0 where
   pub passes : startNo input ≡ 0

@@ -6,7 +6,7 @@ use crate::reports::Report;
 ghost use Prim.Native.Nat.{_≤_};
 ghost use Rattle.transcript.specs.Answers.{Answers, Answered, Runs};
 
-// Makes the call of a command line, unless the line is not laid as it should be.
+// Makes the call of a command line. Returns what is printed for it: 0, 12 and 0 where the line is not laid as it should be.
 fn answer_line(line: &[u8], size: usize, register: &mut [u8]) -> Report
     requires { ⌜ size ≤ 128 ⌝ }
     ensures { λ r. ⌜ Answers size (now (line .entry)) (now (register .entry)) (now (register .exit)) r ⌝ }

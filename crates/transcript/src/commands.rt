@@ -2,8 +2,9 @@
 use crate::fields;
 use lines::numbers;
 use register::answers::Placed;
-use register::calling;
-use register::calling::Command;
+use register::entering;
+use register::fitting;
+use register::striking;
 ghost use mathlib.Core.Path.{_≡_};
 ghost use Prim.Native.Nat.{_*_, _≤_};
 ghost use lib.ListN.{length};
@@ -69,15 +70,19 @@ fn part(cells: &[u8], low: &mut [u8], high: &mut [u8])
     }
 }
 
-// Makes the call fit of cells that hold low and high in turn.
-fn fit_parted(register: &mut [u8], size: usize, cells: &[u8]) -> Placed
+// Makes the call fit of cells that hold low and high in turn; its count stands in the place of a place.
+fn fit_parted(register: &[u8], size: usize, cells: &[u8]) -> Placed
     requires { ⌜ (size ≤ 128) × (length (now cells) ≡ 2 * size) ⌝ }
-    ensures { λ r. ⌜ placed (r .number) (r .place) (now (register .exit)) ≡ called registerCalls (now (register .entry)) (callOf size 3 (now (cells .entry))) ⌝ }
+    ensures { λ r. ⌜ placed (r .number) (r .place) (now (register .entry)) ≡ called registerCalls (now (register .entry)) (callOf size 3 (now (cells .entry))) ⌝ }
 {
     let mut low = [0u8; 128];
     let mut high = [0u8; 128];
     part(cells, &mut low[0..size], &mut high[0..size]);
-    calling::call(register, Command::Fit, &low[0..size], &high[0..size])
+    let found = fitting::fit(register, &low[0..size], &high[0..size]);
+    Placed {
+        number: found.number,
+        place: found.count,
+    }
 }
 
 // Makes the call of a command with its cells.
@@ -86,10 +91,10 @@ pub fn make_call(register: &mut [u8], size: usize, command: usize, cells: &[u8])
     ensures { λ r. ⌜ placed (r .number) (r .place) (now (register .exit)) ≡ called registerCalls (now (register .entry)) (callOf size command (now (cells .entry))) ⌝ }
 {
     if command == 1 {
-        return calling::call(register, Command::Enter, cells, cells);
+        return entering::enter(register, cells);
     }
     if command == 2 {
-        return calling::call(register, Command::Strike, cells, cells);
+        return striking::strike(register, cells);
     }
     fit_parted(register, size, cells)
 }

@@ -9,7 +9,7 @@ ghost use lib.ListN.{length};
 ghost use Rattle.layout.specs.Decimal.{field};
 ghost use Rattle.transcript.specs.Fields.{ReadsCells};
 
-// Whether the bytes are the field of a number.
+// Whether the bytes are the field of this number.
 pub fn is_field(bytes: &[u8], number: usize) -> bool
     requires { ⌜ length (now bytes) ≤ 6 ⌝ }
     ensures { λ r. ⌜ ((r ≡ true) ↔ (now (bytes .entry) ≡ field (length (now (bytes .entry))) number)) ⌝ }

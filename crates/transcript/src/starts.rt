@@ -72,7 +72,7 @@ pub fn check_input(input: &[u8]) -> Start
     if number != 0 {
         return refusal(number);
     }
-    let length = 31 + capacity * entries::line_length(rows * columns);
+    let length = entries::register_length(rows * columns, capacity);
     if 65536 < length {
         return refusal(13);
     }

@@ -8,7 +8,7 @@
 --   long                  ==  an input of 65,537 bytes
 --   Computed, computed    ==  what the definitions give
 --   lentRegister, lentOut ==  slices that are large enough
---   length-register, length-out, roomy  ==  their lengths, and that they are
+--   length-lent-register, length-out, roomy  ==  their lengths, and that they are
 --   long-no, long-printed ==  it gets 11, and its line is all that is printed
 --   The other names are those of the faults.
 use mathlib.Core.Path.{_≡_, refl, sym, ap, _∙_}
@@ -17,9 +17,6 @@ use mathlib.Core.Bool.{true, false, true≢false}
 use Prim.Native.Nat.{ℕ}
 use native.Mathlib.Omega.{arith}
 use lib.ListN.{length, take, drop, replicate, length-replicate, length-drop}
-use lib.Dec.{leb}
-use borrow.Author.Tests.{le-leb}
-use Rattle.permutations.proofs.BoolLaws.{yes-and}
 use Rattle.permutations.specs.Lists.{tabulate, every}
 use Rattle.grids.specs.Order.{equal}
 use Rattle.grids.specs.Grids.{capped}
@@ -31,10 +28,10 @@ use Rattle.machine.specs.Calls.{question4, gridQuestions}
 use Rattle.machine.specs.CallLists.{accepted}
 use Rattle.machine.specs.Machine.{shown, stepUnless, step}
 use Rattle.protocol.specs.Input.{onto, lines, firstLine, furtherLines, shapeLine, commandLine, cellCount, commandIn, cellsIn, isLaid}
-use Rattle.protocol.specs.Commands.{callOf, report, answerCall, malformed, answer}
-use Rattle.protocol.specs.Transcript.{byteLimit, shapeIn, question11, question12, question13, startQuestions, startNo, reports, setAfter, bookFrom, printedFrom, transcript}
-use Rattle.protocol.specs.Programs.{Prints, outputLimit, Transcribed, hasRoom, transcribed, MeetsTranscribe}
-use Rattle.protocol.proofs.RunLaws.{over-limit, start-refused, transcribed-rest}
+use Rattle.protocol.specs.Commands.{callOf, callIn, report, answerCall, malformed, answer}
+use Rattle.protocol.specs.Transcript.{shapeIn, question11, question12, question13, startQuestions, startNo, reports, setAfter, registerFrom, printedFrom, transcript}
+use Rattle.protocol.specs.Programs.{Prints, Transcribed, hasRoom, transcribed, MeetsTranscribe}
+use Rattle.protocol.proofs.RunLaws.{over-limit, start-refused, has-room, transcribed-rest}
 use Rattle.turned_down.specs.PlanbookFaults.{laidIn, cellsOn, firstStep, GoesOnAfter13, PrintsRegisterAfter11, EndsAtMalformed, PrintsUnderZero, MalformedReaches, RefusesCellsAsMalformed, AsksLengthFirst, SilentWithoutCommands, TakesUnended, CountsWithoutRoom, ClearsRest}
 use Rattle.turned_down.specs.TurnedDown.{fault, Turned}
 use Rattle.turned_down.proofs.Differences.{unequal}
@@ -98,7 +95,7 @@ record Computed : Type 0 where
   unended-printed : take 19 (transcript unended) ≡ report 0 12 0
 
 computed : Computed
-unfolding tabulate every flatten equal capped firstNo inRange question1 question2 question3 question6 question7 lead field digit valueFrom value fields entryWidth lineLength headLine layout layoutLength numberAt decodeShape cellsOf question4 gridQuestions accepted shown stepUnless step onto lines firstLine furtherLines shapeLine commandLine cellCount commandIn cellsIn isLaid callOf report answerCall malformed answer shapeIn question11 question12 question13 startQuestions startNo reports setAfter bookFrom printedFrom transcript
+unfolding tabulate every flatten equal capped firstNo inRange question1 question2 question3 question6 question7 lead field digit valueFrom value fields entryWidth lineLength headLine layout layoutLength numberAt decodeShape cellsOf question4 gridQuestions accepted shown stepUnless step onto lines firstLine furtherLines shapeLine commandLine cellCount commandIn cellsIn isLaid callOf callIn report answerCall malformed answer shapeIn question11 question12 question13 startQuestions startNo reports setAfter registerFrom printedFrom transcript
 computed = record {
   none-printed = refl;
   large-no = refl;
@@ -246,17 +243,16 @@ lentRegister = replicate 65536 0
 lentOut : List ℕ
 lentOut = replicate 1310720 0
 
-length-register : length lentRegister ≡ 65536
+length-lent-register : length lentRegister ≡ 65536
 unfolding lentRegister
-length-register = length-replicate {A = ℕ} 65536 0
+length-lent-register = length-replicate {A = ℕ} 65536 0
 
 length-out : length lentOut ≡ 1310720
 unfolding lentOut
 length-out = length-replicate {A = ℕ} 1310720 0
 
 roomy : hasRoom lentRegister lentOut ≡ true
-unfolding hasRoom
-roomy = yes-and (leb byteLimit (length lentRegister)) (leb outputLimit (length lentOut)) (le-leb byteLimit (length lentRegister) (omega (arith, length-register))) (le-leb outputLimit (length lentOut) (omega (arith, length-out)))
+roomy = has-room lentRegister lentOut (omega (arith, length-lent-register)) (omega (arith, length-out))
 
 pub clears-rest : Turned (fault MeetsTranscribe ClearsRest)
 unfolding MeetsTranscribe ClearsRest

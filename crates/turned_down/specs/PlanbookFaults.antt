@@ -26,7 +26,7 @@ use Rattle.layout.specs.Layout.{cells, layoutLength, laidOut}
 use Rattle.machine.specs.CallLists.{accepted}
 use Rattle.machine.specs.Machine.{Step, step, shown}
 use Rattle.protocol.specs.Input.{furtherLines, commandIn, cellsIn, isLaid}
-use Rattle.protocol.specs.Commands.{callOf, report}
+use Rattle.protocol.specs.Commands.{callIn, report}
 use Rattle.protocol.specs.Transcript.{byteLimit, shapeIn, question12, startNo, transcript}
 use Rattle.protocol.specs.Programs.{Printing, Transcribing, hasRoom}
 
@@ -37,7 +37,7 @@ abbrev pub cellsOn : List ℕ → List ℕ → List ℕ
 cellsOn input l = cellsIn (cells (shapeIn input)) l
 
 abbrev pub firstStep : List ℕ → List ℕ → Step
-firstStep input l = step (shapeIn input) [] (callOf (cells (shapeIn input)) (commandIn l) (cellsOn input l))
+firstStep input l = step (shapeIn input) [] (callIn (cells (shapeIn input)) l)
 
 unfoldable pub GoesOnAfter13 : Printing → Type 0
 GoesOnAfter13 p = (input : List ℕ) → startNo input ≡ 13 → 19 < length (p input)

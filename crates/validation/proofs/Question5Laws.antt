@@ -6,14 +6,13 @@
 --   head-decides                         ==  a comparison with line 1 decides that the bytes begin with it
 --   short-no, length-no, refutes         ==  too few bytes, another length, or a part whose test says no: question 5 gets a no
 --   last-decides                         ==  where the other parts hold, the blank lines decide
---   size-small, lines-small              ==  bounds of the products that the code forms
---   lines-inside, entries-inside         ==  the lines, and those of the entries, are within the bytes
+--   size-small                           ==  a bound of the product that the code forms
+--   entries-inside                       ==  the lines of the entries are within the bytes
 use mathlib.Core.Path.{_≡_, refl, sym, _∙_}
 use mathlib.Core.List.{List}
 use mathlib.Core.Bool.{Bool, true, false, true≢false, not}
 use mathlib.Core.Logic.{_↔_}
 use Prim.Native.Nat.{ℕ, _+_, _*_, _≤_, _<_}
-use native.Mathlib.Nat.{mul-le-mul}
 use native.Mathlib.Omega.{arith}
 use lib.ListN.{length, take}
 use borrow.Author.Tests.{not-true, not-false}
@@ -82,23 +81,17 @@ module _ {b : List ℕ} {h : Head} (s : States b h) where
   pub refutes : {A : Type 0} {r : Bool} → (LaidBy b h → A) → (r ≡ true) ↔ A → not r ≡ true → false ≡ laidOut b
   refutes {r = r} part d n = sym (refuted (laidOut b) laid-by (λ l. true≢false (sym (d .1 (part l)) ∙ not-true r n)))
 
-  pub length-no : {line : ℕ} → line ≡ lineLength (h .rows * h .columns) → (length b ≡ headLength + h .capacity * line → ⊥) → false ≡ laidOut b
-  length-no e other = sym (refuted (laidOut b) laid-by (λ l. other (rw e (l .sized))))
+  pub length-no : {n : ℕ} → n ≡ headLength + h .capacity * lineLength (h .rows * h .columns) → (length b ≡ n → ⊥) → false ≡ laidOut b
+  length-no e other = sym (refuted (laidOut b) laid-by (λ l. other (l .sized ∙ sym e)))
 
-  pub last-decides : {r : Bool} {line : ℕ} → WithinLimits (h .rows) (h .columns) (h .top) (h .capacity) (h .count) → line ≡ lineLength (h .rows * h .columns) → length b ≡ headLength + h .capacity * line →
+  pub last-decides : {r : Bool} → WithinLimits (h .rows) (h .columns) (h .top) (h .capacity) (h .count) → length b ≡ headLength + h .capacity * lineLength (h .rows * h .columns) →
       take headLength b ≡ headLine (shapeOf h) (h .count) → EntriesLaid (h .rows * h .columns) (h .top) (h .count) b → (r ≡ true) ↔ BlanksLaid (h .rows * h .columns) (h .count) (h .capacity) b → r ≡ laidOut b
-  last-decides {r} w e z f l d =
-      bool-ext r (laidOut b) (λ y. laid-by .1 (record { limits = w; sized = rw e at z; line = f; entries = l; blanks = d .0 y })) (λ y. d .1 (laid-by .0 y .blanks))
+  last-decides {r} w z f l d =
+      bool-ext r (laidOut b) (λ y. laid-by .1 (record { limits = w; sized = z; line = f; entries = l; blanks = d .0 y })) (λ y. d .1 (laid-by .0 y .blanks))
 
 module _ {rows columns top capacity count : ℕ} (w : WithinLimits rows columns top capacity count) where
   pub size-small : rows * columns ≤ 128
   size-small = size-fits rows columns (w .grid-limits .rows-limits .1) (w .grid-limits .column-limits .1)
 
-  pub lines-small : {line : ℕ} → line ≤ 385 → capacity * line ≤ 192500
-  lines-small h = mul-le-mul (w .capacity-limits .1) h
-
-  pub lines-inside : {line : ℕ} (n : ℕ) → line ≡ lineLength (rows * columns) → n ≡ headLength + capacity * line → headLength + capacity * lineLength (rows * columns) ≤ n
-  lines-inside n e z = rw (← e) (omega arith)
-
-  pub entries-inside : {line : ℕ} (n : ℕ) → line ≡ lineLength (rows * columns) → n ≡ headLength + capacity * line → headLength + count * lineLength (rows * columns) ≤ n
-  entries-inside n e z = start-inside (rows * columns) refl count capacity n (w .count-fits) (lines-inside n e z)
+  pub entries-inside : (n : ℕ) → n ≡ headLength + capacity * lineLength (rows * columns) → headLength + count * lineLength (rows * columns) ≤ n
+  entries-inside n z = start-inside (rows * columns) refl count capacity n (w .count-fits) (omega arith)

@@ -56,7 +56,7 @@ pub fn is_laid_out(register: &[u8]) -> bool
         return false;
     }
     let size = head.rows * head.columns;
-    if register.len() != 31 + capacity * lines::entries::line_length(size) {
+    if register.len() != lines::entries::register_length(size, capacity) {
         return false;
     }
     if !head_laid(register, head) {

@@ -79,8 +79,7 @@ runs =
     ∷ record { input = "     2     2     1     0\n" ∷ "     1  1  0  0  1\n" ∷ "\n" ∷ []; output = "     0     4     0\n" ∷ [] }
     ∷ record { input = "     2     2     1   501\n" ∷ "     1  1  0  0  1\n" ∷ "\n" ∷ []; output = "     0     4     0\n" ∷ [] }
     ∷ record { input = "     2     2     1999999\n" ∷ "     1  1  0  0  1\n" ∷ "\n" ∷ []; output = "     0     4     0\n" ∷ [] }
-    -- registers of 192531 bytes and of 65553, the smallest that is too large
-    ∷ record { input = "     8    16    15   500\n" ∷ "     1  1  0  0  1\n" ∷ "\n" ∷ []; output = "     0    13     0\n" ∷ [] }
+    -- a register of 65553 bytes, the smallest that is too large
     ∷ record { input = "     6    10     1   362\n" ∷ "     1  1  0  0  1\n" ∷ "\n" ∷ []; output = "     0    13     0\n" ∷ [] }
     -- one of 65467 bytes passes, and with a line more it has 65600
     ∷ record {
@@ -96,72 +95,44 @@ runs =
     ∷ record { input = "     8    16    15   501\n" ∷ "     1  1  0  0  1\n" ∷ "\n" ∷ []; output = "     0     4     0\n" ∷ [] }
     ∷ record { input = "     8    16    15   500\n" ∷ "     1  1  0  0  1\n" ∷ "\n" ∷ []; output = "     0    13     0\n" ∷ [] }
     ∷ record { input = "     8    16    15     1\n" ∷ []; output = "     8    16    15     1     0\n" ∷ (replicate 128 "   " ++ ("\n" ∷ [])) }
-    -- command lines not laid, and then one that is: an empty line, spaces, command 0, command 4, command 10
+    -- command lines that are not laid, and then one that is
     ∷ record {
       input = "     2     2     1     2\n"
+          -- an empty line, spaces, command 0, command 4, command 10
           ∷ "\n"
           ∷ "                  \n"
           ∷ "     0  0  0  1  1\n"
           ∷ "     4  0  0  1  1\n"
           ∷ "    10  0  0  1  1\n"
-          ∷ "     1  1  0  0  1\n"
-          ∷ [];
-      output = replicate 5 "     0    12     0\n" ++ ("     1     0     1\n" ∷ "     2     2     1     2     1\n" ∷ "  0  1  1  0\n" ∷ "            \n" ∷ []);
-    }
-    -- no cells, too few, too many, a byte more, a byte fewer
-    ∷ record {
-      input = "     2     2     1     2\n"
+          -- no cells, too few, too many, a byte more, a byte fewer
           ∷ "     1\n"
           ∷ "     1  0  0  1\n"
           ∷ "     1  0  0  1  1  1\n"
           ∷ "     1  0  0  1  1 \n"
           ∷ "    1  0  0  1  1\n"
-          ∷ "     1  1  0  0  1\n"
-          ∷ [];
-      output = replicate 5 "     0    12     0\n" ++ ("     1     0     1\n" ∷ "     2     2     1     2     1\n" ∷ "  0  1  1  0\n" ∷ "            \n" ∷ []);
-    }
-    -- a cell of 256, one of 999, also in a fit
-    ∷ record {
-      input = "     2     2     1     2\n"
+          -- a cell of 256, one of 999, also in a fit
           ∷ "     1  0  0  1256\n"
           ∷ "     2  0  0  1999\n"
           ∷ "     3  0  1  0  1  0  1  0256\n"
-          ∷ "     1  1  0  0  1\n"
-          ∷ [];
-      output = replicate 3 "     0    12     0\n" ++ ("     1     0     1\n" ∷ "     2     2     1     2     1\n" ∷ "  0  1  1  0\n" ∷ "            \n" ∷ []);
-    }
-    -- a leading zero, in a cell and in the command; a cell or the command left-justified; a blank cell
-    ∷ record {
-      input = "     2     2     1     2\n"
+          -- a leading zero, in a cell and in the command; a cell or the command left-justified; a blank cell
           ∷ "     1  0  0  1 01\n"
           ∷ "    01  0  0  1  1\n"
           ∷ "     1  0  0  11  \n"
           ∷ "1       0  0  1  1\n"
           ∷ "     1  0  0  1   \n"
-          ∷ "     1  1  0  0  1\n"
-          ∷ [];
-      output = replicate 5 "     0    12     0\n" ++ ("     1     0     1\n" ∷ "     2     2     1     2     1\n" ∷ "  0  1  1  0\n" ∷ "            \n" ∷ []);
-    }
-    -- a carriage return, a tab, a sign, a letter
-    ∷ record {
-      input = "     2     2     1     2\n"
+          -- a carriage return, a tab, a sign, a letter
           ∷ "     1  0  0  1  1\r\n"
           ∷ "     1  0  0  1\t 1\n"
           ∷ "     1  0  0  1 +1\n"
           ∷ "     1  0  0  1  x\n"
-          ∷ "     1  1  0  0  1\n"
-          ∷ [];
-      output = replicate 4 "     0    12     0\n" ++ ("     1     0     1\n" ∷ "     2     2     1     2     1\n" ∷ "  0  1  1  0\n" ∷ "            \n" ∷ []);
-    }
-    -- a fit with half the cells, an enter and a strike with twice as many
-    ∷ record {
-      input = "     2     2     1     2\n"
+          -- a fit with half the cells, an enter and a strike with twice as many
           ∷ "     3  0  1  0  1\n"
           ∷ "     1  0  0  0  0  0  0  0  0\n"
           ∷ "     2  0  0  0  0  0  0  0  0\n"
+          -- and laid
           ∷ "     1  1  0  0  1\n"
           ∷ [];
-      output = replicate 3 "     0    12     0\n" ++ ("     1     0     1\n" ∷ "     2     2     1     2     1\n" ∷ "  0  1  1  0\n" ∷ "            \n" ∷ []);
+      output = replicate 25 "     0    12     0\n" ++ ("     1     0     1\n" ∷ "     2     2     1     2     1\n" ∷ "  0  1  1  0\n" ∷ "            \n" ∷ []);
     }
     -- a last line without its line feed: not laid besides, and laid but for that
     ∷ record {

@@ -1,8 +1,9 @@
--- `main` is safe and ends: no more bytes are written than the output slice has.
+-- `main` is safe and ends: its slices are large enough for every input, and no more bytes are written than the output slice has.
 use mathlib.Core.Path.{sym}
+use native.Mathlib.Omega.{arith}
 use lib.Seq.{length-take-le}
 use borrow.Author.Needs.{needs}
-use Rattle.protocol.proofs.RunLaws.{count-within}
+use Rattle.protocol.proofs.RunLaws.{has-room}
 use Rattle.planbook.proofs.main.Statement.{statement}
 use Rattle.planbook.proofs.main.Tie as tie
 
@@ -15,36 +16,32 @@ large-buffer-requires c κs = search needs
 output-buffer-requires : tie.Need-output-buffer-requires
 output-buffer-requires c κs = search needs
 
-slice-aggregate-read-full : tie.Need-slice-aggregate-read-full
-slice-aggregate-read-full c = search needs
+slice-aggregate-read-input : tie.Need-slice-aggregate-read-input
+slice-aggregate-read-input c = search needs
 
-read-full-requires : tie.Need-read-full-requires
-read-full-requires c κs = search needs
+read-input-requires : tie.Need-read-input-requires
+read-input-requires c κs = search needs
 
 array-share-prefix-input : tie.Need-array-share-prefix-input
 array-share-prefix-input c = search needs
 
-slice-aggregate-transcribe : tie.Need-slice-aggregate-transcribe
-slice-aggregate-transcribe c = search needs
+slice-aggregate-print-into : tie.Need-slice-aggregate-print-into
+slice-aggregate-print-into c = search needs
 
-slice-aggregate-transcribe-2 : tie.Need-slice-aggregate-transcribe-2
-slice-aggregate-transcribe-2 c = search needs
+slice-aggregate-print-into-2 : tie.Need-slice-aggregate-print-into-2
+slice-aggregate-print-into-2 c = search needs
 
-slice-aggregate-transcribe-3 : tie.Need-slice-aggregate-transcribe-3
-slice-aggregate-transcribe-3 c = search needs
+slice-aggregate-print-into-3 : tie.Need-slice-aggregate-print-into-3
+slice-aggregate-print-into-3 c = search needs
 
-transcribe-requires : tie.Need-transcribe-requires
-transcribe-requires c κs = search needs
+print-into-requires : tie.Need-print-into-requires
+print-into-requires c κs = has-room _ _ (omega (arith, c .before .before .before .before .before .before .before .large-buffer .ensures)) (omega (arith, c .before .before .before .before .before .before .output-buffer .ensures))
 
 array-share-prefix-out : tie.Need-array-share-prefix-out
-array-share-prefix-out c =
-    let d = c .before .before .transcribe in
-    count-within _ _ _ (d .ensures) (d .kept .1 .1 .0)
+array-share-prefix-out c = search needs
 
 slice-aggregate-write-all : tie.Need-slice-aggregate-write-all
-slice-aggregate-write-all c =
-    let d = c .before .before .before .transcribe in
-    sym (length-take-le (d .result) (d .last .1 .1 .0) (count-within _ _ _ (d .ensures) (d .kept .1 .1 .0)))
+slice-aggregate-write-all c = let d = c .before .before .before .print-into in sym (length-take-le (d .result) (d .last .1 .1 .0) (d .ensures .0))
 
 write-all-requires : tie.Need-write-all-requires
 write-all-requires c κs = search needs
@@ -59,13 +56,13 @@ main-spec =
     input-buffer-requires
     large-buffer-requires
     output-buffer-requires
-    slice-aggregate-read-full
-    read-full-requires
+    slice-aggregate-read-input
+    read-input-requires
     array-share-prefix-input
-    slice-aggregate-transcribe
-    slice-aggregate-transcribe-2
-    slice-aggregate-transcribe-3
-    transcribe-requires
+    slice-aggregate-print-into
+    slice-aggregate-print-into-2
+    slice-aggregate-print-into-3
+    print-into-requires
     array-share-prefix-out
     slice-aggregate-write-all
     write-all-requires

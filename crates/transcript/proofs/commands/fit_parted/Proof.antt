@@ -29,41 +29,39 @@ part-high-end c = search needs
 part-requires : tie.Need-part-requires
 part-requires c κs = search needs
 
-sub-call : tie.Need-sub-call
-sub-call c = search needs
+sub-fit : tie.Need-sub-fit
+sub-fit c = search needs
 
-part-call-start : tie.Need-part-call-start
-part-call-start c = search needs
+part-fit-start : tie.Need-part-fit-start
+part-fit-start c = search needs
 
-part-call-end : tie.Need-part-call-end
-part-call-end c =
-    let a = c .before .before .before .before .before .before .before .before .before in
-    let d = c .before .before .before .before .part in
+part-fit-end : tie.Need-part-fit-end
+part-fit-end c =
+    let a = c .before .before .before .before .before .before .before .before in
+    let d = c .before .before .before .part in
     part-within (d .last .1 .0) _ (a .args .size) (d .kept .1 .0 ∙ part-length _ (a .args .size) (omega arith))
 
-sub-call-2 : tie.Need-sub-call-2
-sub-call-2 c = search needs
+sub-fit-2 : tie.Need-sub-fit-2
+sub-fit-2 c = search needs
 
-part-call-start-2 : tie.Need-part-call-start-2
-part-call-start-2 c = search needs
+part-fit-start-2 : tie.Need-part-fit-start-2
+part-fit-start-2 c = search needs
 
-part-call-end-2 : tie.Need-part-call-end-2
-part-call-end-2 c =
-    let a = c .before .before .before .before .before .before .before .before .before .before .before in
-    let d = c .before .before .before .before .before .before .part in
+part-fit-end-2 : tie.Need-part-fit-end-2
+part-fit-end-2 c =
+    let a = c .before .before .before .before .before .before .before .before .before .before in
+    let d = c .before .before .before .before .before .part in
     part-within (d .last .1 .1 .0) _ (a .args .size) (d .kept .1 .1 .0 ∙ part-length _ (a .args .size) (omega arith))
 
-call-requires : tie.Need-call-requires
-call-requires c κs = search needs
-
-same-length : tie.Need-same-length
-same-length c = search needs
+fit-requires : tie.Need-fit-requires
+fit-requires c κs = search needs
 
 returns : tie.Need-returns
+unfolding called registerCalls
 returns c =
-    let a = c .before .before .before .before .before .before .before .before .before .before .before .before .before .before .before in
-    let d = c .before .before .before .before .before .before .before .before .before .before .part in
-    c .before .before .call .ensures ∙ ap (called registerCalls (a .args .register .now)) (fit-parts (a .args .size) (a .args .cells .now) _ (d .last .1 .0) (d .last .1 .1 .0) (omega arith) (d .ensures) _ _)
+    let a = c .before .before .before .before .before .before .before .before .before .before .before .before in
+    let d = c .before .before .before .before .before .before .before .part in
+    c .fit .ensures ∙ ap (called registerCalls (a .args .register .now)) (fit-parts (a .args .size) (a .args .cells .now) _ (d .last .1 .0) (d .last .1 .1 .0) (omega arith) (d .ensures) _ _)
 
 pub fit-parted-spec : {M : Type 1} → statement M
 fit-parted-spec =
@@ -76,12 +74,11 @@ fit-parted-spec =
     part-high-start
     part-high-end
     part-requires
-    sub-call
-    part-call-start
-    part-call-end
-    sub-call-2
-    part-call-start-2
-    part-call-end-2
-    call-requires
-    same-length
+    sub-fit
+    part-fit-start
+    part-fit-end
+    sub-fit-2
+    part-fit-start-2
+    part-fit-end-2
+    fit-requires
     returns)

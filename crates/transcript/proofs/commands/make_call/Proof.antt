@@ -7,27 +7,29 @@ use Rattle.transcript.proofs.CallSteps.{enter-of, strike-of, fit-of, fi
 use Rattle.transcript.proofs.commands.make_call.Statement.{statement}
 use Rattle.transcript.proofs.commands.make_call.Tie as tie
 
-call-requires : tie.Need-call-requires
-call-requires c κs = search needs
+enter-requires : tie.Need-enter-requires
+enter-requires c κs = search needs
 
 same-length : tie.Need-same-length
 same-length c = search needs
 
 returns : tie.Need-returns
+unfolding called registerCalls
 returns c =
     let a = c .before .before .before .before .before .before .before in
-    c .before .before .call .ensures ∙ ap (called registerCalls (a .args .register .now)) (sym (enter-of (a .args .size) (a .args .cells .now) (c .before .before .before .before .if1 .taken)))
+    c .before .before .enter .ensures ∙ ap (called registerCalls (a .args .register .now)) (sym (enter-of (a .args .size) (a .args .cells .now) (c .before .before .before .before .if1 .taken)))
 
-call-requires-2 : tie.Need-call-requires-2
-call-requires-2 c κs = search needs
+strike-requires : tie.Need-strike-requires
+strike-requires c κs = search needs
 
 same-length-2 : tie.Need-same-length-2
 same-length-2 c = search needs
 
 returns-2 : tie.Need-returns-2
+unfolding called registerCalls
 returns-2 c =
     let a = c .before .before .before .before .before .before .before .before in
-    c .before .before .call2 .ensures ∙ ap (called registerCalls (a .args .register .now)) (sym (strike-of (a .args .size) (a .args .cells .now) (c .before .before .before .before .if2 .taken)))
+    c .before .before .strike .ensures ∙ ap (called registerCalls (a .args .register .now)) (sym (strike-of (a .args .size) (a .args .cells .now) (c .before .before .before .before .if2 .taken)))
 
 fit-parted-requires : tie.Need-fit-parted-requires
 fit-parted-requires c κs =
@@ -39,17 +41,17 @@ same-length-3 c = search needs
 
 returns-3 : tie.Need-returns-3
 returns-3 c =
-    let a = c .before .before .before .before .before .before .before .before in
-    c .before .before .fit-parted .ensures ∙ ap (called registerCalls (a .args .register .now)) (sym (fit-of (a .args .size) {k = a .args .command} (a .args .cells .now) (omega arith)))
+    let a = c .before .before .before .before .before .before in
+    c .fit-parted .ensures ∙ ap (called registerCalls (a .args .register .now)) (sym (fit-of (a .args .size) {k = a .args .command} (a .args .cells .now) (omega arith)))
 
 pub make-call-spec : {M : Type 1} → statement M
 make-call-spec =
     tie.close
     (tie.spec
-    call-requires
+    enter-requires
     same-length
     returns
-    call-requires-2
+    strike-requires
     same-length-2
     returns-2
     fit-parted-requires

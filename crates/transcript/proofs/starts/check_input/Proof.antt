@@ -1,10 +1,9 @@
 -- `check_input` meets its contract: each return has passed the checks before it, and gives the number of the one that got a no.
 use native.Mathlib.Omega.{arith}
-use Prim.Native.Nat.{_*_, _≤_}
 use borrow.Author.Needs.{needs}
 use Rattle.layout.specs.Layout.{InLimits}
 use Rattle.machine.specs.Valid.{shape}
-use Rattle.register.proofs.OpenSteps.{numbers-limits, limits-size, open-small}
+use Rattle.register.proofs.OpenSteps.{numbers-limits, limits-size}
 use Rattle.transcript.proofs.StartSteps.{LineRead, line-read, long-refused, short-refused, line-refused, numbers-refused, length-refused, start-made}
 use Rattle.transcript.proofs.starts.check_input.Statement.{statement}
 use Rattle.transcript.proofs.starts.check_input.Tie as tie
@@ -55,26 +54,17 @@ reads c =
 limits : (c : tie.Else4) → InLimits (shape (c .before .before .before .before .before .six-wide .result) (c .before .before .before .before .six-wide2 .result) (c .before .before .before .six-wide3 .result) (c .before .before .six-wide4 .result))
 limits c = numbers-limits _ (c .before .numbers-no .ensures) (c .if4 .left)
 
-small : (c : tie.After-line-length) → c .before .before .before .six-wide4 .result * c .line-length .result ≤ 192500
-small c = open-small (c .before .before .before .six-wide4 .result) (c .line-length .result) (limits (c .before) .capacity-limits .1) (c .line-length .ensures .1)
-
 refusal-requires-4 : tie.Need-refusal-requires-4
 refusal-requires-4 c κs = search needs
 
 returns-4 : tie.Need-returns-4
 returns-4 c = numbers-refused (reads (c .before .before .before)) (c .before .before .numbers-no .ensures) (c .before .if4 .taken) (c .refusal4 .ensures)
 
-mul-line-length : tie.Need-mul-line-length
-mul-line-length c = omega (arith, limits-size _ _ _ _ (limits c))
+mul-register-length : tie.Need-mul-register-length
+mul-register-length c = omega (arith, limits-size _ _ _ _ (limits c))
 
-line-length-requires : tie.Need-line-length-requires
-line-length-requires c κs = limits-size _ _ _ _ (limits c)
-
-mul-length : tie.Need-mul-length
-mul-length c = omega (arith, small c)
-
-add-length : tie.Need-add-length
-add-length c = omega (arith, small c)
+register-length-requires : tie.Need-register-length-requires
+register-length-requires c κs = (limits-size _ _ _ _ (limits c), limits c .capacity-limits .1)
 
 refusal-requires-5 : tie.Need-refusal-requires-5
 refusal-requires-5 c κs = search needs
@@ -83,13 +73,13 @@ returns-5 : tie.Need-returns-5
 returns-5 c =
     let d = c .before .before in
     let f = d .before in
-    length-refused (reads (f .before .before)) (f .before .numbers-no .ensures) (f .if4 .left) (d .line-length .ensures .0) (c .before .if5 .taken) (c .refusal5 .ensures)
+    length-refused (reads (f .before .before)) (f .before .numbers-no .ensures) (f .if4 .left) (d .register-length .ensures .0) (c .before .if5 .taken) (c .refusal5 .ensures)
 
 returns-6 : tie.Need-returns-6
 returns-6 c =
     let d = c .before in
     let f = d .before in
-    start-made (reads (f .before .before)) (f .before .numbers-no .ensures) (f .if4 .left) (d .line-length .ensures .0) (c .if5 .left)
+    start-made (reads (f .before .before)) (f .before .numbers-no .ensures) (f .if4 .left) (d .register-length .ensures .0) (c .if5 .left)
 
 pub check-input-spec : {M : Type 1} → statement M
 check-input-spec =
@@ -109,10 +99,8 @@ check-input-spec =
     numbers-no-requires
     refusal-requires-4
     returns-4
-    mul-line-length
-    line-length-requires
-    mul-length
-    add-length
+    mul-register-length
+    register-length-requires
     refusal-requires-5
     returns-5
     returns-6)

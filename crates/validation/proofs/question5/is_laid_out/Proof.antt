@@ -1,7 +1,8 @@
 -- `is_laid_out` meets its contract.
+use mathlib.Core.Path.{_∙_}
 use native.Mathlib.Omega.{arith}
 use borrow.Author.Needs.{needs}
-use Rattle.validation.proofs.Question5Laws.{passed, short-no, length-no, refutes, last-decides, size-small, lines-small, lines-inside, entries-inside}
+use Rattle.validation.proofs.Question5Laws.{passed, short-no, length-no, refutes, last-decides, size-small, entries-inside}
 use Rattle.validation.proofs.question5.is_laid_out.Statement.{statement}
 use Rattle.validation.proofs.question5.is_laid_out.Tie as tie
 
@@ -20,17 +21,13 @@ returns-2 c = refutes (c .before .before .read-head .ensures) (λ l. l .limits) 
 mul-size : tie.Need-mul-size
 mul-size c = omega (arith, size-small (passed (c .before .before .within-limits .ensures) (c .before .if2 .left)))
 
-line-length-requires : tie.Need-line-length-requires
-line-length-requires c κs = size-small (passed (c .before .before .within-limits .ensures) (c .before .if2 .left))
-
-mul-if3 : tie.Need-mul-if3
-mul-if3 c = omega (arith, lines-small (passed (c .before .before .before .within-limits .ensures) (c .before .before .if2 .left)) (c .line-length .ensures .1))
-
-add-if3 : tie.Need-add-if3
-add-if3 c = omega (arith, lines-small (passed (c .before .before .before .within-limits .ensures) (c .before .before .if2 .left)) (c .line-length .ensures .1))
+register-length-requires : tie.Need-register-length-requires
+register-length-requires c κs =
+    let w = passed (c .before .before .within-limits .ensures) (c .before .if2 .left) in
+    (size-small w, w .capacity-limits .1)
 
 returns-3 : tie.Need-returns-3
-returns-3 c = length-no (c .before .before .before .before .before .read-head .ensures) (c .before .line-length .ensures .0) (c .if3 .taken)
+returns-3 c = length-no (c .before .before .before .before .before .read-head .ensures) (c .before .register-length .ensures .0) (c .if3 .taken)
 
 head-laid-requires : tie.Need-head-laid-requires
 head-laid-requires c κs = search needs
@@ -44,7 +41,7 @@ cast-entries-laid c = omega (arith, (passed (c .before .before .before .before .
 entries-laid-requires : tie.Need-entries-laid-requires
 entries-laid-requires c κs =
     let w = passed (c .before .before .before .before .before .before .within-limits .ensures) (c .before .before .before .before .before .if2 .left) in
-    (size-small w, w .grid-limits .top-limit, entries-inside w _ (c .before .before .before .line-length .ensures .0) (c .before .before .if3 .left))
+    (size-small w, w .grid-limits .top-limit, entries-inside w _ (c .before .before .if3 .left ∙ c .before .before .before .register-length .ensures .0))
 
 returns-5 : tie.Need-returns-5
 returns-5 c = refutes (c .before .before .before .before .before .before .before .before .before .read-head .ensures) (λ l. l .entries) (c .before .entries-laid .ensures) (c .if5 .taken)
@@ -52,11 +49,11 @@ returns-5 c = refutes (c .before .before .before .before .before .before .before
 blanks-laid-requires : tie.Need-blanks-laid-requires
 blanks-laid-requires c κs =
     let w = passed (c .before .before .before .before .before .before .before .before .within-limits .ensures) (c .before .before .before .before .before .before .before .if2 .left) in
-    (size-small w, w .count-fits, lines-inside w _ (c .before .before .before .before .before .line-length .ensures .0) (c .before .before .before .before .if3 .left))
+    (size-small w, w .count-fits, omega (arith, c .before .before .before .before .if3 .left, c .before .before .before .before .before .register-length .ensures .0))
 
 returns-6 : tie.Need-returns-6
 returns-6 c =
-    last-decides (c .before .before .before .before .before .before .before .before .before .before .read-head .ensures) (passed (c .before .before .before .before .before .before .before .before .before .within-limits .ensures) (c .before .before .before .before .before .before .before .before .if2 .left)) (c .before .before .before .before .before .before .line-length .ensures .0) (c .before .before .before .before .before .if3 .left)
+    last-decides (c .before .before .before .before .before .before .before .before .before .before .read-head .ensures) (passed (c .before .before .before .before .before .before .before .before .before .within-limits .ensures) (c .before .before .before .before .before .before .before .before .if2 .left)) (c .before .before .before .before .before .if3 .left ∙ c .before .before .before .before .before .before .register-length .ensures .0)
     (passed (c .before .before .before .before .head-laid .ensures) (c .before .before .before .if4 .left))
     (passed (c .before .before .entries-laid .ensures) (c .before .if5 .left))
     (c .blanks-laid .ensures)
@@ -70,9 +67,7 @@ is-laid-out-spec =
     within-limits-requires
     returns-2
     mul-size
-    line-length-requires
-    mul-if3
-    add-if3
+    register-length-requires
     returns-3
     head-laid-requires
     returns-4
