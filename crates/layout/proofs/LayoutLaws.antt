@@ -4,6 +4,7 @@
 --   wide-map, of-replicate  ==  when a mapped list is of lists of one length; what a list of copies holds
 --   piece, length-flatten  ==  one of several pieces of one length, put one after another
 --   length-fields, field-at, fields-read  ==  numbers in fields of one width; each field taken out, and read back
+--   length-ended      ==  how many bytes numbers in fields and a line feed take
 --   length-entry, length-blank, length-head, length-entries, length-blanks, length-layout  ==  the lengths of the lines and of the whole
 --   Printable r       ==  the numbers and cells of r fit their fields
 --   decode-layout     ==  what the layout of a printable register states is that register
@@ -80,9 +81,12 @@ fields-read w l t i h small = ap value (field-at (suc w) l t i h) ∙ value-fiel
 
 -- ---- lines
 
+pub length-ended : (w : ℕ) (l : List ℕ) → length (fields w l ++ (10 ∷ [])) ≡ length l * w + 1
+length-ended w l = length-append (fields w l) (10 ∷ []) ∙ ap (λ (n : ℕ). n + 1) (length-fields w l)
+
 pub length-entry : (g : List ℕ) → length (entryLine g) ≡ lineLength (length g)
 unfolding entryLine lineLength entryWidth
-length-entry g = length-append (fields 3 g) (10 ∷ []) ∙ omega (arith, length-fields 3 g)
+length-entry g = length-ended 3 g ∙ omega arith
 
 pub length-blank : (size : ℕ) → length (blankLine size) ≡ lineLength size
 unfolding blankLine lineLength
@@ -90,7 +94,7 @@ length-blank size = length-append (replicate (entryWidth size) 32) (10 ∷ []) �
 
 pub length-head : (s : Shape) (n : ℕ) → length (headLine s n) ≡ headLength
 unfolding headLine
-length-head s n = length-append (fields 6 (s .rows ∷ s .columns ∷ s .top ∷ s .capacity ∷ n ∷ [])) (10 ∷ []) ∙ omega (arith, length-fields 6 (s .rows ∷ s .columns ∷ s .top ∷ s .capacity ∷ n ∷ []))
+length-head s n = length-ended 6 (s .rows ∷ s .columns ∷ s .top ∷ s .capacity ∷ n ∷ [])
 
 cell-read : (g u : List ℕ) (k : ℕ) → k < length g → getD g k 0 < 1000 → value (take 3 (drop (3 * k) (entryLine g ++ u))) ≡ getD g k 0
 unfolding entryLine

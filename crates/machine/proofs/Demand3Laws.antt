@@ -17,29 +17,29 @@ use mathlib.Core.Logic.{_↔_}
 use Prim.Native.Nat.{ℕ, zero, suc, _*_}
 use native.Mathlib.Omega.{arith}
 use lib.ListN.{length}
-use lib.Dec.{ltb, eqb}
+use lib.Dec.{eqb}
 use Rattle.permutations.specs.Lists.{select, every}
 use Rattle.permutations.proofs.ListLaws.{select-none}
-use Rattle.grids.specs.Questions.{firstNo, question6, question7}
+use Rattle.grids.specs.Questions.{firstNo}
 use Rattle.machine.proofs.AskedLaws.{open-pass}
 use Rattle.machine.proofs.CallListLaws.{meets-has}
-use Rattle.grids.proofs.QuestionLaws.{firstNo-has}
 use Rattle.bounds.specs.Bounds.{inBounds}
 use Rattle.bounds.specs.Kept.{Obeyed, obeyed}
 use Rattle.bounds.specs.Allperm.{Allperm, allperm}
-use Rattle.bounds.specs.Prune.{boundsQuestions, question8}
+use Rattle.bounds.specs.Prune.{boundsQuestions}
 use Rattle.bounds.proofs.KeptLaws.{obeyed-decides}
 use Rattle.bounds.proofs.AllpermLaws.{allperm-decides, least-allperm}
 use Rattle.bounds.proofs.PruneLaws.{none-in-bounds}
 use Rattle.layout.specs.Layout.{Shape, Register, cells, layout, layoutLength, count, decode, InLimits}
-use Rattle.machine.specs.Calls.{Outcome, answered, gridQuestions, leastIn, holds, opened, fitted}
+use Rattle.machine.specs.Calls.{Outcome, answered, leastIn, holds, opened, fitted}
 use Rattle.machine.specs.CallLists.{Call, enter, strike, fit, Implementation, registerCalls, Meets, called, run, left, accepted}
-use Rattle.machine.specs.Machine.{sorted, shown, Step, stepUnless, enterClass, strikeClass, fitClasses, step, outcome, outcomes}
+use Rattle.machine.specs.Machine.{sorted, shown, stepUnless, fitClasses, step, outcome, outcomes}
 use Rattle.machine.specs.Demand3.{live, ListsLive, AfterOpen, Demand3}
 use Rattle.layout.proofs.LayoutLaws.{count-layout}
 use Rattle.layout.proofs.RegisterLaws.{register-printable}
 use Rattle.machine.proofs.SortedLaws.{Grids, asc-ext, in-sorted, of-sorted, sorted-asc, length-sorted, holds-sorted}
 use Rattle.machine.proofs.MachineLaws.{Good, empty-good, registerOf, good-register, reads, self-least, enter-same, strike-same, fit-same, step-good, afterwards, afterwards-good}
+use Rattle.machine.proofs.StepLaws.{step-answers}
 use Rattle.machine.proofs.LiveLaws.{bounds-refused, live-machine, lists-held}
 
 -- ---- whole lists
@@ -63,50 +63,18 @@ left-shown s (c ∷ calls) l g = ap (λ (o : Outcome). left registerCalls (o .by
 
 -- ---- question 5 never gets a no
 
-enter-not-5 : (s : Shape) (l : Grids) (r : List ℕ) → eqb (enterClass s l r .number) 5 ≡ false
-unfolding enterClass
-enter-not-5 s l r = go (holds r l) refl (ltb (length l) (s .capacity)) refl
-  where
-    go : (h : Bool) → holds r l ≡ h → (f : Bool) → ltb (length l) (s .capacity) ≡ f → eqb (enterClass s l r .number) 5 ≡ false
-    go true h f e = rw (h, enterClass)
-    go false h true e = rw (h, e, enterClass)
-    go false h false e = rw (h, e, enterClass)
-
-strike-not-5 : (l : Grids) (r : List ℕ) → eqb (strikeClass l r .number) 5 ≡ false
-unfolding strikeClass
-strike-not-5 l r = go (holds r l) refl
-  where
-    go : (h : Bool) → holds r l ≡ h → eqb (strikeClass l r .number) 5 ≡ false
-    go true h = rw (h, strikeClass)
-    go false h = rw (h, strikeClass)
-
-fit-not-5 : (s : Shape) (l : Grids) (low high : List ℕ) → eqb (fitClasses s l low high .number) 5 ≡ false
-unfolding fitClasses
-fit-not-5 s l low high = go (obeyed (allperm (s .rows) (s .columns)) (cells s) (s .top) low high) refl
-  where
-    go : (t : Bool) → obeyed (allperm (s .rows) (s .columns)) (cells s) (s .top) low high ≡ t → eqb (fitClasses s l low high .number) 5 ≡ false
-    go true e = rw (e, fitClasses)
-    go false e = rw (e, fitClasses)
-
--- neither does one of questions 6 to 8 answer 5
-grid-not-5 : (s : Shape) (g : List ℕ) → eqb (firstNo (gridQuestions s g)) 5 ≡ false
-unfolding gridQuestions question6 question7
-grid-not-5 s g = firstNo-has (λ k. eqb k 5 ≡ false) (gridQuestions s g) refl (refl, (refl, tt))
-
-bounds-not-5 : (size top : ℕ) (low high : List ℕ) → eqb (firstNo (boundsQuestions size top low high)) 5 ≡ false
-unfolding boundsQuestions question6 question7 question8
-bounds-not-5 size top low high = firstNo-has (λ k. eqb k 5 ≡ false) (boundsQuestions size top low high) refl (refl, (refl, (refl, tt)))
-
-unless-not-5 : (k : ℕ) (l : Grids) (t : Step) → eqb k 5 ≡ false → eqb (t .number) 5 ≡ false → eqb (stepUnless k l t .number) 5 ≡ false
-unfolding stepUnless
-unless-not-5 zero l t e f = f
-unless-not-5 (suc k) l t e f = e
-
 pub step-not-5 : (s : Shape) (l : Grids) (c : Call) → eqb (step s l c .number) 5 ≡ false
-unfolding step
-step-not-5 s l (enter g) = unless-not-5 _ l _ (grid-not-5 s g) (enter-not-5 s l (leastIn s g))
-step-not-5 s l (strike g) = unless-not-5 _ l _ (grid-not-5 s g) (strike-not-5 l (leastIn s g))
-step-not-5 s l (fit low high) = unless-not-5 _ l _ (bounds-not-5 (cells s) (s .top) low high) (fit-not-5 s l low high)
+step-not-5 s l = step-answers (λ k p. eqb k 5 ≡ false) s l (record {
+  length-no = refl;
+  cells-no = refl;
+  order-no = refl;
+  full = refl;
+  not-held = refl;
+  none = refl;
+  done = λ r. refl;
+  held = λ r. refl;
+  counted = λ t. refl;
+})
 
 pub never-five : (s : Shape) (calls : List Call) (l : Grids) → every (λ o. not (eqb (o .number) 5)) (outcomes s l calls) ≡ true
 unfolding outcomes outcome every

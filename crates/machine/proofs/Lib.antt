@@ -12,6 +12,7 @@ pub mod CallListLaws
 pub mod MachineLaws
 pub mod LiveLaws
 pub mod Demand1Laws
+pub mod StepLaws
 pub mod Demand3Laws
 pub mod LiveLists
 pub mod FollowLaws

@@ -17,7 +17,7 @@
 --   ShapeLaid s l      ==  l is line 1 with the numbers of s, each below 1,000,000
 --   shape-stated       ==  then they are read from it
 --   shape-laid         ==  question 12 gets a yes exactly if line 1 states some numbers so
---   shape-length       ==  how many bytes it has then
+--   length-shape, shape-length  ==  how many bytes it has then
 use mathlib.Core.Path.{_≡_, refl, sym, ap, ap₂, _∙_}
 use mathlib.Core.List.{List, [], _∷_, _++_, flatten}
 use mathlib.Core.Bool.{Bool, true, false}
@@ -40,7 +40,7 @@ use Rattle.layout.specs.Decimal.{lead, field, digit, valueFrom, value}
 use Rattle.layout.specs.Layout.{Shape, fields, numberAt, decodeShape}
 use Rattle.layout.specs.Lines.{cellsOf}
 use Rattle.layout.proofs.DecimalLaws.{length-field, value-append, value-field}
-use Rattle.layout.proofs.LayoutLaws.{length-fields, field-at, fields-read}
+use Rattle.layout.proofs.LayoutLaws.{length-ended, field-at, fields-read}
 use Rattle.layout.proofs.LineLaws.{length-cells}
 use Rattle.machine.specs.CallLists.{enter, strike, fit}
 use Rattle.protocol.specs.Input.{onto, lines, firstLine, shapeLine, commandLine, cellCount, commandIn, cellsIn, isLaid}
@@ -248,7 +248,7 @@ laid-length size l e =
     let o = h .2 in
     ap length (o .bytes)
     ∙ length-append (field 6 (h .0)) (fields 3 c ++ (10 ∷ []))
-    ∙ rw (command-stated o) (omega (arith, length-field 6 (h .0), length-append (fields 3 c) (10 ∷ []), length-fields 3 c, o .sized))
+    ∙ rw (command-stated o) (omega (arith, length-field 6 (h .0), length-ended 3 c, o .sized))
 
 -- ---- the calls of command lines
 
@@ -382,8 +382,9 @@ shape-laid input = (to, back)
     back : (s : Shape) × ShapeLaid s l → question12 input .answer ≡ true
     back h = eq-equal (shapeLine (decodeShape l)) l (ap shapeLine (shape-of (h .0) l (h .1)) ∙ sym (h .1 .bytes))
 
-pub shape-length : (input : List ℕ) → question12 input .answer ≡ true → length (firstLine input) ≡ 25
+pub length-shape : (s : Shape) → length (shapeLine s) ≡ 25
 unfolding shapeLine
-shape-length input e =
-    let h = shape-laid input .0 e in
-    ap length (h .1 .bytes) ∙ length-append (fields 6 (numbersOf (h .0))) (10 ∷ []) ∙ omega (arith, length-fields 6 (numbersOf (h .0)))
+length-shape s = length-ended 6 (numbersOf s)
+
+pub shape-length : (input : List ℕ) → question12 input .answer ≡ true → length (firstLine input) ≡ 25
+shape-length input e = let h = shape-laid input .0 e in ap length (h .1 .bytes) ∙ length-shape (h .0)

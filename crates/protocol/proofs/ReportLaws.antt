@@ -11,26 +11,20 @@
 use mathlib.Core.Path.{_≡_, refl, _∙_}
 use mathlib.Core.List.{List, [], _∷_}
 use mathlib.Core.Bool.{Bool, true, false}
-use Prim.Native.Nat.{ℕ, zero, suc, _*_, _≤_, _<_}
+use Prim.Native.Nat.{ℕ, _*_, _≤_, _<_}
 use native.Mathlib.Omega.{arith}
 use lib.ListN.{length, getD, length-append}
-use lib.Dec.{ltb}
 use Rattle.permutations.specs.Lists.{select}
 use Rattle.permutations.proofs.ListLaws.{length-select}
 use Rattle.grids.specs.Order.{less}
-use Rattle.grids.specs.Questions.{firstNo, question6, question7}
-use Rattle.grids.proofs.QuestionLaws.{firstNo-has}
-use Rattle.bounds.specs.Bounds.{inBounds}
-use Rattle.bounds.specs.Kept.{obeyed}
-use Rattle.bounds.specs.Allperm.{allperm}
-use Rattle.bounds.specs.Prune.{boundsQuestions, question8}
-use Rattle.layout.specs.Layout.{Shape, cells, fields, numberAt}
-use Rattle.layout.proofs.LayoutLaws.{length-fields, fields-read}
-use Rattle.machine.specs.Calls.{gridQuestions, leastIn, holds, placeIn}
-use Rattle.machine.specs.CallLists.{Call, enter, strike, fit}
-use Rattle.machine.specs.Machine.{Step, stepUnless, enterClass, strikeClass, fitClasses, step}
+use Rattle.layout.specs.Layout.{Shape, cells, numberAt}
+use Rattle.layout.proofs.LayoutLaws.{length-ended, fields-read}
+use Rattle.machine.specs.Calls.{placeIn}
+use Rattle.machine.specs.CallLists.{Call}
+use Rattle.machine.specs.Machine.{step}
 use Rattle.machine.proofs.MachineLaws.{Good}
-use Rattle.protocol.specs.Input.{commandIn, cellsIn, isLaid}
+use Rattle.machine.proofs.StepLaws.{step-answers}
+use Rattle.protocol.specs.Input.{commandIn, isLaid}
 use Rattle.protocol.specs.Commands.{callOf, callIn, report, answerCall, malformed, answer}
 use Rattle.protocol.specs.Transcript.{reports}
 use Rattle.protocol.proofs.InputLaws.{CommandLaid, laid-command, laid-exactly}
@@ -39,7 +33,7 @@ use Rattle.protocol.proofs.InputLaws.{CommandLaid, laid-command, laid-e
 
 pub length-report : (k x p : ℕ) → length (report k x p) ≡ 19
 unfolding report
-length-report k x p = length-append (fields 6 (k ∷ x ∷ p ∷ [])) (10 ∷ []) ∙ omega (arith, length-fields 6 (k ∷ x ∷ p ∷ []))
+length-report k x p = length-ended 6 (k ∷ x ∷ p ∷ [])
 
 pub record ReportStates (k x p : ℕ) (b : List ℕ) : Type 0 where
   pub command : numberAt 6 0 b ≡ k
@@ -80,64 +74,26 @@ length-reports s l (line ∷ ls) =
 
 -- ---- the numbers fit their fields
 
-record Small (t : Step) : Type 0 where
-  number-small : t .number ≤ 102
-  place-small : t .place ≤ 501
-
-unless-small : (k : ℕ) (l : List (List ℕ)) (t : Step) → k ≤ 102 → Small t → Small (stepUnless k l t)
-unfolding stepUnless
-unless-small zero l t h o = o
-unless-small (suc k) l t h o = record { number-small = h; place-small = omega arith }
-
-grid-small : (s : Shape) (g : List ℕ) → firstNo (gridQuestions s g) ≤ 102
-unfolding gridQuestions question6 question7
-grid-small s g = firstNo-has (λ k. k ≤ 102) (gridQuestions s g) (omega arith) (omega arith, (omega arith, tt))
-
-bounds-small : (size top : ℕ) (low high : List ℕ) → firstNo (boundsQuestions size top low high) ≤ 102
-unfolding boundsQuestions question6 question7 question8
-bounds-small size top low high = firstNo-has (λ k. k ≤ 102) (boundsQuestions size top low high) (omega arith) (omega arith, (omega arith, (omega arith, tt)))
-
 module _ (s : Shape) (l : List (List ℕ)) (g : Good s l) where
-  some-few : (t : List ℕ → Bool) → length (select t l) ≤ 500
-  some-few t = omega (arith, length-select t l, g .fits, g .limits .capacity-limits)
+  few : (t : List ℕ → Bool) → length (select t l) ≤ 500
+  few t = omega (arith, length-select t l, g .fits, g .limits .capacity-limits)
 
-  place-few : (r : List ℕ) → placeIn l r ≤ 501
+  place-few : (r : List ℕ) → placeIn l r < 1000000
   unfolding placeIn
-  place-few r = omega (arith, some-few (λ x. less x r))
-
-  enter-small : (r : List ℕ) → Small (enterClass s l r)
-  unfolding enterClass
-  enter-small r = go (holds r l) refl (ltb (length l) (s .capacity)) refl
-    where
-      go : (h : Bool) → holds r l ≡ h → (f : Bool) → ltb (length l) (s .capacity) ≡ f → Small (enterClass s l r)
-      go true h f e = rw (h, enterClass) (record { number-small = omega arith; place-small = place-few r })
-      go false h true e = rw (h, e, enterClass) (record { number-small = omega arith; place-small = place-few r })
-      go false h false e = rw (h, e, enterClass) (record { number-small = omega arith; place-small = omega arith })
-
-  strike-small : (r : List ℕ) → Small (strikeClass l r)
-  unfolding strikeClass
-  strike-small r = go (holds r l) refl
-    where
-      go : (h : Bool) → holds r l ≡ h → Small (strikeClass l r)
-      go true h = rw (h, strikeClass) (record { number-small = omega arith; place-small = place-few r })
-      go false h = rw (h, strikeClass) (record { number-small = omega arith; place-small = omega arith })
-
-  fit-small : (low high : List ℕ) → Small (fitClasses s l low high)
-  unfolding fitClasses
-  fit-small low high = go (obeyed (allperm (s .rows) (s .columns)) (cells s) (s .top) low high) refl
-    where
-      go : (t : Bool) → obeyed (allperm (s .rows) (s .columns)) (cells s) (s .top) low high ≡ t → Small (fitClasses s l low high)
-      go true e = rw (e, fitClasses) (record { number-small = omega arith; place-small = omega (arith, some-few (inBounds (cells s) (s .top) low high)) })
-      go false e = rw (e, fitClasses) (record { number-small = omega arith; place-small = omega arith })
-
-  step-small : (c : Call) → Small (step s l c)
-  unfolding step
-  step-small (enter a) = unless-small _ l _ (grid-small s a) (enter-small (leastIn s a))
-  step-small (strike a) = unless-small _ l _ (grid-small s a) (strike-small (leastIn s a))
-  step-small (fit low high) = unless-small _ l _ (bounds-small (cells s) (s .top) low high) (fit-small low high)
+  place-few r = omega (arith, few (λ x. less x r))
 
   pub step-fits : (c : Call) → (step s l c .number < 1000000) × (step s l c .place < 1000000)
-  step-fits c = let o = step-small c in (omega arith, omega arith)
+  step-fits = step-answers (λ k p. (k < 1000000) × (p < 1000000)) s l (record {
+    length-no = (omega arith, omega arith);
+    cells-no = (omega arith, omega arith);
+    order-no = (omega arith, omega arith);
+    full = (omega arith, omega arith);
+    not-held = (omega arith, omega arith);
+    none = (omega arith, omega arith);
+    done = λ r. (omega arith, place-few r);
+    held = λ r. (omega arith, place-few r);
+    counted = λ t. (omega arith, omega (arith, few t));
+  })
 
 -- ---- what is stated
 

@@ -2,6 +2,7 @@
 --
 --   malformed-leaves   ==  lines that are not laid change nothing
 --   over-limit, start-line, start-numbers, start-length  ==  the first no before any command, check by check: 11, 12, 1 to 4, 13
+--   open-refuses       ==  a no to 1 to 4 is open's own, whatever the slice
 --   Passes input       ==  an input of at most 65,536 bytes whose line 1 is laid, within the limits, with a register of at most 65,536 bytes
 --   start-pass         ==  no check gets a no exactly for such an input
 --   start-limits       ==  so the limits hold, and the register is short enough
@@ -39,11 +40,11 @@ use borrow.Author.Tests.{leb-true, le-leb, lt-leb}
 use Rattle.permutations.specs.Lists.{select}
 use Rattle.permutations.proofs.BoolLaws.{and-yes, yes-and}
 use Rattle.permutations.proofs.ListLaws.{select-yes, select-no}
-use Rattle.grids.specs.Questions.{firstNo, question1, question2, question3}
+use Rattle.grids.specs.Questions.{firstNo, question1, question2, question3, question6}
 use Rattle.grids.proofs.QuestionLaws.{Numbered, first-no-zero, firstNo-pass, firstNo-stop, first-no-stays, first-no-next, range-yes, limits-asked}
 use Rattle.layout.specs.Layout.{Shape, cells, layoutLength, count, InLimits, laidOut}
 use Rattle.layout.proofs.LayoutLaws.{length-layout}
-use Rattle.machine.specs.Calls.{Outcome, question4}
+use Rattle.machine.specs.Calls.{Outcome, refusal, answered, question4, openQuestions, opened}
 use Rattle.machine.specs.CallLists.{Call, Implementation, registerCalls, run, left}
 use Rattle.machine.specs.Machine.{shown, step, outcome, outcomes}
 use Rattle.machine.specs.Demand3.{live, ListsLive, Demand3}
@@ -100,6 +101,10 @@ module _ (input : List ℕ) where
       pub start-length : InLimits (shapeIn input) → byteLimit < layoutLength (shapeIn input) → startNo input ≡ 13
       unfolding question13
       start-length h long = past-numbers h ∙ firstNo-stop (question13 (shapeIn input)) [] (lt-leb (layoutLength (shapeIn input)) byteLimit long)
+
+pub open-refuses : (s : Shape) (k : ℕ) → numbersNo s ≡ suc k → (b : List ℕ) → opened s b ≡ refusal (suc k) b
+unfolding numbersNo opened openQuestions answered
+open-refuses s k e b = rw (first-no-stays (numberQuestions s) (question6 (layoutLength s) (b ∷ []) ∷ []) (λ z. omega arith) ∙ e) refl
 
 pub record Passes (input : List ℕ) : Type 0 where
   pub input-short : length input ≤ byteLimit

@@ -101,8 +101,8 @@ module _ (s : Shape) (b : List ℕ) {k : ℕ} (e : k ≡ openNo s (length b)) wh
 
 -- ---- the bytes
 
-pub limits-size : (m n top capacity : ℕ) → InLimits (shape m n top capacity) → m * n ≤ 128
-limits-size m n top capacity l = size-fits m n (l .grid-limits .rows-limits .1) (l .grid-limits .column-limits .1)
+pub limits-size : (s : Shape) → InLimits s → s .rows * s .columns ≤ 128
+limits-size s i = size-fits (s .rows) (s .columns) (i .grid-limits .rows-limits .1) (i .grid-limits .column-limits .1)
 
 pub head-fits : (s : Shape) (b : List ℕ) → length b ≡ layoutLength s → 31 ≤ length b
 unfolding layoutLength
@@ -126,7 +126,7 @@ module _ {s : Shape} {w start e : ℕ} {b : List ℕ} (i : InLimits s) (f : Fill
   pub filling-room : Room b start 0 w
   unfolding layoutLength
   filling-room =
-      let c = size-fits (s .rows) (s .columns) (i .grid-limits .rows-limits .1) (i .grid-limits .column-limits .1) in
+      let c = limits-size s i in
       let r = lines-fit b e 0 (s .capacity) w (omega arith) (f .written .sized ∙ ap (λ (x : ℕ). 31 + s .capacity * x) (sym (f .width-is))) (i .capacity-limits .1) (omega (arith, f .width-is, line-short (cells s) c)) in
       let p = f .place in
       record { past-head = omega (arith, p); start-inside = omega (arith, p, r .start-inside); end-inside = omega (arith, p, r .end-inside); small = omega (arith, p, r .small) }

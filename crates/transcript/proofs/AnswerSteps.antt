@@ -14,7 +14,6 @@ use native.Mathlib.Omega.{arith}
 use lib.ListN.{length, take, drop, length-append, length-drop, drop-of-length-le}
 use lib.Seq.{take-at, drop-at, drop-drop}
 use borrow.Rule.Slice.PartMut.{midOf, putMid}
-use Rattle.grids.proofs.QuestionLaws.{size-fits}
 use Rattle.layout.specs.Layout.{Shape, cells}
 use Rattle.machine.specs.Calls.{Outcome}
 use Rattle.machine.specs.Machine.{shown, step, outcome}
@@ -22,6 +21,7 @@ use Rattle.machine.proofs.MachineLaws.{Good, empty-good, step-good}
 use Rattle.machine.proofs.Demand3Laws.{call-same}
 use Rattle.machine.proofs.ValidMoves.{tail-part, put-tail}
 use Rattle.lines.proofs.FillLaws.{Filled, fill-none}
+use Rattle.register.proofs.OpenSteps.{limits-size}
 use Rattle.protocol.specs.Input.{lines, furtherLines, commandIn, isLaid}
 use Rattle.protocol.specs.Commands.{callIn, report, Answer, answerCall, malformed, answer}
 use Rattle.protocol.specs.Transcript.{shapeIn, reports, setAfter}
@@ -80,9 +80,7 @@ pub record Answering (input out b o : List ℕ) (at n : ℕ) : Type 0 where
 
 module _ {input : List ℕ} {size : ℕ} {b₀ out : List ℕ} (k : Runs input size b₀ out) where
   pub answering-size : size ≤ 128
-  answering-size =
-      let i = start-pass input .0 (k .passes) .limits .grid-limits in
-      rw (k .sized) (size-fits (shapeIn input .rows) (shapeIn input .columns) (i .rows-limits .1) (i .column-limits .1))
+  answering-size = rw (k .sized) (limits-size (shapeIn input) (start-pass input .0 (k .passes) .limits))
 
   pub answering-none : Answering input out b₀ out 25 0
   answering-none =

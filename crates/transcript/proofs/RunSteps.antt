@@ -18,19 +18,19 @@ use lib.Seq.{take-at, drop-at, take-length, drop-drop}
 use borrow.Author.Tests.{le-leb, lt-leb}
 use borrow.Rule.Slice.PartMut.{midOf, putMid}
 use Rattle.permutations.proofs.ListLaws.{part-length}
-use Rattle.grids.proofs.QuestionLaws.{size-fits}
 use Rattle.layout.specs.Layout.{Shape, cells, layoutLength, InLimits}
 use Rattle.machine.specs.Calls.{Outcome, opened}
 use Rattle.machine.specs.Machine.{shown}
 use Rattle.machine.specs.Valid.{placed, shape}
 use Rattle.machine.proofs.Demand3Laws.{open-answers}
 use Rattle.machine.proofs.ValidMoves.{tail-part, put-tail}
+use Rattle.register.proofs.OpenSteps.{limits-size}
 use Rattle.protocol.specs.Input.{furtherLines}
 use Rattle.protocol.specs.Commands.{report}
 use Rattle.protocol.specs.Transcript.{byteLimit, shapeIn, startNo, reports, printedRegister, transcript}
 use Rattle.protocol.specs.Programs.{outputLimit, over, transcribing, hasRoom, transcribed}
 use Rattle.protocol.proofs.ReportLaws.{length-report}
-use Rattle.protocol.proofs.RunLaws.{start-pass, start-refused, register-shown, length-register, transcript-ends, transcript-fits}
+use Rattle.protocol.proofs.RunLaws.{start-pass, start-refused, register-shown, length-register, transcript-ends, transcript-fits, has-room}
 use Rattle.transcript.specs.declared.starts.Start.{Start}
 use Rattle.transcript.specs.Answers.{Runs, Answered}
 use Rattle.transcript.specs.Starts.{Starts}
@@ -43,7 +43,7 @@ module _ {input : List ℕ} {start : Start} {b out : List ℕ} (k : Ready input 
   ready-limits = rw (k .shape-is) (start-pass input .0 (k .passes) .limits)
 
   pub ready-size : start .rows * start .columns ≤ 128
-  ready-size = let i = ready-limits .grid-limits in size-fits (start .rows) (start .columns) (i .rows-limits .1) (i .column-limits .1)
+  ready-size = limits-size _ ready-limits
 
   pub ready-runs : {number place : ℕ} {b′ : List ℕ} → placed number place b′ ≡ opened (shape (start .rows) (start .columns) (start .top) (start .capacity)) b → Runs input (start .rows * start .columns) b′ out
   ready-runs e = record {
@@ -111,10 +111,8 @@ module _ (input register out : List ℕ) where
 
   module _ (k : byteLimit ≤ length register) (h : outputLimit ≤ length out) where
     done : {count : ℕ} {register′ out′ : List ℕ} → count ≡ length (transcript input) → register′ ≡ over (printedRegister input) register → out′ ≡ over (transcript input) out → transcribing count register′ out′ ≡ transcribed input register out
-    unfolding transcribed hasRoom
-    done c r o =
-        (λ i. transcribing (c i) (r i) (o i))
-        ∙ rw (le-leb byteLimit (length register) k, le-leb outputLimit (length out) h, transcribed) refl
+    unfolding transcribed
+    done c r o = (λ i. transcribing (c i) (r i) (o i)) ∙ rw (has-room register out k h, transcribed) refl
 
     ended : (j : ℕ) → startNo input ≡ suc j → {out′ : List ℕ} → out′ ≡ report 0 (suc j) 0 ++ drop 19 out → transcribing 19 register out′ ≡ transcribed input register out
     unfolding over

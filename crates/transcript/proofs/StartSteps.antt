@@ -2,9 +2,9 @@
 --
 --   shape-written    ==  four fields, written one after another, and a line feed are line 1
 --   line-decides     ==  a comparison with line 1 so written, of the numbers that the input states there
---   Unfed l          ==  no byte of l is a line feed
---   unfed-fields     ==  none is in numbers laid in fields
---   first-fed        ==  bytes without one and a line feed behind them are the first line
+--   NoLineFeed l     ==  no byte of l is a line feed
+--   no-feed-fields   ==  none is in numbers laid in fields
+--   feed-first       ==  bytes without one and a line feed behind them are the first line
 --   first-joined     ==  the first line and the further ones, put one after another, are the bytes
 --   shape-whole, shape-lines  ==  an input that begins with line 1 of some numbers has its 25 bytes, and they are its first line
 --   shape-told       ==  question 12 gets a yes exactly if the input begins with line 1 of the numbers that it states there
@@ -15,51 +15,38 @@
 --   long-refused, short-refused, line-refused, numbers-refused, length-refused  ==  the ways out with a no: 11, 12, 12, 1 to 4, 13
 --   start-made       ==  the way out with a yes
 use mathlib.Core.Path.{_≡_, refl, sym, ap, _∙_}
-use mathlib.Core.List.{List, [], _∷_, _++_, flatten, append-assoc, append-nil}
+use mathlib.Core.List.{List, [], _∷_, _++_, flatten, append-assoc}
 use mathlib.Core.Bool.{Bool, true, false, true≢false, not}
 use mathlib.Core.Logic.{_↔_}
 use Prim.Native.Nat.{ℕ, zero, suc, _+_, _-_, _*_, _/_, _%_, _≤_, _<_}
 use native.Mathlib.Omega.{arith}
 use lib.ListN.{length, getD, take, drop, set, length-append, take-append-drop}
 use lib.Seq.{take-at, take-take}
-use borrow.Author.Tests.{ne-eqb, not-true, not-false}
+use borrow.Author.Tests.{not-true, not-false}
 use Rattle.permutations.specs.Lists.{All}
 use Rattle.permutations.proofs.BoolLaws.{refuted}
 use Rattle.permutations.proofs.ListLaws.{all-append}
 use Rattle.grids.proofs.OrderLaws.{equal-eq, eq-equal}
 use Rattle.layout.specs.Decimal.{lead, field}
 use Rattle.layout.specs.Layout.{Shape, headLength, lineLength, fields, layoutLength, numberAt, decodeShape, InLimits}
-use Rattle.layout.proofs.LayoutLaws.{length-fields}
 use Rattle.layout.proofs.LineLaws.{drop-take}
 use Rattle.lines.specs.Head.{withField}
-use Rattle.lines.proofs.FillLaws.{fill-none, fill, filled-whole}
-use Rattle.lines.proofs.HeadLaws.{fill-field}
+use Rattle.lines.proofs.HeadLaws.{fields-whole}
 use Rattle.machine.specs.Valid.{shape, numbersNo}
 use Rattle.register.proofs.OpenSteps.{numbers-limits, length-is}
 use Rattle.protocol.specs.Input.{onto, lines, firstLine, furtherLines, shapeLine}
 use Rattle.protocol.specs.Transcript.{shapeIn, question12, startNo}
-use Rattle.protocol.proofs.InputLaws.{lines-joined, shape-length}
+use Rattle.protocol.proofs.InputLaws.{lines-other, lines-joined, length-shape, shape-length}
 use Rattle.protocol.proofs.RunLaws.{over-limit, start-line, start-numbers, start-length, start-pass}
 use Rattle.transcript.specs.declared.starts.Start.{Start}
 use Rattle.transcript.specs.Starts.{Starts}
 
 -- ---- line 1 is written
 
-length-shape : (s : Shape) → length (shapeLine s) ≡ 25
-unfolding shapeLine
-length-shape s =
-    let l = s .rows ∷ s .columns ∷ s .top ∷ s .capacity ∷ [] in
-    length-append (fields 6 l) (10 ∷ []) ∙ omega (arith, length-fields 6 l)
-
 pub shape-written : (l : List ℕ) {o p q r : List ℕ} (s : Shape) → length l ≡ 25 → o ≡ withField 0 (s .rows) l → p ≡ withField 6 (s .columns) o → q ≡ withField 12 (s .top) p →
     r ≡ withField 18 (s .capacity) q → set r 24 10 ≡ shapeLine s
-unfolding shapeLine fields flatten
-shape-written l s z a b c d =
-    let f = fill-field (s .rows) (fill-none l) (omega arith) in
-    let g = fill-field (s .columns) f (omega arith) in
-    let h = fill-field (s .top) g (omega arith) in
-    let i = fill-field (s .capacity) h (omega arith) in
-    rw (d, c, b, a) (filled-whole _ (fill _ 10 i (omega arith) refl) (simp (append-assoc, append-nil)) (omega arith))
+unfolding shapeLine
+shape-written l s z a b c d = rw (d, c, b, a) (fields-whole l (s .rows ∷ s .columns ∷ s .top ∷ s .capacity ∷ []) z)
 
 pub line-decides : (input l : List ℕ) {o p q r : List ℕ} {m n top capacity : ℕ} {t : Bool} → length l ≡ 25 → m ≡ numberAt 6 0 input → n ≡ numberAt 6 6 input → top ≡ numberAt 6 12 input → capacity ≡ numberAt 6 18 input →
     o ≡ withField 0 m l → p ≡ withField 6 n o → q ≡ withField 12 top p → r ≡ withField 18 capacity q → (t ≡ true) ↔ (take (length (set r 24 10)) input ≡ set r 24 10) →
@@ -71,32 +58,32 @@ line-decides input l z e f g h a b c d k =
 
 -- ---- the first line of bytes
 
-abbrev Unfed : List ℕ → Type 0
-Unfed l = All (λ b. b ≡ 10 → ⊥) l
+abbrev NoLineFeed : List ℕ → Type 0
+NoLineFeed l = All (λ b. b ≡ 10 → ⊥) l
 
-unfed-append : (k l : List ℕ) → Unfed k → Unfed l → Unfed (k ++ l)
-unfed-append k l g h = all-append (λ b. b ≡ 10 → ⊥) k l g h
+no-feed-append : (k l : List ℕ) → NoLineFeed k → NoLineFeed l → NoLineFeed (k ++ l)
+no-feed-append k l g h = all-append (λ b. b ≡ 10 → ⊥) k l g h
 
-unfed-lead : (w x : ℕ) → Unfed (lead w x)
+no-feed-lead : (w x : ℕ) → NoLineFeed (lead w x)
 unfolding lead
-unfed-lead zero x = tt
-unfed-lead (suc w) zero = unfed-append (lead w zero) (32 ∷ []) (unfed-lead w zero) (λ e. omega arith, tt)
-unfed-lead (suc w) (suc x) = unfed-append (lead w (suc x / 10)) ((48 + suc x % 10) ∷ []) (unfed-lead w (suc x / 10)) (λ e. omega arith, tt)
+no-feed-lead zero x = tt
+no-feed-lead (suc w) zero = no-feed-append (lead w zero) (32 ∷ []) (no-feed-lead w zero) (λ e. omega arith, tt)
+no-feed-lead (suc w) (suc x) = no-feed-append (lead w (suc x / 10)) ((48 + suc x % 10) ∷ []) (no-feed-lead w (suc x / 10)) (λ e. omega arith, tt)
 
-unfed-field : (w x : ℕ) → Unfed (field w x)
+no-feed-field : (w x : ℕ) → NoLineFeed (field w x)
 unfolding field
-unfed-field zero x = tt
-unfed-field (suc w) x = unfed-append (lead w (x / 10)) ((48 + x % 10) ∷ []) (unfed-lead w (x / 10)) (λ e. omega arith, tt)
+no-feed-field zero x = tt
+no-feed-field (suc w) x = no-feed-append (lead w (x / 10)) ((48 + x % 10) ∷ []) (no-feed-lead w (x / 10)) (λ e. omega arith, tt)
 
-unfed-fields : (w : ℕ) (l : List ℕ) → Unfed (fields w l)
+no-feed-fields : (w : ℕ) (l : List ℕ) → NoLineFeed (fields w l)
 unfolding fields flatten
-unfed-fields w [] = tt
-unfed-fields w (x ∷ l) = unfed-append (field w x) (fields w l) (unfed-field w x) (unfed-fields w l)
+no-feed-fields w [] = tt
+no-feed-fields w (x ∷ l) = no-feed-append (field w x) (fields w l) (no-feed-field w x) (no-feed-fields w l)
 
-first-fed : (l rest : List ℕ) → Unfed l → lines (l ++ (10 ∷ rest)) ≡ (l ++ (10 ∷ [])) ∷ lines rest
+feed-first : (l rest : List ℕ) → NoLineFeed l → lines (l ++ (10 ∷ rest)) ≡ (l ++ (10 ∷ [])) ∷ lines rest
 unfolding lines onto
-first-fed [] rest h = refl
-first-fed (b ∷ l) rest h = rw (ne-eqb b 10 (h .0), lines) (ap (onto b) (first-fed l rest (h .1)))
+feed-first [] rest h = refl
+feed-first (b ∷ l) rest h = lines-other b (l ++ (10 ∷ rest)) (h .0) ∙ ap (onto b) (feed-first l rest (h .1))
 
 first-joined : (input : List ℕ) → firstLine input ++ flatten (furtherLines input) ≡ input
 unfolding firstLine furtherLines flatten
@@ -130,7 +117,7 @@ module _ (input : List ℕ) (s : Shape) (e : take 25 input ≡ shapeLine s) wher
   shape-lines =
       let l = fields 6 (s .rows ∷ s .columns ∷ s .top ∷ s .capacity ∷ []) in
       let w : input ≡ l ++ (10 ∷ drop 25 input) = sym (take-append-drop 25 input) ∙ rw e (append-assoc l (10 ∷ []) (drop 25 input)) in
-      ap lines w ∙ first-fed l (drop 25 input) (unfed-fields 6 _)
+      ap lines w ∙ feed-first l (drop 25 input) (no-feed-fields 6 _)
 
   first-is : firstLine input ≡ shapeLine s
   unfolding firstLine

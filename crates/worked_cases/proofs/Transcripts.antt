@@ -1,8 +1,13 @@
 -- Planbook prints what the table says.
 --
---   transcripts-hold  ==  the statement
+--   transcripts-hold    ==  the statement
+--   input-limit         ==  the edges of the limit of the input
 use mathlib.Core.Path.{_≡_, refl}
 use mathlib.Core.List.{flatten, flatMap}
+use mathlib.Core.Bool.{false}
+use Prim.Native.Nat.{ℕ, suc, _≤_, _<_}
+use native.Mathlib.Omega.{arith}
+use lib.ListN.{length, length-replicate}
 use Rattle.permutations.specs.Lists.{tabulate, numbers, select, every, some, occurrences}
 use Rattle.permutations.specs.Permutations.{isPermutation, words, permutations}
 use Rattle.permutations.proofs.ListLaws.{every-all}
@@ -23,9 +28,30 @@ use Rattle.machine.specs.Machine.{sorted, shown, stepUnless, enterClass, strike
 use Rattle.protocol.specs.Input.{onto, lines, firstLine, furtherLines, shapeLine, commandLine, cellCount, commandIn, cellsIn, isLaid}
 use Rattle.protocol.specs.Commands.{lows, highs, callOf, callIn, report, answerCall, malformed, answer}
 use Rattle.protocol.specs.Transcript.{shapeIn, question11, question12, question13, startQuestions, startNo, reports, setAfter, registerFrom, printedFrom, transcript}
+use Rattle.protocol.proofs.RunLaws.{over-limit, start-line, start-refused}
 use Rattle.worked_cases.specs.Text.{bytes, text}
-use Rattle.worked_cases.specs.Transcripts.{Run, runs, Transcripts}
+use Rattle.worked_cases.specs.Transcripts.{Run, runs, Transcripts, lineFeeds, InputLimit}
 
 pub transcripts-hold : Transcripts
 unfolding Transcripts runs bytes text flatten flatMap tabulate numbers select every some occurrences isPermutation words permutations rank leq less equal capped gridOf row permutedRow arrangement arrangements lesser leastOf least firstNo inRange question1 question2 question3 question6 question7 ranksWithin between inBounds fillings gridsWithin obeyed allperm question8 boundsQuestions lead field digit valueFrom value fields entryWidth lineLength entryLine blankLine headLine layout layoutLength numberAt decodeShape cellsOf question4 gridQuestions holds placeIn insert without sorted shown stepUnless enterClass strikeClass fitClasses step onto lines firstLine furtherLines shapeLine commandLine cellCount commandIn cellsIn isLaid lows highs callOf callIn report answerCall malformed answer shapeIn question11 question12 question13 startQuestions startNo reports setAfter registerFrom printedFrom transcript
 transcripts-hold = every-all (λ (r : Run). transcript (text (r .input)) ≡ text (r .output)) (λ (r : Run). equal (transcript (text (r .input))) (text (r .output))) (λ r t. equal-eq _ _ t) runs refl
+
+-- ---- the limit of the input
+
+length-feeds : (n : ℕ) → length (lineFeeds n) ≡ n
+unfolding lineFeeds
+length-feeds n = length-replicate n 10
+
+feeds-no : (n : ℕ) → question12 (lineFeeds (suc n)) .answer ≡ false
+unfolding lineFeeds question12 shapeIn firstLine lines onto shapeLine decodeShape numberAt value valueFrom digit fields flatten field lead equal
+feeds-no n = refl
+
+feeds-read : (n : ℕ) → suc n ≤ 65536 → transcript (lineFeeds (suc n)) ≡ report 0 12 0
+feeds-read n h = start-refused (lineFeeds (suc n)) 11 (start-line (lineFeeds (suc n)) (omega (arith, length-feeds (suc n))) (feeds-no n)) .0
+
+feeds-over : (n : ℕ) → 65536 < n → transcript (lineFeeds n) ≡ report 0 11 0
+feeds-over n h = start-refused (lineFeeds n) 10 (over-limit (lineFeeds n) (omega (arith, length-feeds n))) .0
+
+pub input-limit : InputLimit
+unfolding text bytes flatMap report fields flatten field lead
+input-limit = record { longest = feeds-read 65535 (omega arith); too-long = feeds-over 65537 (omega arith) }

@@ -3,8 +3,11 @@
 --   Run          ==  the lines of an input, and the lines printed for it
 --   runs         ==  the table
 --   Transcripts  ==  the statement: planbook prints so
+--   lineFeeds n  ==  n line feeds
+--   InputLimit   ==  the statement: an input of 65,536 bytes is read, and one byte more is too many
 use mathlib.Core.Path.{_≡_}
 use mathlib.Core.List.{List, [], _∷_, _++_}
+use Prim.Native.Nat.{ℕ}
 use Prim.Native.String.{String}
 use lib.ListN.{replicate}
 use Rattle.permutations.specs.Lists.{All}
@@ -217,3 +220,11 @@ runs =
 
 unfoldable pub Transcripts : Type 0
 Transcripts = All (λ r. transcript (text (r .input)) ≡ text (r .output)) runs
+
+unfoldable pub lineFeeds : ℕ → List ℕ
+lineFeeds n = replicate n 10
+
+-- line 1 is not laid in either
+pub record InputLimit : Type 0 where
+  pub longest : transcript (lineFeeds 65536) ≡ text ("     0    12     0\n" ∷ [])
+  pub too-long : transcript (lineFeeds 65537) ≡ text ("     0    11     0\n" ∷ [])

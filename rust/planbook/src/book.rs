@@ -68,7 +68,7 @@ impl Book {
     }
 
     /// A further line that is not laid as it should be.
-    pub fn spoilt(&mut self, line: &[u8]) {
+    pub fn malformed(&mut self, line: &[u8]) {
         self.add(line.to_vec(), [0, 12, 0]);
     }
 

@@ -49,7 +49,7 @@ fn cut(length: usize) -> Vec<u8> {
 }
 
 /// Line 1, good lines, and a line up to the length that is not laid as it should be.
-fn good_and_a_spoilt_line(length: usize) -> Vec<u8> {
+fn good_and_a_malformed_line(length: usize) -> Vec<u8> {
     let good = cut(length - 300);
     let ended_at = good
         .iter()
@@ -87,7 +87,7 @@ const KINDS: [fn(usize) -> Vec<u8>; 8] = [
     spaces,
     carriage_returns,
     cut,
-    good_and_a_spoilt_line,
+    good_and_a_malformed_line,
     good,
     random_bytes,
     lines_1,
@@ -152,7 +152,7 @@ fn the_last_byte_of_the_largest_input_counts() {
 }
 
 #[test]
-fn as_many_spoilt_lines_as_an_input_has() {
+fn as_many_malformed_lines_as_an_input_has() {
     let count = LIMIT - head().len();
     assert_eq!(count, 65_511);
     let input = [head(), vec![b'\n'; count]].concat();
@@ -208,8 +208,8 @@ fn long_lines() {
             [head(), good.concat(), line.clone()].concat(),
         ] {
             let outcome = Outcome::read(&input, &check(&input));
-            let spoilt = outcome.printed.iter().filter(|line| line[1] == 12);
-            assert_eq!(spoilt.count(), 1);
+            let malformed = outcome.printed.iter().filter(|line| line[1] == 12);
+            assert_eq!(malformed.count(), 1);
             assert_eq!(outcome.register.len() + 19, length_of_one);
         }
     }

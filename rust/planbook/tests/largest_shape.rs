@@ -155,7 +155,7 @@ fn check_whole_input(random: &mut Random, grids: &[Vec<u8>], entries: &[Vec<u8>]
         book.enter(&shuffled(random, M, N, &grids[k]), &entries[k]);
     }
     assert_eq!(book.contents.entries.len(), grids.len());
-    book.spoilt(&ended(vec![b'x'; LIMIT - 1 - book.input.len()]));
+    book.malformed(&ended(vec![b'x'; LIMIT - 1 - book.input.len()]));
     assert_eq!(book.input.len(), LIMIT);
     let output = book.output();
     let start = Instant::now();

@@ -2,8 +2,8 @@
 
 use planbook::inputs::LIKELY;
 use planbook::lines::{command, ended, line_1};
+use planbook::malformed::{with_field, NO_NUMBERS};
 use planbook::outputs::{refusal, Outcome};
-use planbook::spoilt::{with_field, NO_NUMBERS};
 use planbook::{check, check_each};
 
 /// Every list of so many of the bytes.

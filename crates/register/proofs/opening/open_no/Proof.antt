@@ -13,12 +13,12 @@ returns : tie.Need-returns
 returns c = open-numbers _ _ (c .before .numbers-no .ensures) (c .if1 .taken)
 
 mul-register-length : tie.Need-mul-register-length
-mul-register-length c = omega (arith, limits-size _ _ _ _ (numbers-limits _ (c .before .numbers-no .ensures) (c .if1 .left)))
+mul-register-length c = omega (arith, limits-size _ (numbers-limits _ (c .before .numbers-no .ensures) (c .if1 .left)))
 
 register-length-requires : tie.Need-register-length-requires
 register-length-requires c κs =
     let i = numbers-limits _ (c .before .numbers-no .ensures) (c .if1 .left) in
-    (limits-size _ _ _ _ i, i .capacity-limits .1)
+    (limits-size _ i, i .capacity-limits .1)
 
 returns-2 : tie.Need-returns-2
 returns-2 c =

@@ -17,10 +17,10 @@ abbrev μ-loop : tie.MeasureT-loop
 μ-loop m n top capacity register₀ size width start₀ e₀ register start e = capacity - e
 
 mul-size : tie.Need-mul-size Inv-loop μ-loop
-mul-size c = let a = c .before in omega (arith, limits-size (a .args .m) (a .args .n) (a .args .top) (a .args .capacity) (a .pre .0))
+mul-size c = let a = c .before in omega (arith, limits-size _ (a .pre .0))
 
 line-length-requires : tie.Need-line-length-requires Inv-loop μ-loop
-line-length-requires c κs = let a = c .before in limits-size (a .args .m) (a .args .n) (a .args .top) (a .args .capacity) (a .pre .0)
+line-length-requires c κs = let a = c .before in limits-size _ (a .pre .0)
 
 sub-write-head : tie.Need-sub-write-head Inv-loop μ-loop
 sub-write-head c = omega arith
@@ -62,7 +62,7 @@ write-blank-requires c κs =
     let a = c .before .before .before .before .before .before .before .before .before in
     let l = c .before .before .loop in
     let r = filling-room (a .pre .0) (l .inv) (omega arith) in
-    (limits-size (a .args .m) (a .args .n) (a .args .top) (a .args .capacity) (a .pre .0), omega (arith, room-part r (sym (l .inv .width-is))))
+    (limits-size _ (a .pre .0), omega (arith, room-part r (sym (l .inv .width-is))))
 
 add-start : tie.Need-add-start Inv-loop μ-loop
 add-start c =

@@ -61,10 +61,10 @@ returns-4 : tie.Need-returns-4
 returns-4 c = numbers-refused (reads (c .before .before .before)) (c .before .before .numbers-no .ensures) (c .before .if4 .taken) (c .refusal4 .ensures)
 
 mul-register-length : tie.Need-mul-register-length
-mul-register-length c = omega (arith, limits-size _ _ _ _ (limits c))
+mul-register-length c = omega (arith, limits-size _ (limits c))
 
 register-length-requires : tie.Need-register-length-requires
-register-length-requires c κs = (limits-size _ _ _ _ (limits c), limits c .capacity-limits .1)
+register-length-requires c κs = (limits-size _ (limits c), limits c .capacity-limits .1)
 
 refusal-requires-5 : tie.Need-refusal-requires-5
 refusal-requires-5 c κs = search needs
