@@ -1,19 +1,30 @@
-//! Links the verified static library, which stands in target/staticlib under the repository's root.
+//! Links the verified static library, which stands in target/staticlib under the repository's
+//! root. The build fails where it is missing, or older than a source that it is made of.
+
+#[path = "build/library.rs"]
+mod library;
 
 use std::env;
 use std::path::{Path, PathBuf};
 
 fn main() {
-    let folder = repository_root().join("target").join("staticlib");
-    let archive = folder.join("libplan_register.a");
-    println!("cargo:rerun-if-changed={}", archive.display());
-    if !archive.is_file() {
-        panic!(
-            "{} is missing: first run `rt staticlib plan_register` in the repository's root",
-            archive.display()
-        );
+    let root = repository_root();
+    println!("cargo:rerun-if-changed=build.rs");
+    println!("cargo:rerun-if-changed=build/library.rs");
+    println!(
+        "cargo:rerun-if-changed={}",
+        library::archive(&root).display()
+    );
+    for source in library::sources(&root) {
+        println!("cargo:rerun-if-changed={}", source.display());
     }
-    println!("cargo:rustc-link-search=native={}", folder.display());
+    if let Some(complaint) = library::complaint(&root) {
+        println!("cargo::error={complaint}");
+    }
+    println!(
+        "cargo:rustc-link-search=native={}",
+        library::folder(&root).display()
+    );
     println!("cargo:rustc-link-lib=static=plan_register");
 }
 

@@ -23,7 +23,8 @@ use lib.Dec.{leb, eqb}
 use borrow.Author.Tests.{leb-true, le-leb, eqb-true, eq-eqb}
 use Rattle.permutations.specs.Lists.{numbers, select, some}
 use Rattle.permutations.proofs.BoolLaws.{and-yes, yes-and}
-use Rattle.permutations.proofs.ListLaws.{in-select, of-select, length-select, select-within, in-flatMap, of-flatMap, in-numbers, of-numbers, every-number, number-every, some-at, at-some}
+use Rattle.permutations.proofs.ListLaws.{in-flatMap, of-flatMap, in-numbers, of-numbers, every-number, number-every, some-at, at-some}
+use Rattle.permutations.proofs.SelectLaws.{in-select, of-select, length-select, select-within}
 use Rattle.grids.specs.Order.{rank}
 use Rattle.grids.specs.Grids.{capped}
 use Rattle.grids.specs.Questions.{firstNo, question6, question7}
@@ -76,7 +77,7 @@ pub cells-fit : {size top : ℕ} {low high g : List ℕ} → InBounds size top l
 cells-fit i k b = (i .capped k b, i .above k b, i .below k b)
 
 pub fit-cells : {size top : ℕ} {low high g : List ℕ} → length g ≡ size → ((k : ℕ) → k < size → Fits top (getD low k 0) (getD high k 0) (getD g k 0)) → InBounds size top low high g
-fit-cells e f = record { cells = e; capped = λ k b. f k b .0; above = λ k b. f k b .1; below = λ k b. f k b .2 }
+fit-cells e f = record { sized = e; capped = λ k b. f k b .0; above = λ k b. f k b .1; below = λ k b. f k b .2 }
 
 module _ (top : ℕ) (low high : List ℕ) where
   -- the n cells of g fit the bounds from cell s on
@@ -119,7 +120,7 @@ module _ (size top : ℕ) (low high g : List ℕ) where
   unfolding gridsWithin
   within-listed = (
     λ m. let f = of-fillings top low high 0 size g m in fit-cells (f .0) (λ k b. rw (zero-add k) at (f .1 k b)),
-    λ i. in-fillings top low high 0 size g (i .cells, λ k b. rw (zero-add k) (cells-fit i k b)),
+    λ i. in-fillings top low high 0 size g (i .sized, λ k b. rw (zero-add k) (cells-fit i k b)),
   )
 
   pub inBounds-decides : (inBounds size top low high g ≡ true) ↔ InBounds size top low high g
@@ -136,7 +137,7 @@ module _ (size top : ℕ) (low high g : List ℕ) where
 
       back : InBounds size top low high g → inBounds size top low high g ≡ true
       back i =
-          yes-and _ _ (eq-eqb (length g) size (i .cells))
+          yes-and _ _ (eq-eqb (length g) size (i .sized))
           (number-every _ size λ k b. yes-and _ _ (le-leb (getD g k 0) top (i .capped k b)) (ranks-within _ _ (getD g k 0) .1 (i .above k b, i .below k b)))
 
 pub some-within : (size top : ℕ) (low high : List ℕ) (t : List ℕ → Bool) →

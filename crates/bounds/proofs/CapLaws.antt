@@ -16,7 +16,8 @@ use native.Mathlib.Decide.{ℕ-discrete, decLt}
 use native.Mathlib.Omega.{arith}
 use lib.Dec.{ltb}
 use borrow.Author.Tests.{lt-ltb, le-ltb}
-use Rattle.grids.specs.Order.{rank, IsPrevious}
+use Rattle.grids.specs.Neighbours.{IsPrevious}
+use Rattle.grids.specs.Order.{rank}
 use Rattle.grids.proofs.OrderLaws.{rank-antisymm}
 use Rattle.bounds.specs.declared.rows.RowLows.{RowLows}
 use Rattle.bounds.specs.Rows.{put, Values, Leads, IsSorted, NoLater, Parted, higher, lower, lowFor, IsLows, RaisedTo, Raised, IsCap, IsHighs}

@@ -9,7 +9,7 @@
 --   obeyed-extremal               ==  some grid in the bounds obeys the rule exactly if the extremal grid does
 --   kept-extremal                 ==  a value within the bounds of a cell is kept exactly if the extremal grid with it there obeys the rule
 --   kept-interval                 ==  a value that ranks between two kept values is kept
---   kept-exactly, kept-values     ==  where some grid obeys the rule, the values kept are those within the new bounds
+--   kept-exactly                  ==  where some grid obeys the rule, the values kept are those within the new bounds
 use mathlib.Core.Path.{_≡_, refl, _∙_}
 use mathlib.Core.List.{List}
 use mathlib.Core.Bool.{Bool, true, false}
@@ -22,10 +22,10 @@ use lib.Seq.{getD-set-same, getD-set-other}
 use Rattle.permutations.specs.Lists.{tabulate}
 use Rattle.permutations.proofs.ListLaws.{length-tabulate, at-tabulate}
 use Rattle.grids.specs.Order.{rank}
-use Rattle.bounds.specs.Bounds.{IsBounds, InBounds, between}
-use Rattle.bounds.specs.Kept.{Obeyed, Kept, keptValues, keptLow, keptHigh}
+use Rattle.bounds.specs.Bounds.{IsBounds, InBounds}
+use Rattle.bounds.specs.Kept.{Obeyed, Kept, keptLow, keptHigh}
 use Rattle.bounds.proofs.BoundsLaws.{Fits, fit-cells}
-use Rattle.bounds.proofs.KeptLaws.{kept-bounds, values-between, obeyed-ends}
+use Rattle.bounds.proofs.KeptLaws.{kept-bounds, obeyed-ends}
 
 abbrev pub Toward : Bool → ℕ → ℕ → Type 0
 Toward true a b = rank b ≤ rank a
@@ -90,7 +90,7 @@ module _ (Rule : List ℕ → Type 0) (falls : ℕ → Bool) (size : ℕ) (direc
 
   pub obeyed-extremal : Obeyed Rule size top low high ↔ Rule (extremal falls size low high)
   obeyed-extremal = (
-    λ o. directed (o .example) (extremal falls size low high) (o .inside .cells) (length-extremal falls size low high) (toward-extremal (o .inside)) (o .obeys),
+    λ o. directed (o .example) (extremal falls size low high) (o .inside .sized) (length-extremal falls size low high) (toward-extremal (o .inside)) (o .obeys),
     λ r. record { example = extremal falls size low high; inside = fit-cells (length-extremal falls size low high) extremal-fits; obeys = r },
   )
 
@@ -100,7 +100,7 @@ module _ (Rule : List ℕ → Type 0) (falls : ℕ → Bool) (size : ℕ) (direc
   -- from a grid with u in cell k the rule passes to the extremal grid with v there, v toward the cell's direction from u
   moved : (k u v : ℕ) → k < size → Kept Rule size top low high k u → Toward (falls k) u v → Rule (set (extremal falls size low high) k v)
   moved k u v b h t =
-      directed (h .example) (set (extremal falls size low high) k v) (h .inside .cells) (length-set-extremal k v)
+      directed (h .example) (set (extremal falls size low high) k v) (h .inside .sized) (length-set-extremal k v)
       (set-all (λ t x. t < size → Toward (falls t) (getD (h .example) t 0) x) (extremal falls size low high) k v (omega (arith, length-extremal falls size low high))
       (λ c. rw (h .has) t) (toward-extremal (h .inside)))
       (h .obeys)
@@ -139,7 +139,3 @@ module _ (Rule : List ℕ → Type 0) (falls : ℕ → Bool) (size : ℕ) (direc
     kept-exactly k v b t =
         let e = obeyed-ends Rule rule decides size top low high o k b in
         (e .within v, λ w. kept-interval k _ v _ b (e .low-kept) (e .high-kept) t (w .0) (w .1))
-
-    pub kept-values : (k : ℕ) → k < size →
-        keptValues rule size top low high k ≡ between top (getD (keptLow rule size top low high) k 0) (getD (keptHigh rule size top low high) k 0)
-    kept-values k b = values-between Rule rule decides size top low high k _ _ b (λ v t. kept-exactly k v b t)

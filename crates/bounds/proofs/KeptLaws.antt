@@ -2,7 +2,7 @@
 --
 --   kept-bounds                            ==  a kept value is within the bounds of its cell
 --   grid-kept                              ==  the values of a grid in the bounds that obeys the rule are kept
---   obeyed-narrower, kept-narrower         ==  what narrower bounds keep, wider ones keep
+--   kept-narrower                          ==  what narrower bounds keep, wider ones keep
 --   lowest-in, lowest-le, highest-in, highest-le  ==  the value of a list that ranks lowest, highest
 --   length-keptLow, length-keptHigh        ==  the new bounds have as many entries as there are cells
 --   Ends Rule size top low high k a b      ==  a and b are kept in cell k, and every value kept there ranks within a to b
@@ -30,7 +30,8 @@ use lib.Dec.{ltb, eqb}
 use borrow.Author.Tests.{ltb-true, ltb-false, eqb-true, eq-eqb, not-true}
 use Rattle.permutations.specs.Lists.{tabulate, numbers}
 use Rattle.permutations.proofs.BoolLaws.{and-yes, yes-and, bool-ext, refuted}
-use Rattle.permutations.proofs.ListLaws.{length-tabulate, at-tabulate, tabulate-is, tabulate-ext, in-select, of-select, select-ext, select-split, select-within, in-numbers, of-numbers}
+use Rattle.permutations.proofs.ListLaws.{length-tabulate, at-tabulate, tabulate-is, tabulate-ext, in-numbers, of-numbers}
+use Rattle.permutations.proofs.SelectLaws.{in-select, of-select, select-ext, select-split, select-within}
 use Rattle.grids.specs.Order.{rank}
 use Rattle.grids.proofs.OrderLaws.{rank-antisymm}
 use Rattle.bounds.specs.Bounds.{IsBounds, InBounds, ranksWithin, between, inBounds}
@@ -48,9 +49,6 @@ module _ {Rule : List ℕ → Type 0} {size top : ℕ} {low high : List ℕ} whe
   grid-kept {g} i r k = record { example = g; inside = i; obeys = r; has = refl }
 
   module _ {low′ high′ : List ℕ} (narrower : (g : List ℕ) → InBounds size top low′ high′ g → InBounds size top low high g) where
-    pub obeyed-narrower : Obeyed Rule size top low′ high′ → Obeyed Rule size top low high
-    obeyed-narrower o = record { example = o .example; inside = narrower (o .example) (o .inside); obeys = o .obeys }
-
     pub kept-narrower : {k v : ℕ} → Kept Rule size top low′ high′ k v → Kept Rule size top low high k v
     kept-narrower h = record { example = h .example; inside = narrower (h .example) (h .inside); obeys = h .obeys; has = h .has }
 
@@ -180,7 +178,7 @@ module _ (Rule : List ℕ → Type 0) (rule : List ℕ → Bool) (decides : (g :
 
   pub inside-kept : (g : List ℕ) → InBounds size top low high g → Rule g → InBounds size top (keptLow rule size top low high) (keptHigh rule size top low high) g
   inside-kept g i r =
-      fit-cells (i .cells) λ k b.
+      fit-cells (i .sized) λ k b.
       let h = grid-kept i r k in
       let w = kept-ends k (getD g k 0) b h .within (getD g k 0) h in
       (i .capped k b, w .0, w .1)
@@ -193,7 +191,7 @@ module _ (Rule : List ℕ → Type 0) (rule : List ℕ → Bool) (decides : (g :
 
     pub kept-inside : (g : List ℕ) → InBounds size top (keptLow rule size top low high) (keptHigh rule size top low high) g → InBounds size top low high g
     kept-inside g i =
-        fit-cells (i .cells) λ k b.
+        fit-cells (i .sized) λ k b.
         let e = obeyed-ends k b in
         let p = kept-bounds b (e .low-kept) in
         let q = kept-bounds b (e .high-kept) in

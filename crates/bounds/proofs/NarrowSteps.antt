@@ -3,7 +3,7 @@
 --   copied           ==  a list copied over another of its length
 --   Replaced a k xs ys zs, part-replaced  ==  zs is xs with ys in the place of its k entries from a on
 --   row-part, first-part  ==  a row of bounds, as a part of the list
---   part-size        ==  the length of such a part
+--   part-size, first-size  ==  the length of such a part
 --   row-pruned-ext   ==  only the values in the columns count
 --   lowered-both     ==  highs lowered by one rule and then by another
 --   Progress i m n low high low′ high′  ==  the rows before row i are pruned with row 0
@@ -25,7 +25,7 @@ use borrow.Rule.Slice.PartMut.{same-len-mid, mid-len}
 use Rattle.grids.specs.Order.{rank}
 use Rattle.grids.proofs.QuestionLaws.{size-fits}
 use Rattle.bounds.specs.Bounds.{IsBounds}
-use Rattle.bounds.specs.Rows.{cells, put, Values, Leads, Raised, Lowered, RowSizes, RowPruned, RowOutcome}
+use Rattle.bounds.specs.Rows.{cellAt, put, Values, Leads, Raised, Lowered, RowSizes, RowPruned, RowOutcome}
 use Rattle.bounds.specs.Narrowed.{rowOf, AllLead, Narrowed, NarrowSizes}
 use Rattle.bounds.proofs.LeadsLaws.{put-self, put-ext, leads-ext}
 
@@ -67,14 +67,14 @@ part-replaced a k xs ys h e = record {
         ∙ getD-drop a xs (k + (t - a - k)) 0)
 
 module _ (i n : ℕ) (l : List ℕ) where
-  pub row-part : (j : ℕ) → j < n → cells (take (i * n + n - i * n) (drop (i * n) l)) j ≡ rowOf n l i j
+  pub row-part : (j : ℕ) → j < n → cellAt (take (i * n + n - i * n) (drop (i * n) l)) j ≡ rowOf n l i j
   row-part j b = getD-take (i * n + n - i * n) (drop (i * n) l) j 0 (omega arith) ∙ getD-drop (i * n) l j 0
 
   pub part-size : i * n + n ≤ length l → length (take (i * n + n - i * n) (drop (i * n) l)) ≡ n
   part-size h = mid-len (i * n) (i * n + n) l h ∙ omega arith
 
-pub first-part : (n : ℕ) (l : List ℕ) (j : ℕ) → j < n → cells (take (n - 0) l) j ≡ rowOf n l 0 j
-first-part n l j b = let q : 0 * n + j ≡ j = omega (arith, zero-mul n) in getD-take (n - 0) l j 0 (omega arith) ∙ ap (cells l) (sym q)
+pub first-part : (n : ℕ) (l : List ℕ) (j : ℕ) → j < n → cellAt (take (n - 0) l) j ≡ rowOf n l 0 j
+first-part n l j b = let q : 0 * n + j ≡ j = omega (arith, zero-mul n) in getD-take (n - 0) l j 0 (omega arith) ∙ ap (cellAt l) (sym q)
 
 pub first-size : (n : ℕ) (l : List ℕ) → n ≤ length l → length (take (n - 0) l) ≡ n
 first-size n l h = length-take-le (n - 0) l (omega arith) ∙ omega arith
@@ -187,21 +187,21 @@ module _ {i m n : ℕ} {low high low′ high′ old-low old-high : List ℕ} (s 
         lows-size = part-size i n low′ (f .new-low) ∙ sym e;
       }
 
-  pub row-values : Values (m * n) 15 (cells high) → Values (length (take (n - 0) low)) 15 (cells (take (i * n + n - i * n) (drop (i * n) high)))
+  pub row-values : Values (m * n) 15 (cellAt high) → Values (length (take (n - 0) low)) 15 (cellAt (take (i * n + n - i * n) (drop (i * n) high)))
   row-values h j b =
       let e = first-size n low (row-fits .first-low) in
       rw (row-part i n high j (omega arith)) (h (i * n + j) (omega (arith, row-within)))
 
-  pub narrow-fails : (highs lows : ℕ → ℕ) → RowOutcome false (length (take (n - 0) low)) (cells (take (n - 0) low)) (cells (take (i * n + n - i * n) (drop (i * n) low)))
-      (cells (take (i * n + n - i * n) (drop (i * n) high))) (cells (take (n - 0) high′)) highs lows → AllLead m n (rowOf n low 0) high → ⊥
+  pub narrow-fails : (highs lows : ℕ → ℕ) → RowOutcome false (length (take (n - 0) low)) (cellAt (take (n - 0) low)) (cellAt (take (i * n + n - i * n) (drop (i * n) low)))
+      (cellAt (take (i * n + n - i * n) (drop (i * n) high))) (cellAt (take (n - 0) high′)) highs lows → AllLead m n (rowOf n low 0) high → ⊥
   unfolding RowOutcome
   narrow-fails highs lows f all =
       f (rw (first-size n low (omega (arith, s .low-size, row-within)))
       (leads-ext n (rowOf n low 0) _ (rowOf n high i) _ (λ j b. sym (first-part n low j b)) (λ j b. sym (row-part i n high j b)) (all i (p .from) im)))
 
   module _ (highs lows : List ℕ) (he : length highs ≡ length (take (n - 0) high′)) (le : length lows ≡ length (take (i * n + n - i * n) (drop (i * n) low′)))
-      (f : RowOutcome true (length (take (n - 0) low)) (cells (take (n - 0) low)) (cells (take (i * n + n - i * n) (drop (i * n) low)))
-      (cells (take (i * n + n - i * n) (drop (i * n) high))) (cells (take (n - 0) high′)) (cells highs) (cells lows)) where
+      (f : RowOutcome true (length (take (n - 0) low)) (cellAt (take (n - 0) low)) (cellAt (take (i * n + n - i * n) (drop (i * n) low)))
+      (cellAt (take (i * n + n - i * n) (drop (i * n) high))) (cellAt (take (n - 0) high′)) (cellAt highs) (cellAt lows)) where
     new-low : List ℕ
     new-low = take (i * n) low′ ++ (lows ++ drop (i * n + n - i * n) (drop (i * n) low′))
 
@@ -231,8 +231,8 @@ module _ {i m n : ℕ} {low high low′ high′ old-low old-high : List ℕ} (s 
       unfolding RowOutcome
       row =
           let g = rw (first-size n low (omega (arith, s .low-size, row-within))) at f in
-          row-pruned-ext n top (cells (take (n - 0) low)) (cells (take (i * n + n - i * n) (drop (i * n) low))) (cells (take (i * n + n - i * n) (drop (i * n) high)))
-          (cells (take (n - 0) high′)) (cells highs) (cells lows) _ _ _ _ _ _ (first-part n low) (row-part i n low) (row-part i n high) (first-part n high′)
+          row-pruned-ext n top (cellAt (take (n - 0) low)) (cellAt (take (i * n + n - i * n) (drop (i * n) low))) (cellAt (take (i * n + n - i * n) (drop (i * n) high)))
+          (cellAt (take (n - 0) high′)) (cellAt highs) (cellAt lows) _ _ _ _ _ _ (first-part n low) (row-part i n low) (row-part i n high) (first-part n high′)
           (λ j jn. let q : 0 * n + j ≡ 0 + j = omega (arith, zero-mul n) in rw q (sym (high-replaced .inside j jn))) (λ j jn. sym (low-replaced .inside j jn))
           (g top (λ j jn. rw (first-part n low j jn) (b .low-cap (0 * n + j) (digits-lt (omega arith) jn)))
           (λ j jn. rw (row-part i n low j jn) (b .low-cap (i * n + j) (digits-lt im jn)))

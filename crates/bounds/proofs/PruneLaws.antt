@@ -24,7 +24,7 @@ use Rattle.grids.proofs.QuestionLaws.{Numbered, first-no-zero, limits-asked}
 use Rattle.bounds.specs.Bounds.{IsBounds, inBounds}
 use Rattle.bounds.specs.Kept.{Obeyed, obeyed, keptLow, keptHigh, removed}
 use Rattle.bounds.specs.Allperm.{Allperm, allperm}
-use Rattle.bounds.specs.Prune.{Pruned, outcome, boundsQuestions, pruneQuestions, prunedYes, pruned}
+use Rattle.bounds.specs.Prune.{Pruned, prunedTo, boundsQuestions, pruneQuestions, prunedYes, pruned}
 use Rattle.bounds.specs.Demand2.{Exact, Pruning, PruneExact, Prunes, MeetsPrune}
 use Rattle.bounds.proofs.BoundsLaws.{inBounds-decides, bounds-asked, bounds-numbered}
 use Rattle.bounds.proofs.KeptLaws.{length-keptLow, length-keptHigh, obeyed-decides, obeyed-ends, pruned-same, all-kept}
@@ -132,5 +132,5 @@ prune-one-row n top low high e =
     pruned-some 1 n top low high e some ∙ rw (same .0, same .1, same .2)
 
 pub prunes-refused : (m n top : ℕ) (low high : List ℕ) (r : Pruned) → Prunes m n top low high r → (k : ℕ) → firstNo (pruneQuestions m n top low high) ≡ suc k →
-    r ≡ outcome (suc k) 0 low high
+    r ≡ prunedTo (suc k) 0 low high
 prunes-refused m n top low high r p k e = p .determined ∙ pruned-refused m n top low high k e

@@ -30,16 +30,18 @@ use lib.Dec.{leb}
 use borrow.Author.Tests.{leb-true, le-leb}
 use Rattle.permutations.specs.Lists.{tabulate, numbers, select, every}
 use Rattle.permutations.proofs.BoolLaws.{and-yes, refuted}
-use Rattle.permutations.proofs.ListLaws.{every-next, part-within, part-is, select-yes, select-no, length-select, length-numbers}
+use Rattle.permutations.proofs.ListLaws.{every-next, part-within, part-is, length-numbers}
+use Rattle.permutations.proofs.SelectLaws.{select-yes, select-no, length-select}
 use Rattle.grids.specs.Order.{rank}
-use Rattle.grids.specs.Questions.{firstNo, Limits, question7, shapeNo}
+use Rattle.grids.specs.Asked.{shapeNo}
+use Rattle.grids.specs.Questions.{firstNo, Limits, question7}
 use Rattle.grids.proofs.QuestionLaws.{firstNo-pass, firstNo-stop, size-fits, shape-refuses, shape-fits, cells-refuse, cells-pass}
 use Rattle.bounds.specs.Bounds.{IsBounds, ranksWithin, between}
 use Rattle.bounds.specs.Kept.{Obeyed, keptLow, keptHigh, removed}
 use Rattle.bounds.specs.Allperm.{Allperm, allperm}
-use Rattle.bounds.specs.Rows.{cells, Values}
+use Rattle.bounds.specs.Rows.{cellAt, Values}
 use Rattle.bounds.specs.Narrowed.{rowOf, AllLead, Narrowed, NarrowOutcome, NarrowSizes, Inside, removedBy}
-use Rattle.bounds.specs.Prune.{question8, boundsQuestions, pruneQuestions, outcome}
+use Rattle.bounds.specs.Prune.{question8, boundsQuestions, pruneQuestions, prunedTo}
 use Rattle.bounds.specs.Demand2.{Prunes}
 use Rattle.bounds.proofs.BoundsLaws.{bounds-wider, ranks-within, between-fewer}
 use Rattle.bounds.proofs.PruneLaws.{prune-pass, pruned-refused, pruned-some, pruned-none, prunes}
@@ -160,18 +162,18 @@ pub record Wrote (m n top : ℕ) (low high low′ high′ : List ℕ) : Type 0 w
   pub narrowed : NarrowOutcome true m n low high low′ high′
 
 module _ (m n top : ℕ) (low high : List ℕ) where
-  refused : (k : ℕ) → firstNo (pruneQuestions m n top low high) ≡ k → (k ≡ 0 → ⊥) → Prunes m n top low high (outcome k 0 low high)
+  refused : (k : ℕ) → firstNo (pruneQuestions m n top low high) ≡ k → (k ≡ 0 → ⊥) → Prunes m n top low high (prunedTo k 0 low high)
   refused zero e h = absurd (h refl)
   refused (suc k) e h = prunes m n top low high _ (sym (pruned-refused m n top low high k e))
 
   -- k is the first no of the shape
   module _ (k : ℕ) (found : k ≡ shapeNo m n top (length low) (length high)) where
-    pub prune-shape-no : (k ≡ 0 → ⊥) → Prunes m n top low high (outcome k 0 low high)
+    pub prune-shape-no : (k ≡ 0 → ⊥) → Prunes m n top low high (prunedTo k 0 low high)
     unfolding boundsQuestions
     prune-shape-no h = refused k (shape-refuses m n top low high k found _ h) h
 
     module _ (z : k ≡ 0) where
-      pub prune-cells-no : question7 top (low ∷ high ∷ []) .answer ≡ false → Prunes m n top low high (outcome 7 0 low high)
+      pub prune-cells-no : question7 top (low ∷ high ∷ []) .answer ≡ false → Prunes m n top low high (prunedTo 7 0 low high)
       unfolding boundsQuestions
       prune-cells-no e = refused 7 (cells-refuse m n top low high k found z (low ∷ high ∷ []) _ e) (omega arith)
 
@@ -187,7 +189,7 @@ module _ (m n top : ℕ) (low high : List ℕ) where
         order-answer : question8 (m * n) low high .answer ≡ t
         order-answer = sym (rw (shape-fits m n top low high k found z .1) at ordered)
 
-        pub prune-order-no : t ≡ false → Prunes m n top low high (outcome 8 0 low high)
+        pub prune-order-no : t ≡ false → Prunes m n top low high (prunedTo 8 0 low high)
         unfolding question8
         prune-order-no f = refused 8 (order-first ∙ firstNo-stop (question8 (m * n) low high) [] (order-answer ∙ f)) (omega arith)
 
@@ -210,7 +212,7 @@ module _ (m n top : ℕ) (low high : List ℕ) where
     part-size x h = simp length-take (omega (arith, prune-size))
 
     pub narrow-ready : (x y : List ℕ) → length x ≡ 128 → length y ≡ 128 →
-        NarrowSizes m n low high (take (m * n - 0) x) (take (m * n - 0) y) × Values (m * n) 15 (cells high)
+        NarrowSizes m n low high (take (m * n - 0) x) (take (m * n - 0) y) × Values (m * n) 15 (cellAt high)
     narrow-ready x y hx hy = (
       record {
         rows-limits = limits .rows-limits;
@@ -224,7 +226,7 @@ module _ (m n top : ℕ) (low high : List ℕ) where
     )
 
     -- narrow says no
-    pub prune-none : (t : Bool) (low′ high′ : List ℕ) → NarrowOutcome t m n low high low′ high′ → t ≡ false → Prunes m n top low high (outcome 102 0 low high)
+    pub prune-none : (t : Bool) (low′ high′ : List ℕ) → NarrowOutcome t m n low high low′ high′ → t ≡ false → Prunes m n top low high (prunedTo 102 0 low high)
     prune-none t low′ high′ w f =
         let no : AllLead m n (rowOf n low 0) high → ⊥ = rw f at w in
         prunes m n top low high _ (sym (pruned-none m n top low high e (λ o. no (narrowed-obeyed m n top low high (limits .rows-limits .0) bounds .1 o))))
@@ -282,7 +284,7 @@ module _ (m n top : ℕ) (low high low′ high′ : List ℕ) (w : Wrote m n top
   pub prune-some : (count : ℕ) (lows highs : List ℕ) →
       ((cap : ℕ) → Inside (length low) cap low high lowPart highPart → count ≡ removedBy (length low) cap low high lowPart highPart) →
       lows ≡ take (length lowPart) lowPart ++ drop (length lowPart) low → highs ≡ take (length highPart) highPart ++ drop (length highPart) high →
-      Prunes m n top low high (outcome 0 count lows highs)
+      Prunes m n top low high (prunedTo 0 count lows highs)
   prune-some count lows highs counted cl ch = prunes m n top low high _ (rw (ec, el, eh) (sym (pruned-some m n top low high (w .asked) obeyed)))
     where
       obeyed : Obeyed (Allperm m n) (m * n) top low high

@@ -9,7 +9,8 @@ use Prim.Native.Nat.{ℕ, _+_, _-_, _≤_, _<_}
 use native.Mathlib.Decide.{decLt}
 use native.Mathlib.Omega.{arith}
 use borrow.Author.Tests.{lt-ltb, le-ltb}
-use Rattle.grids.specs.Order.{rank, IsNext}
+use Rattle.grids.specs.Neighbours.{IsNext}
+use Rattle.grids.specs.Order.{rank}
 use Rattle.grids.proofs.OrderLaws.{rank-antisymm}
 use Rattle.bounds.specs.declared.rows.RowLows.{RowLows}
 use Rattle.bounds.specs.Rows.{put, Values, Leads, IsSorted, AgreeTo, NoLater, Parted, Threshold, lowFor, IsLows}

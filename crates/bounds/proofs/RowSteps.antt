@@ -23,7 +23,7 @@ use borrow.Author.Tests.{lt-ltb, le-ltb}
 use Rattle.grids.specs.Order.{rank}
 use Rattle.grids.proofs.OrderLaws.{rank-antisymm}
 use Rattle.bounds.specs.declared.rows.RowLows.{RowLows}
-use Rattle.bounds.specs.Rows.{cells, Values, IsSorted, AgreeTo, SaysBelow, SaysUnder, NoLater, SaysNoLater, Parted, higher, lower, lowFor, IsLows, RaisedTo, IsCap, IsHighs, RowOutcome}
+use Rattle.bounds.specs.Rows.{cellAt, Values, IsSorted, AgreeTo, SaysBelow, SaysUnder, NoLater, SaysNoLater, Parted, higher, lower, lowFor, IsLows, RaisedTo, IsCap, IsHighs, RowOutcome}
 use Rattle.bounds.proofs.LeadsLaws.{leads-sorted, agree-same, agree-differ, agree-no-later}
 use Rattle.bounds.proofs.ThresholdLaws.{parted-leads}
 use Rattle.bounds.proofs.CapLaws.{highs-lowered, lows-raised}
@@ -72,42 +72,42 @@ parted-at {at = at} g h = record { agree = g; before = λ k. let e : at - 0 ≡ 
 
 pub record LoweredTo (c : ℕ) (x h h′ : List ℕ) : Type 0 where
   pub size : length h′ ≡ length h
-  pub done : (j : ℕ) → j < c → cells h′ j ≡ cells x j
-  pub rest : (j : ℕ) → c ≤ j → cells h′ j ≡ cells h j
+  pub done : (j : ℕ) → j < c → cellAt h′ j ≡ cellAt x j
+  pub rest : (j : ℕ) → c ≤ j → cellAt h′ j ≡ cellAt h j
 
 pub lowered-none : (x h : List ℕ) → LoweredTo 0 x h h
 lowered-none x h = record { size = refl; done = λ j b. absurd (omega arith); rest = λ j b. refl }
 
 module _ {c : ℕ} {x h h′ : List ℕ} (l : LoweredTo c x h h′) where
-  pub lowered-next : c < length h → LoweredTo (c + 1) x h (set h′ c (cells x c))
+  pub lowered-next : c < length h → LoweredTo (c + 1) x h (set h′ c (cellAt x c))
   lowered-next b = record {
     size = length-set h′ c _ ∙ l .size;
     done = λ j k. go j k (ℕ-discrete j c);
     rest = λ j k. getD-set-other h′ c j _ 0 (omega arith) ∙ l .rest j (omega arith);
   }
     where
-      go : (j : ℕ) → j < c + 1 → Dec (j ≡ c) → cells (set h′ c (cells x c)) j ≡ cells x j
-      go j k (yes e) = rw e (getD-set-same h′ c (cells x c) 0 (omega (arith, l .size)))
+      go : (j : ℕ) → j < c + 1 → Dec (j ≡ c) → cellAt (set h′ c (cellAt x c)) j ≡ cellAt x j
+      go j k (yes e) = rw e (getD-set-same h′ c (cellAt x c) 0 (omega (arith, l .size)))
       go j k (no ne) = getD-set-other h′ c j _ 0 ne ∙ l .done j (omega arith)
 
-  module _ {n : ℕ} {s : ℕ → ℕ} (d : Parted n (cells x) s c) where
-    pub lowered-all : n ≤ c → IsHighs n (cells x) s (cells h) (cells h′)
-    lowered-all nc = highs-lowered d (cells h) (cells h′) (l .done) (λ cn. absurd (omega arith)) (λ j cj jn. absurd (omega arith))
+  module _ {n : ℕ} {s : ℕ → ℕ} (d : Parted n (cellAt x) s c) where
+    pub lowered-all : n ≤ c → IsHighs n (cellAt x) s (cellAt h) (cellAt h′)
+    lowered-all nc = highs-lowered d (cellAt h) (cellAt h′) (l .done) (λ cn. absurd (omega arith)) (λ j cj jn. absurd (omega arith))
 
-    pub lowered-capped : (t : ℕ) → c < length h → IsCap n (cells x) s c t → IsHighs n (cells x) s (cells h) (cells (set h′ c (lower (cells h′ c) t)))
+    pub lowered-capped : (t : ℕ) → c < length h → IsCap n (cellAt x) s c t → IsHighs n (cellAt x) s (cellAt h) (cellAt (set h′ c (lower (cellAt h′ c) t)))
     lowered-capped t b k =
-        highs-lowered d (cells h) (cells (set h′ c (lower (cells h′ c) t))) (λ j jc. getD-set-other h′ c j _ 0 (omega arith) ∙ l .done j jc)
+        highs-lowered d (cellAt h) (cellAt (set h′ c (lower (cellAt h′ c) t))) (λ j jc. getD-set-other h′ c j _ 0 (omega arith) ∙ l .done j jc)
         (λ cn. (t, k, getD-set-same h′ c _ 0 (omega (arith, l .size)) ∙ ap (λ (z : ℕ). lower z t) (l .rest c (omega arith))))
         (λ j cj jn. getD-set-other h′ c j _ 0 (omega arith) ∙ l .rest j (omega arith))
 
 -- ---- the lows of the other row, and both rows
 
-pub raised-next : (z : RowLows) (l y l′ : List ℕ) (c v : ℕ) → c < length l′ → RaisedTo c z (cells l) (cells y) (cells l′) → v ≡ higher (cells l c) (lowFor z (cells y c)) →
-    RaisedTo (c + 1) z (cells l) (cells y) (cells (set l′ c v))
+pub raised-next : (z : RowLows) (l y l′ : List ℕ) (c v : ℕ) → c < length l′ → RaisedTo c z (cellAt l) (cellAt y) (cellAt l′) → v ≡ higher (cellAt l c) (lowFor z (cellAt y c)) →
+    RaisedTo (c + 1) z (cellAt l) (cellAt y) (cellAt (set l′ c v))
 unfolding RaisedTo
 raised-next z l y l′ c v b h e j jc = go (ℕ-discrete j c)
   where
-    go : Dec (j ≡ c) → cells (set l′ c v) j ≡ higher (cells l j) (lowFor z (cells y j))
+    go : Dec (j ≡ c) → cellAt (set l′ c v) j ≡ higher (cellAt l j) (lowFor z (cellAt y j))
     go (yes d) = rw d (getD-set-same l′ c v 0 b ∙ e)
     go (no ne) = getD-set-other l′ c j v 0 ne ∙ h j (omega arith)
 

@@ -24,7 +24,7 @@ pub record IsBounds (size top : ℕ) (low high : List ℕ) : Type 0 where
   pub in-order : (k : ℕ) → k < size → rank (getD low k 0) ≤ rank (getD high k 0)
 
 pub record InBounds (size top : ℕ) (low high g : List ℕ) : Type 0 where
-  pub cells : length g ≡ size
+  pub sized : length g ≡ size
   pub capped : (k : ℕ) → k < size → getD g k 0 ≤ top
   pub above : (k : ℕ) → k < size → rank (getD low k 0) ≤ rank (getD g k 0)
   pub below : (k : ℕ) → k < size → rank (getD g k 0) ≤ rank (getD high k 0)

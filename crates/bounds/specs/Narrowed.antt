@@ -1,4 +1,4 @@
--- Bounds that prune makes narrower, row after row: what its functions say to each other. No answer of a call is defined by these.
+-- Bounds that prune makes narrower, row after row. Between functions: no answer of a call is defined here.
 --
 --   rowOf n l i              ==  row i of a list of bounds for n columns, by its columns
 --   AllLead m n x high       ==  x leads the highs of every row but row 0

@@ -4,7 +4,7 @@
 --   boundsQuestions size top low high  ==  questions 6, 7 and 8 of two bounds
 --   pruneQuestions m n top low high    ==  the questions that prune asks
 --   Pruned                     ==  the number, the count of values removed, and the two slices afterwards
---   outcome number count low high  ==  such an outcome
+--   prunedTo number count low high  ==  such an outcome
 --   prunedYes m n top low high ==  prune's outcome where every question gets a yes
 --   pruned m n top low high    ==  prune's outcome
 use mathlib.Core.List.{List, [], _∷_}
@@ -33,8 +33,8 @@ pub record Pruned : Type 0 where
   pub low : List ℕ
   pub high : List ℕ
 
-abbrev pub outcome : ℕ → ℕ → List ℕ → List ℕ → Pruned
-outcome number count low high = record { number = number; count = count; low = low; high = high }
+abbrev pub prunedTo : ℕ → ℕ → List ℕ → List ℕ → Pruned
+prunedTo number count low high = record { number = number; count = count; low = low; high = high }
 
 unfoldable pub prunedYes : ℕ → ℕ → ℕ → List ℕ → List ℕ → Pruned
 prunedYes m n top low high =

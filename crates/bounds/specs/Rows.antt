@@ -1,7 +1,7 @@
--- Two rows: what the functions say to each other of the lows of row 0 and the highs of another row. No answer of a call is defined by these.
+-- Two rows: the lows of row 0 and the highs of another row. Between functions: no answer of a call is defined here.
 -- A row of n columns is given by a value for each column number: x for the lows of row 0, y for the highs of the other row, s for these sorted.
 --
---   cells l                       ==  the row whose values are the entries of l
+--   cellAt l                      ==  the row whose values are the entries of l
 --   put x c v                     ==  the row x with the value v in column c
 --   Values n top x                ==  each of the n values of x is 0 to top
 --   Ordered n x h                 ==  each of the n values of x ranks no higher than that of h
@@ -38,8 +38,8 @@ use Rattle.permutations.specs.Permutations.{IsPermutation}
 use Rattle.grids.specs.Order.{rank, _≼_}
 use Rattle.bounds.specs.declared.rows.RowLows.{RowLows}
 
-abbrev pub cells : List ℕ → ℕ → ℕ
-cells l j = getD l j 0
+abbrev pub cellAt : List ℕ → ℕ → ℕ
+cellAt l j = getD l j 0
 
 unfoldable pub put : (ℕ → ℕ) → ℕ → ℕ → ℕ → ℕ
 put x c v j = elim (eqb j c) [ true ↦ v | false ↦ x j ]

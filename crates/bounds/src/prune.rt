@@ -4,9 +4,9 @@ use crate::rows;
 use crate::values;
 use grids::questions;
 ghost use Prim.Native.Nat.{_*_};
-ghost use Rattle.bounds.specs.Rows.{cells, Values};
+ghost use Rattle.bounds.specs.Rows.{cellAt, Values};
 ghost use Rattle.bounds.specs.Narrowed.{NarrowSizes, NarrowOutcome};
-ghost use Rattle.bounds.specs.Prune.{outcome};
+ghost use Rattle.bounds.specs.Prune.{prunedTo};
 ghost use Rattle.bounds.specs.Demand2.{Prunes};
 
 // The number, and the count of values removed.
@@ -19,7 +19,7 @@ pub struct Counted {
 // Prunes row 0 with each other row in turn: low and high are copied to lows and highs, which are narrowed. False where no
 // grid within the bounds has allperm.
 fn narrow(m: usize, n: usize, low: &[u8], high: &[u8], lows: &mut [u8], highs: &mut [u8]) -> bool
-    requires { ⌜ NarrowSizes m n (now low) (now high) (now lows) (now highs) × Values (m * n) 15 (cells (now high)) ⌝ }
+    requires { ⌜ NarrowSizes m n (now low) (now high) (now lows) (now highs) × Values (m * n) 15 (cellAt (now high)) ⌝ }
     ensures { λ r. ⌜ NarrowOutcome r m n (now (low .entry)) (now (high .entry)) (now (lows .exit)) (now (highs .exit)) ⌝ }
 {
     bytes::copy(low, lows);
@@ -46,7 +46,7 @@ fn narrow(m: usize, n: usize, low: &[u8], high: &[u8], lows: &mut [u8], highs: &
 // true, and counts the values removed. 102 where there is no such grid, and where a question gets a no its number: then the count
 // is 0, and the bounds are as they were.
 pub fn prune(m: usize, n: usize, top: usize, low: &mut [u8], high: &mut [u8]) -> Counted
-    ensures { λ r. ⌜ Prunes m n top (now (low .entry)) (now (high .entry)) (outcome (r .number) (r .count) (now (low .exit)) (now (high .exit))) ⌝ }
+    ensures { λ r. ⌜ Prunes m n top (now (low .entry)) (now (high .entry)) (prunedTo (r .number) (r .count) (now (low .exit)) (now (high .exit))) ⌝ }
 {
     let number = questions::shape_no(m, n, top, low.len(), high.len());
     if number != 0 {

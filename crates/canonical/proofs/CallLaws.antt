@@ -4,7 +4,6 @@
 --   represented-least    ==  every answer that the contract allows is the least arrangement, with orders that produce it
 --   represent-least      ==  so demand 2's sentence on represent holds of every program that meets the contract
 --   represent-determined ==  two answers to the same arguments have one number and one output slice
---   produces-class       ==  orders that produce b from a show the two in one class
 --   same-zero, same-103  ==  where every question gets a yes: 0 exactly for grids in one class, 103 exactly for grids in two
 --   same-leasts          ==  and 0 exactly for grids with one least grid
 --   represent-answers, same-answers  ==  on all arguments there is an answer
@@ -42,7 +41,7 @@ unfolding representQuestions
 represent-pass m n top g out =
     let p = slices-pass m n top (g ∷ out ∷ []) (g ∷ []) in (
       λ e. let h = p .0 e in (h .0, grid-of m n top g (h .1 g (List·Memᴰ·head refl)) (h .2 g (List·Memᴰ·head refl)), h .1 out (List·Memᴰ·tail (List·Memᴰ·head refl))),
-      λ h. p .1 (h .0, all-two (λ s. length s ≡ m * n) g out (h .1 .cells) (h .2), all-one (λ s. capped top s ≡ true) g (grid-capped m n top g (h .1))),
+      λ h. p .1 (h .0, all-two (λ s. length s ≡ m * n) g out (h .1 .sized) (h .2), all-one (λ s. capped top s ≡ true) g (grid-capped m n top g (h .1))),
     )
 
 -- same's get a yes exactly for two grids within the limits
@@ -64,7 +63,7 @@ same-pass m n top a b = (to, back)
     back h =
         p .1 (
           h .0,
-          all-two (λ s. length s ≡ m * n) a b (h .1 .cells) (h .2 .cells),
+          all-two (λ s. length s ≡ m * n) a b (h .1 .sized) (h .2 .sized),
           all-two (λ s. capped top s ≡ true) a b (grid-capped m n top a (h .1)) (grid-capped m n top b (h .2)),
         )
 
@@ -74,7 +73,7 @@ pub represented-least : (m n top : ℕ) (g out : List ℕ) → Limits m n top �
     (number : ℕ) (rows columns out′ : List ℕ) → Represented m n top g out number rows columns out′ → (number ≡ 0) × IsLeast m n g out′ × Produces m n g out′ rows columns
 represented-least m n top g out l i e number rows columns out′ r =
     let z = r .number-is ∙ represent-pass m n top g out .1 (l, i, e) in
-    (z, rw (r .written z) (least-is m n g (i .cells)), rw (r .written z) (r .produced z))
+    (z, rw (r .written z) (least-is m n g (i .sized)), rw (r .written z) (r .produced z))
 
 pub represent-least : (f : Representing) → MeetsRepresent f → RepresentLeast f
 unfolding RepresentLeast MeetsRepresent
@@ -92,15 +91,6 @@ represent-determined m n top g out k p q o k′ p′ q′ o′ r s = (e, go (ℕ
     go (no nz) = r .unchanged nz ∙ sym (s .unchanged (λ z. nz (e ∙ z)))
 
 -- ---- same
-
-pub produces-class : (m n : ℕ) (a b rows columns : List ℕ) → Produces m n a b rows columns → OneClass m n a b
-produces-class m n a b rows columns p = record {
-  rows = take m rows;
-  columns = take n columns;
-  row-permutation = p .row-permutation;
-  column-permutation = p .column-permutation;
-  gives = p .gives;
-}
 
 -- the number where every question gets a yes
 same-number : (m n top : ℕ) (a b : List ℕ) (t : Bool) → firstNo (sameQuestions m n top a b) ≡ 0 → oneClass m n a b ≡ t → sameNumber m n top a b ≡ (elim t as (λ x. ℕ) [ true ↦ 0 | false ↦ 103 ])
@@ -133,7 +123,7 @@ same-103 m n top a b e = (λ z c. let d = same-zero m n top a b e .1 c in omega 
 pub same-leasts : (m n top : ℕ) (a b : List ℕ) → firstNo (sameQuestions m n top a b) ≡ 0 → (sameNumber m n top a b ≡ 0) ↔ (least m n a ≡ least m n b)
 same-leasts m n top a b e =
     let z = same-pass m n top a b .0 e in
-    let i = one-class-one-least m n a b (z .1 .cells) (z .2 .cells) in
+    let i = one-class-one-least m n a b (z .1 .sized) (z .2 .sized) in
     let j = same-zero m n top a b e in
     (λ h. i .0 (j .0 h), λ h. j .1 (i .1 h))
 
@@ -171,7 +161,7 @@ represent-answers m n top g out = go (ℕ-discrete (firstNo (representQuestions 
     go : Dec (k ≡ 0) → (number : ℕ) × (rows : List ℕ) × (columns : List ℕ) × (out′ : List ℕ) × Represented m n top g out number rows columns out′
     go (yes z) =
         let h = represent-pass m n top g out .0 z in
-        let c = least-in-class m n g (h .1 .cells) in (
+        let c = least-in-class m n g (h .1 .sized) in (
           k,
           padded 8 m (c .rows),
           padded 16 n (c .columns),

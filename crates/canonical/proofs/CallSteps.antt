@@ -27,7 +27,8 @@ use Rattle.grids.specs.declared.comparisons.Comparison.{Comparison}
 use Rattle.grids.specs.Order.{equal}
 use Rattle.grids.specs.Grids.{IsGrid, arrangement, OneClass}
 use Rattle.grids.specs.Least.{least}
-use Rattle.grids.specs.Questions.{Question, firstNo, Limits, question7, shapeNo}
+use Rattle.grids.specs.Asked.{shapeNo}
+use Rattle.grids.specs.Questions.{Question, firstNo, Limits, question7}
 use Rattle.grids.specs.Comparisons.{isEqual, compared}
 use Rattle.grids.proofs.OrderLaws.{equal-eq, eq-equal}
 use Rattle.grids.proofs.ComparisonLaws.{equal-yes, equal-no}
@@ -121,12 +122,12 @@ meet-equals m n a b p q x y x′ y′ c t e f g h =
 -- ---- same
 
 -- p followed by the inverse of q
-record Followed (width n : ℕ) (p q r : List ℕ) : Type 0 where
+record FollowedByInverse (width n : ℕ) (p q r : List ℕ) : Type 0 where
   whole : IsPadded width n r
   own : take n r ≡ composed n (take n p) (inverse n (take n q))
 
 followed : (width n : ℕ) (p q : List ℕ) → 1 ≤ n → n ≤ width → IsPadded width n p → IsPadded width n q →
-    Followed width n p q (composedPadded width n p n (inversePadded width n q))
+    FollowedByInverse width n p q (composedPadded width n p n (inversePadded width n q))
 followed width n p q a b op oq = record {
   whole = record {
     permutation = composedPadded-permutation width n p i sp si;
@@ -149,7 +150,7 @@ followed width n p q a b op oq = record {
 
 -- as the code makes it, of permutations that hold their size
 followed-of : (width n j k l : ℕ) (p q i r : List ℕ) → 1 ≤ n → n ≤ width → IsPadded width n p → IsPadded width n q → j ≡ n → k ≡ n → l ≡ k →
-    i ≡ inversePadded width k q → r ≡ composedPadded width j p l i → Followed width n p q r
+    i ≡ inversePadded width k q → r ≡ composedPadded width j p l i → FollowedByInverse width n p q r
 followed-of width n j k l p q i r a b op oq ej ek el ei er = rw (er, ei, el, ek, ej) (followed width n p q a b op oq)
 
 module _ (m n top : ℕ) (a b : List ℕ) where
@@ -177,7 +178,7 @@ module _ (m n top : ℕ) (a b : List ℕ) where
 
     module _ (t : Bool) (met : t ≡ equal (leadingRows m n a p) (leadingRows m n b q)) where
       two-classes : t ≡ false → OneClass m n a b → ⊥
-      two-classes d c = true≢false (sym (eq-equal _ _ (lp .gives ∙ class-least m n a b (fits .1 .cells) c ∙ sym (lq .gives))) ∙ sym met ∙ d)
+      two-classes d c = true≢false (sym (eq-equal _ _ (lp .gives ∙ class-least m n a b (fits .1 .sized) c ∙ sym (lq .gives))) ∙ sym met ∙ d)
 
       pub same-differs : t ≡ false → (r : Answer) → Refused 103 r → Compared m n top a b (r .number) (rowNumbers (r .rows)) (columnNumbers (r .columns))
       unfolding sameQuestions
@@ -199,7 +200,7 @@ module _ (m n top : ℕ) (a b : List ℕ) where
           row-permutation = fr .whole .permutation;
           column-permutation = fs .whole .permutation;
           gives = rw (fr .own, fs .own)
-              (same-orders m n a b (least m n b) _ _ _ _ (fits .2 .cells) (lq .orders .rows .whole .permutation) (lq .orders .columns .whole .permutation)
+              (same-orders m n a b (least m n b) _ _ _ _ (fits .2 .sized) (lq .orders .rows .whole .permutation) (lq .orders .columns .whole .permutation)
               (least-produces m n a p lp .gives ∙ one-least d) (least-produces m n b q lq .gives));
           row-rest = fr .whole .rest;
           column-rest = fs .whole .rest;
@@ -207,10 +208,10 @@ module _ (m n top : ℕ) (a b : List ℕ) where
         starting = λ nz. absurd (nz refl);
       }
         where
-          fr : Followed 8 m (rowNumbers (p .rows)) (rowNumbers (q .rows)) (rowNumbers r)
+          fr : FollowedByInverse 8 m (rowNumbers (p .rows)) (rowNumbers (q .rows)) (rowNumbers r)
           fr = followed-of 8 m (p .rows .size) (q .rows .size) (i .size) _ _ (rowNumbers i) _ (fits .0 .rows-limits .0) (fits .0 .rows-limits .1)
               (lp .orders .rows .whole) (lq .orders .rows .whole) (lp .orders .rows .size) (lq .orders .rows .size) (ei .size) (ei .numbers) (er .numbers)
 
-          fs : Followed 16 n (columnNumbers (p .columns)) (columnNumbers (q .columns)) (columnNumbers s)
+          fs : FollowedByInverse 16 n (columnNumbers (p .columns)) (columnNumbers (q .columns)) (columnNumbers s)
           fs = followed-of 16 n (p .columns .size) (q .columns .size) (j .size) _ _ (columnNumbers j) _ (fits .0 .column-limits .0) (fits .0 .column-limits .1)
               (lp .orders .columns .whole) (lq .orders .columns .whole) (lp .orders .columns .size) (lq .orders .columns .size) (ej .size) (ej .numbers) (es .numbers)

@@ -3,9 +3,11 @@ pub mod CallLaws
 pub mod BlockLaws
 pub mod LeadingRows
 pub mod OneRow
+pub mod InsertionLaws
 pub mod InsertionSteps
 pub mod SearchLaws
 pub mod RepeatedRows
+pub mod FollowSteps
 pub mod PlaceLaws
 pub mod CallSteps
 pub mod BoundLaws

@@ -1,29 +1,22 @@
--- The steps of `place`, which tries the rows that can come next one after another.
+-- The steps of `place`, which follows the rows that can come next one after another.
 --
---   Followed m n g k t placed best out  ==  out improves the best, and covers each branch with a row before position t placed next
 --   followed-bound      ==  at first, with the candidates that the bound covers
 --   followed-above      ==  past a candidate that the bound covers
 --   followed-repeated   ==  past a row that repeats one before it
---   followed-cut        ==  past a candidate that is above the bound
---   deeper-improves, followed-settled, followed-again  ==  past one whose branch was searched, is a copy of one tried before, or was searched again
---   outcome-better      ==  from a better best
---   outcome-jump        ==  the search goes back to where a symmetry began
---   outcome-searched, outcome-alike  ==  what is returned where the branch was searched, and where it also gave the best's arrangement
+--   followed-self, followed-better  ==  a row is followed from what the rows before it gave, and what that gives
 --   followed-all        ==  at the end: the branch is searched
+--   outcome-better      ==  from a better best
+--   outcome-searched, outcome-alike  ==  what is returned where the branch was searched, and where it also gave the best's arrangement
 --   searched-better     ==  a branch searched from a better best is searched
 --   placed-last         ==  a branch with one row left is searched with that row placed
 --   placed-all          ==  a branch with all rows placed is searched
 --   start-orders, start ==  how the search stands at first
 --   outcome-least       ==  the branch with no row placed, searched, gives the least
---   further             ==  how the search stands in a candidate's branch
 use mathlib.Core.Path.{_≡_, refl, sym, ap₂, _∙_}
 use mathlib.Core.List.{List}
-use mathlib.Core.Bool.{Bool, true, false, true≢false}
-use mathlib.Core.Logic.{_⊎_, inl, inr}
+use mathlib.Core.Bool.{Bool, true, true≢false}
 use Prim.Native.Nat.{ℕ, suc, _+_, _*_, _≤_, _<_}
-use native.Mathlib.Decide.{ℕ-discrete, decLt}
 use native.Mathlib.Omega.{arith}
-use native.Mathlib.Numerals.{add-one}
 use lib.ListN.{length, getD, take}
 use lib.Seq.{getD-take}
 use Rattle.permutations.specs.Permutations.{identity, swapped}
@@ -36,18 +29,14 @@ use Rattle.grids.proofs.LeastLaws.{is-least}
 use Rattle.canonical.specs.declared.search.Orders.{Orders}
 use Rattle.canonical.specs.declared.search.Bound.{Bound}
 use Rattle.canonical.specs.declared.search.Found.{Found}
-use Rattle.canonical.specs.Blocks.{Split}
-use Rattle.canonical.specs.Search.{Covers, leadingRows, rowAt, IsOrders, Searching, Candidate, Improves, Bounded, Searched, InCommon, Settled, Outcome, LeastOrders}
-use Rattle.canonical.proofs.BlockLaws.{blocked-ascending, blocked-start, blocked-next}
-use Rattle.canonical.proofs.LeadingRows.{leading-is, leading-more, leading-row}
+use Rattle.canonical.specs.Search.{Covers, leadingRows, rowAt, IsOrders, Searching, Candidate, Improves, Bounded, Searched, InCommon, BranchOutcome, Followed, LeastOrders}
+use Rattle.canonical.proofs.BlockLaws.{blocked-ascending, blocked-start}
+use Rattle.canonical.proofs.LeadingRows.{leading-is, leading-more}
 use Rattle.canonical.proofs.RepeatedRows.{row-cells}
-use Rattle.canonical.proofs.SearchSteps.{covers-lower, covers-placed, covers-cut, covers-next, covers-equal, covers-least, placed-stay}
-use Rattle.canonical.proofs.SymmetryLaws.{alike-fewer, alike-covered, alike-last}
-use Rattle.canonical.proofs.SearchLaws.{improves-refl, improves-trans, improves-fewer}
-
-pub record Followed (m n : ℕ) (g : List ℕ) (k t : ℕ) (placed best out : Orders) : Type 0 where
-  pub improves : Improves m n g k best out
-  pub covers : (s : ℕ) → k ≤ s → s < t → Covers m n g (suc k) (swapped (rowNumbers (placed .rows)) k s) (leadingRows m n g out)
+use Rattle.canonical.proofs.SearchSteps.{covers-lower, covers-placed, covers-next, covers-equal, covers-least, placed-stay}
+use Rattle.canonical.proofs.SymmetryLaws.{alike-last}
+use Rattle.canonical.proofs.SearchLaws.{improves-refl, improves-trans}
+use Rattle.canonical.proofs.FollowSteps.{followed-next}
 
 pub placed-all : (m n : ℕ) (g : List ℕ) (k : ℕ) (placed : Orders) (breaks : List ℕ) (best : Orders) → k ≡ m → Searching m n g k placed breaks best → Searched m n g k placed best best
 placed-all m n g k placed breaks best e s = record {
@@ -81,108 +70,36 @@ pub followed-bound : (m n : ℕ) (g : List ℕ) (k : ℕ) (placed best : Orders)
 followed-bound m n g k placed best b h = record { improves = improves-refl m n g k (b .best) (h .improves .orders); covers = h .before }
 
 module _ (m n : ℕ) (g : List ℕ) (k t : ℕ) (placed : Orders) (breaks : List ℕ) (best out : Orders) (s : Searching m n g k placed breaks best)
-    (f′ : Followed m n g k t placed best out) where
+    (h : Followed m n g k t placed best out) where
   pub followed-all : k < m → m ≤ t → Searched m n g k placed best out
   followed-all km mt = record {
-    improves = f′ .improves;
-    covers = covers-next m n g k (rowNumbers (placed .rows)) (s .rows-fit) km (s .orders .rows .whole) (leadingRows m n g out) (λ r a b. f′ .covers r a (omega arith));
+    improves = h .improves;
+    covers = covers-next m n g k (rowNumbers (placed .rows)) (s .rows-fit) km (s .orders .rows .whole) (leadingRows m n g out) (λ r a b. h .covers r a (omega arith));
   }
-
-  -- with a better best that covers the branch of the row at position t
-  followed-next : (new : Orders) → Improves m n g k out new → Covers m n g (suc k) (swapped (rowNumbers (placed .rows)) k t) (leadingRows m n g new) → Followed m n g k (t + 1) placed best new
-  followed-next new i c = record { improves = improves-trans m n g k best out new (f′ .improves) i; covers = λ r a b. go r a b (ℕ-discrete r t) }
-    where
-      go : (r : ℕ) → k ≤ r → r < t + 1 → Dec (r ≡ t) → Covers m n g (suc k) (swapped (rowNumbers (placed .rows)) k r) (leadingRows m n g new)
-      go r a b (yes e) = rw e c
-      go r a b (no ne) =
-          covers-lower m n g (suc k) (swapped (rowNumbers (placed .rows)) k r) (leadingRows m n g out) (leadingRows m n g new) (i .lower) (f′ .covers r a (omega arith))
 
   -- the best to begin with covers the branch already
   pub followed-above : Covers m n g (suc k) (swapped (rowNumbers (placed .rows)) k t) (leadingRows m n g best) → Followed m n g k (t + 1) placed best out
   followed-above c =
-      followed-next out (improves-refl m n g k out (f′ .improves .orders))
-      (covers-lower m n g (suc k) (swapped (rowNumbers (placed .rows)) k t) (leadingRows m n g best) (leadingRows m n g out) (f′ .improves .lower) c)
+      followed-next m n g k t placed best out out h (improves-refl m n g k out (h .improves .orders))
+      (covers-lower m n g (suc k) (swapped (rowNumbers (placed .rows)) k t) (leadingRows m n g best) (leadingRows m n g out) (h .improves .lower) c)
 
   pub followed-repeated : (r : ℕ) → k ≤ r → r < t → t < m → row n g (getD (rowNumbers (placed .rows)) r 0) ≡ row n g (getD (rowNumbers (placed .rows)) t 0) →
       Followed m n g k (t + 1) placed best out
   followed-repeated r kr rt tm e =
-      followed-next out (improves-refl m n g k out (f′ .improves .orders))
+      followed-next m n g k t placed best out out h (improves-refl m n g k out (h .improves .orders))
       (covers-equal m n g k (rowNumbers (placed .rows)) (s .rows-fit) (omega arith) (s .orders .rows .whole) r t (leadingRows m n g out) kr (omega arith) (omega arith) tm
-      (row-cells n g (getD (rowNumbers (placed .rows)) r 0) (getD (rowNumbers (placed .rows)) t 0) e) (f′ .covers r kr rt))
+      (row-cells n g (getD (rowNumbers (placed .rows)) r 0) (getD (rowNumbers (placed .rows)) t 0) e) (h .covers r kr rt))
 
-  -- the candidate at position t is `next`, and the best is now `new`
-  module _ (next new : Orders) (c : Candidate m n g k t placed breaks next) (i : Improves m n g k out new) (km : k < m) where
-    same-leading : leadingRows k n g new ≡ leadingRows k n g next
-    same-leading = i .leading ∙ f′ .improves .leading ∙ s .leading ∙ sym (c .leading)
+  -- the search goes on from out: it is followed, and it stands so with out as the best
+  pub followed-self : Followed m n g k t placed out out
+  followed-self = record { improves = improves-refl m n g k out (h .improves .orders); covers = h .covers }
 
-    pub followed-cut : leadingRows (suc k) n g new ≼ leadingRows (suc k) n g next → (rowAt n g k next ≡ rowAt n g k new → ⊥) → Followed m n g k (t + 1) placed best new
-    followed-cut b ne =
-        followed-next new i
-        (rw (c .rows) at
-        (covers-cut m n g (suc k) (rowNumbers (next .rows)) (columnNumbers (next .columns)) (rowNumbers (new .rows)) (columnNumbers (new .columns)) km
-        (c .orders .columns .whole) (c .ascending) b λ e.
-        ne (sym (leading-row n g (rowNumbers (new .rows)) (columnNumbers (new .columns)) (rowNumbers (next .rows)) (columnNumbers (next .columns)) k e))))
-
-    -- the search of its branch found `f`
-    module _ (jumps : Bool) (f : Found) (o : Outcome m n g (k + 1) next new jumps f) (kt : k ≤ t) (tm : t < m) where
-      deeper : Outcome m n g (suc k) next new jumps f
-      deeper = rw add-one at o
-
-      pub deeper-improves : Improves m n g k out (f .best)
-      deeper-improves = improves-trans m n g k out new (f .best) i (improves-fewer m n g k new (f .best) (deeper .improves))
-
-      -- the search goes back to before position k
-      pub outcome-jump : f .back < k → Outcome m n g k placed best jumps f
-      outcome-jump b = record {
-        improves = improves-trans m n g k best out (f .best) (f′ .improves) deeper-improves;
-        covers = λ h. absurd (omega arith);
-        alike = λ h. alike-fewer m n g k (rowNumbers (next .rows)) (rowNumbers (placed .rows)) (f .best) (f .back) begins (deeper .alike (omega arith));
-        stays = λ h. let z = deeper .stays h in omega arith;
-      }
-        where
-          begins : (i : ℕ) → i < k → getD (rowNumbers (next .rows)) i 0 ≡ getD (rowNumbers (placed .rows)) i 0
-          begins j jk = rw (c .rows) (placed-stay m n g k (rowNumbers (placed .rows)) (s .rows-fit) km (s .orders .rows .whole) t kt j jk)
-
-      -- the branch was searched, or it is a copy of one tried before
-      pub followed-settled : k ≤ f .back → (b : Bool) → Settled (rowNumbers (placed .rows)) k t f b → b ≡ true → Followed m n g k (t + 1) placed best (f .best)
-      followed-settled kb b e y = followed-next (f .best) deeper-improves (go (decLt k (f .back)) (e .searched-or-tried y))
-        where
-          go : Dec (k < f .back) → (k < f .back) ⊎ ((r : ℕ) × (k ≤ r) × (r < t) × (getD (rowNumbers (placed .rows)) r 0 ≡ getD (rowNumbers (f .best .rows)) k 0)) →
-              Covers m n g (suc k) (swapped (rowNumbers (placed .rows)) k t) (leadingRows m n g (f .best))
-          go (yes h) d = rw (c .rows) at (deeper .covers h)
-          go (no h) (inl d) = absurd (h d)
-          go (no h) (inr d) =
-              let z : f .back ≡ k = omega arith in
-              alike-covered m n g k (d .0) t (rowNumbers (placed .rows)) (leadingRows m n g (f .best)) (f .best) (s .rows-fit) km (s .orders .rows .whole) (deeper .improves .orders) (d .1)
-              (omega (arith, d .2)) kt tm (rw (z, c .rows) at (deeper .alike (omega arith))) (d .3)
-              (covers-lower m n g (suc k) (swapped (rowNumbers (placed .rows)) k (d .0)) (leadingRows m n g out) (leadingRows m n g (f .best)) (deeper-improves .lower) (f′ .covers (d .0) (d .1) (d .2)))
-
-      -- the branch was searched again, without jumps
-      pub followed-again : (again : Found) → Outcome m n g (k + 1) next (f .best) false again → Followed m n g k (t + 1) placed best (again .best)
-      followed-again again a =
-          let a′ = rw add-one at a in
-          followed-next (again .best) (improves-trans m n g k out (f .best) (again .best) deeper-improves (improves-fewer m n g k (f .best) (again .best) (a′ .improves)))
-          (rw (c .rows) at (a′ .covers (a′ .stays refl)))
-
-    pub further : (breaks′ : List ℕ) → k ≤ t → Split n g (getD (rowNumbers (next .rows)) k 0) breaks (columnNumbers (next .columns)) breaks′ → rowAt n g k next ≡ rowAt n g k new →
-        Searching m n g (k + 1) next breaks′ new
-    further breaks′ kt split e = rw add-one (record {
-      placed-fits = km;
-      rows-fit = s .rows-fit;
-      columns-fit = s .columns-fit;
-      orders = c .orders;
-      blocked = blocked-next k n g (rowNumbers (placed .rows)) (rowNumbers (next .rows)) (columnNumbers (placed .columns)) (columnNumbers (next .columns)) breaks (s .blocked) begins
-          (c .columns .within) (c .columns .ascends) breaks′ split;
-      best-orders = i .orders;
-      leading = leading-more n g (rowNumbers (new .rows)) (columnNumbers (new .columns)) (rowNumbers (next .rows)) (columnNumbers (next .columns)) k same-leading (sym e);
-    })
-      where
-        begins : (i : ℕ) → i < k → getD (rowNumbers (next .rows)) i 0 ≡ getD (rowNumbers (placed .rows)) i 0
-        begins i ik = rw (c .rows) (placed-stay m n g k (rowNumbers (placed .rows)) (s .rows-fit) km (s .orders .rows .whole) t kt i ik)
+  pub followed-better : (new : Orders) → Followed m n g k (t + 1) placed out new → Followed m n g k (t + 1) placed best new
+  followed-better new f = record { improves = improves-trans m n g k best out new (h .improves) (f .improves); covers = f .covers }
 
 -- ---- what the search of a branch returns
 
-pub outcome-better : (m n : ℕ) (g : List ℕ) (k : ℕ) (placed best mid : Orders) (jumps : Bool) (f : Found) → Improves m n g k best mid → Outcome m n g k placed mid jumps f → Outcome m n g k placed best jumps f
+pub outcome-better : (m n : ℕ) (g : List ℕ) (k : ℕ) (placed best mid : Orders) (jumps : Bool) (f : Found) → Improves m n g k best mid → BranchOutcome m n g k placed mid jumps f → BranchOutcome m n g k placed best jumps f
 outcome-better m n g k placed best mid jumps f i o = record {
   improves = improves-trans m n g k best mid (f .best) i (o .improves);
   covers = o .covers;
@@ -190,19 +107,19 @@ outcome-better m n g k placed best mid jumps f i o = record {
   stays = o .stays;
 }
 
-pub outcome-searched : (m n : ℕ) (g : List ℕ) (k : ℕ) (placed best : Orders) (jumps : Bool) (f : Found) → k ≤ m → f .back ≡ m → Searched m n g k placed best (f .best) →
-    Outcome m n g k placed best jumps f
-outcome-searched m n g k placed best jumps f km e s = record {
+pub outcome-searched : (m n : ℕ) (g : List ℕ) (k : ℕ) (placed best : Orders) (jumps : Bool) (f : Found) → k ≤ f .back → Searched m n g k placed best (f .best) →
+    BranchOutcome m n g k placed best jumps f
+outcome-searched m n g k placed best jumps f kb s = record {
   improves = s .improves;
   covers = λ h. s .covers;
   alike = λ h. absurd (omega arith);
-  stays = λ h. omega arith;
+  stays = λ h. kb;
 }
 
 -- the last row placed gives the best's arrangement
 pub outcome-alike : (m n : ℕ) (g : List ℕ) (k : ℕ) (placed : Orders) (breaks : List ℕ) (best next : Orders) (jumps : Bool) (f : Found) → suc k ≡ m → jumps ≡ true →
     Searching m n g k placed breaks best → Candidate m n g k k placed breaks next → Searched m n g k placed best (f .best) → rowAt n g k next ≡ rowAt n g k (f .best) →
-    InCommon (rowNumbers (next .rows)) (rowNumbers (f .best .rows)) m (f .back) → Outcome m n g k placed best jumps f
+    InCommon (rowNumbers (next .rows)) (rowNumbers (f .best .rows)) m (f .back) → BranchOutcome m n g k placed best jumps f
 outcome-alike m n g k placed breaks best next jumps f e j s c h r common = record {
   improves = h .improves;
   covers = λ z. h .covers;
@@ -259,5 +176,5 @@ searched-least m n g placed best out e s = record {
       gives = leading-is n g (take m p) (take n q) p q m (λ i j im jn. ap₂ (λ (a b : ℕ). cell n g a b) (getD-take m p i 0 im) (getD-take n q j 0 jn));
     }
 
-pub outcome-least : (m n : ℕ) (g : List ℕ) (placed best : Orders) (jumps : Bool) (f : Found) → length g ≡ m * n → Outcome m n g 0 placed best jumps f → LeastOrders m n g (f .best)
+pub outcome-least : (m n : ℕ) (g : List ℕ) (placed best : Orders) (jumps : Bool) (f : Found) → length g ≡ m * n → BranchOutcome m n g 0 placed best jumps f → LeastOrders m n g (f .best)
 outcome-least m n g placed best jumps f e o = searched-least m n g placed best (f .best) e (record { improves = o .improves; covers = o .covers (omega arith) })

@@ -8,7 +8,7 @@
 --   equal-not-greater   ==  what was found equal was not found greater
 --   lesser-less, lesser-not  ==  the lesser of two orders, by the test
 --   lesser-improves, lesser-lower  ==  the lesser of a candidate and the best improves the best, and comes no later than the candidate
---   lesser-equal, lesser-unequal   ==  its next row is the candidate's, unless the candidate was found greater
+--   lesser-equal        ==  its next row is the candidate's, unless the candidate was found greater
 use mathlib.Core.Path.{_≡_, refl, sym, _∙_}
 use mathlib.Core.List.{List}
 use mathlib.Core.Bool.{Bool, true, false, true≢false}
@@ -135,15 +135,15 @@ lesser-not Greater t next best e h = refl
 module _ (m n : ℕ) (g : List ℕ) (k t : ℕ) (placed : Orders) (breaks : List ℕ) (best next out : Orders) (found : Comparison) (s : Searching m n g k placed breaks best)
     (c : Candidate m n g k t placed breaks next) (km : k < m) (f : found ≡ compared (rowAt n g k next) (rowAt n g k best)) (o : out ≡ lesserOrders found next best) where
   -- what found says, and which of the two out is
-  cases : ((rowAt n g k next ≺ rowAt n g k best) × (out ≡ next) × (isGreater found ≡ false))
-      ⊎ (((rowAt n g k next ≡ rowAt n g k best) × (out ≡ best) × (isGreater found ≡ false)) ⊎ ((rowAt n g k best ≺ rowAt n g k next) × (out ≡ best) × (isGreater found ≡ true)))
+  cases : ((rowAt n g k next ≺ rowAt n g k best) × (out ≡ next))
+      ⊎ (((rowAt n g k next ≡ rowAt n g k best) × (out ≡ best)) ⊎ ((rowAt n g k best ≺ rowAt n g k next) × (out ≡ best) × (isGreater found ≡ true)))
   cases = go found f o
     where
       go : (x : Comparison) → x ≡ compared (rowAt n g k next) (rowAt n g k best) → out ≡ lesserOrders x next best →
-          ((rowAt n g k next ≺ rowAt n g k best) × (out ≡ next) × (isGreater x ≡ false))
-          ⊎ (((rowAt n g k next ≡ rowAt n g k best) × (out ≡ best) × (isGreater x ≡ false)) ⊎ ((rowAt n g k best ≺ rowAt n g k next) × (out ≡ best) × (isGreater x ≡ true)))
-      go Less e h = inl (compared-less (rowAt n g k next) (rowAt n g k best) (sym e), h, refl)
-      go Equal e h = inr (inl (compared-equal (rowAt n g k next) (rowAt n g k best) (sym e), h, refl))
+          ((rowAt n g k next ≺ rowAt n g k best) × (out ≡ next))
+          ⊎ (((rowAt n g k next ≡ rowAt n g k best) × (out ≡ best)) ⊎ ((rowAt n g k best ≺ rowAt n g k next) × (out ≡ best) × (isGreater x ≡ true)))
+      go Less e h = inl (compared-less (rowAt n g k next) (rowAt n g k best) (sym e), h)
+      go Equal e h = inr (inl (compared-equal (rowAt n g k next) (rowAt n g k best) (sym e), h))
       go Greater e h = inr (inr (compared-greater (rowAt n g k next) (rowAt n g k best) (sym e), h, refl))
 
   pub lesser-improves : Improves m n g k best out
@@ -164,12 +164,6 @@ module _ (m n : ℕ) (g : List ℕ) (k t : ℕ) (placed : Orders) (breaks : List
     where
       below : rowAt n g k best ≼ rowAt n g k next → leadingRows (suc k) n g best ≼ leadingRows (suc k) n g next
       below = bound-below m n g k t placed breaks best next s c
-
-  -- where the candidate is above the best, their next rows differ
-  pub lesser-unequal : isGreater found ≡ true → rowAt n g k next ≡ rowAt n g k out → ⊥
-  lesser-unequal e =
-      ⊎-elim (λ x. absurd (true≢false (sym e ∙ x .2)))
-      (⊎-elim (λ x. absurd (true≢false (sym e ∙ x .2))) (λ x. rw (x .1) (λ z. x .0 (rw z (≼-refl (rowAt n g k best)))))) cases
 
 pub equal-not-greater : (c : Comparison) (t : Bool) → t ≡ isEqual c → t ≡ true → isGreater c ≡ false
 equal-not-greater Less t e h = refl

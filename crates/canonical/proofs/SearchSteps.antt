@@ -1,5 +1,6 @@
 -- The steps of the search over partial row orders.
 --
+--   placed-stay, placed-next  ==  the rows placed, and the row that is placed next
 --   covers-next     ==  what covers every row that can be placed next covers the branch
 --   covers-agree    ==  only the rows placed matter
 --   covers-lower    ==  what comes no later covers as well

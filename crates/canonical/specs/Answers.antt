@@ -1,4 +1,4 @@
--- What represent and same return where they produce nothing.
+-- What represent and same return where they produce nothing. Between functions: no answer of a call is defined here.
 --
 --   Refused number r  ==  r is the number with orders that move nothing
 use mathlib.Core.Path.{_≡_}

@@ -1,4 +1,4 @@
--- The search over partial row orders: what its functions say to each other.
+-- The search over partial row orders. Between functions: no answer of a call is defined here.
 -- The best arrangement found so far, and the branch at hand, are each kept as a row order and a column order.
 --
 --   Begins k placed p        ==  the row order p begins with the first k rows of placed
@@ -14,8 +14,11 @@
 --   Bounded m n g k placed best b      ==  b's best improves best, and covers the branches that b says it comes before
 --   Searched m n g k placed best out   ==  and comes no later than any arrangement of the branch
 --   Alike m n g k placed out back      ==  an arrangement of the branch equals out's, by a row order that begins with out's first `back` rows
---   Outcome m n g k placed best jumps f  ==  the search of the branch found f: where f goes back to a position before k, the branch is alike the best; else it is searched.
+--   BranchOutcome m n g k placed best jumps f  ==  the search of the branch found f: where f goes back to a position before k, the branch is alike the best; else it is searched.
 --                              Without jumps it is searched
+--   Followed m n g k t placed best out  ==  out improves the best, and covers each branch with a row before position t placed next
+--   FollowOutcome m n g k t placed best jumps f  ==  following the row at position t found f: where f goes back to a position before k, that is the outcome of the
+--                              whole branch; else the rows up to t are followed
 --   InCommon a b count r     ==  a and b begin with r entries in common, at most count
 --   Settled p k t f b        ==  where b says so, the branch of the row at position t of p was searched, or the best's row k stands before t
 --   LeastOrders m n g o      ==  o gives the least arrangement
@@ -23,7 +26,7 @@ use mathlib.Core.Path.{_≡_}
 use mathlib.Core.List.{List}
 use mathlib.Core.Bool.{Bool, true, false}
 use mathlib.Core.Logic.{_⊎_}
-use Prim.Native.Nat.{ℕ, suc, _≤_, _<_}
+use Prim.Native.Nat.{ℕ, suc, _+_, _≤_, _<_}
 use lib.ListN.{getD}
 use Rattle.permutations.specs.Permutations.{IsPermutation, swapped}
 use Rattle.permutations.specs.Rows.{rowNumbers, IsRowPermutation}
@@ -105,11 +108,19 @@ pub record Alike (m n : ℕ) (g : List ℕ) (k : ℕ) (placed : List ℕ) (out :
   pub gives : arrangement m n rows columns g ≡ leadingRows m n g out
   pub agrees : (i : ℕ) → i < back → getD rows i 0 ≡ getD (rowNumbers (out .rows)) i 0
 
-pub record Outcome (m n : ℕ) (g : List ℕ) (k : ℕ) (placed best : Orders) (jumps : Bool) (f : Found) : Type 0 where
+pub record BranchOutcome (m n : ℕ) (g : List ℕ) (k : ℕ) (placed best : Orders) (jumps : Bool) (f : Found) : Type 0 where
   pub improves : Improves m n g k best (f .best)
   pub covers : k ≤ f .back → Covers m n g k (rowNumbers (placed .rows)) (leadingRows m n g (f .best))
   pub alike : f .back < k → Alike m n g k (rowNumbers (placed .rows)) (f .best) (f .back)
   pub stays : jumps ≡ false → k ≤ f .back
+
+pub record Followed (m n : ℕ) (g : List ℕ) (k t : ℕ) (placed best out : Orders) : Type 0 where
+  pub improves : Improves m n g k best out
+  pub covers : (s : ℕ) → k ≤ s → s < t → Covers m n g (suc k) (swapped (rowNumbers (placed .rows)) k s) (leadingRows m n g out)
+
+pub record FollowOutcome (m n : ℕ) (g : List ℕ) (k t : ℕ) (placed best : Orders) (jumps : Bool) (f : Found) : Type 0 where
+  pub returns : f .back < k → BranchOutcome m n g k placed best jumps f
+  pub goes-on : k ≤ f .back → Followed m n g k (t + 1) placed best (f .best)
 
 pub record InCommon (a b : List ℕ) (count r : ℕ) : Type 0 where
   pub up-to : r ≤ count

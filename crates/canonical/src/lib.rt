@@ -1,6 +1,6 @@
 // The canonical form of a grid: its least arrangement. The calls represent and same.
 pub mod answers;
-pub mod blocks;
+mod blocks;
 pub mod represent;
 pub mod same;
-pub mod search;
+mod search;

@@ -10,7 +10,7 @@ ghost use Prim.Native.Nat.{_+_, _*_, _≤_, _<_};
 ghost use lib.ListN.{length};
 ghost use Rattle.permutations.specs.Rows.{rowNumbers};
 ghost use Rattle.grids.specs.Comparisons.{compared};
-ghost use Rattle.canonical.specs.Search.{rowAt, lesserOrders, Repeats, Searching, Candidate, Bounded, InCommon, Settled, Outcome, LeastOrders};
+ghost use Rattle.canonical.specs.Search.{rowAt, lesserOrders, Repeats, Searching, Candidate, Bounded, InCommon, Settled, BranchOutcome, Followed, FollowOutcome, LeastOrders};
 
 // A row order and a column order: the arrangement of a grid by them.
 pub struct Orders {
@@ -189,7 +189,7 @@ fn last(
     jumps: bool,
 ) -> Found
     requires { ⌜ Searching m n (now grid) k placed breaks best × (m ≤ k + 1) ⌝ }
-    ensures { λ r. ⌜ Outcome m n (now (grid .entry)) k placed best jumps r ⌝ }
+    ensures { λ r. ⌜ BranchOutcome m n (now (grid .entry)) k placed best jumps r ⌝ }
 {
     if k == m {
         return Found { best, back: m };
@@ -226,6 +226,41 @@ fn settled(rows: RowPermutation, k: usize, t: usize, found: Found) -> bool
     false
 }
 
+// Follows the candidate with the row at position t: the best of its branch, and of what was the best before. A candidate whose next
+// row is above the best's is cut. A branch that is not settled is searched again, without jumps.
+fn follow(
+    grid: &[u8],
+    m: usize,
+    n: usize,
+    k: usize,
+    t: usize,
+    placed: Orders,
+    next: Orders,
+    breaks: [u8; 16],
+    best: Orders,
+    jumps: bool,
+) -> Found
+    requires { ⌜ Searching m n (now grid) k placed breaks best × (k ≤ t) × (t < m) × Followed m n (now grid) k t placed best best × Candidate m n (now grid) k t placed breaks next ⌝ }
+    ensures { λ r. ⌜ FollowOutcome m n (now (grid .entry)) k t placed best jumps r ⌝ }
+{
+    let found = compare_at(grid, n, k, next, best);
+    if comparisons::is_greater(found) {
+        return Found { best, back: m };
+    }
+    let out = lesser(found, next, best);
+    let further = blocks::split(grid, n, next.rows, k, next.columns, breaks);
+    let deeper = place(grid, m, n, k + 1, next, further, out, jumps);
+    if deeper.back < k {
+        return deeper;
+    }
+    if settled(placed.rows, k, t, deeper) {
+        return deeper;
+    }
+    // named first, since the result is then copied once less
+    let again = place(grid, m, n, k + 1, next, further, deeper.best, false);
+    again
+}
+
 // The best of the branch in which the first k rows of `placed` are placed, and of what was the best before. Where an arrangement
 // equals the best one, the two row orders show a symmetry of the grid, and the search goes back to where they part.
 fn place(
@@ -239,38 +274,32 @@ fn place(
     jumps: bool,
 ) -> Found
     requires { ⌜ Searching m n (now grid) k placed breaks best ⌝ }
-    ensures { λ r. ⌜ Outcome m n (now (grid .entry)) k placed best jumps r ⌝ }
+    ensures { λ r. ⌜ BranchOutcome m n (now (grid .entry)) k placed best jumps r ⌝ }
 {
     if m <= k + 1 {
         return last(grid, m, n, k, placed, breaks, best, jumps);
     }
     let low = bounded(grid, m, n, k, placed, breaks, best);
     let above = low.above;
-    let mut out = low.best;
+    let lowest = low.best;
+    let mut found = Found {
+        best: lowest,
+        back: m,
+    };
     let mut t = low.from;
     while t < m {
         if above[t] == 0 {
             if !repeated(grid, n, placed.rows, k, t) {
-                let next = candidate(grid, m, n, k, t, placed, breaks, out);
-                let found = compare_at(grid, n, k, next, out);
-                out = lesser(found, next, out);
-                if !comparisons::is_greater(found) {
-                    let further = blocks::split(grid, n, next.rows, k, next.columns, breaks);
-                    let deeper = place(grid, m, n, k + 1, next, further, out, jumps);
-                    if deeper.back < k {
-                        return deeper;
-                    }
-                    out = deeper.best;
-                    if !settled(placed.rows, k, t, deeper) {
-                        let again = place(grid, m, n, k + 1, next, further, out, false);
-                        out = again.best;
-                    }
+                let next = candidate(grid, m, n, k, t, placed, breaks, found.best);
+                found = follow(grid, m, n, k, t, placed, next, breaks, found.best, jumps);
+                if found.back < k {
+                    return found;
                 }
             }
         }
         t += 1;
     }
-    Found { best: out, back: m }
+    found
 }
 
 // The orders of the least arrangement.

@@ -17,14 +17,14 @@ use native.Mathlib.Omega.{arith}
 use lib.ListN.{length, getD, take, drop, length-take, length-drop}
 use lib.Seq.{take-suc, take-all, getD-take, getD-drop, length-take-le}
 use Rattle.permutations.specs.Lists.{select}
-use Rattle.permutations.proofs.ListLaws.{select-yes, select-no, length-select}
+use Rattle.permutations.proofs.SelectLaws.{select-yes, select-no, length-select}
 use Rattle.bounds.specs.Bounds.{IsBounds, inBounds}
 use Rattle.layout.specs.Layout.{lineLength, decodeShape, decode}
 use Rattle.layout.specs.Lines.{lineStart, lineAt, EntryLine}
 use Rattle.layout.proofs.LineLaws.{laid-lines, start-zero, next-start, cells-inside}
 use Rattle.machine.specs.Valid.{Valid}
 use Rattle.machine.proofs.ValidLaws.{valid-count, valid-line, valid-sizes, entry-fits}
-use Rattle.counting.specs.Within.{LineOutcome, Ordered, Tables, oneMore}
+use Rattle.counting.specs.Within.{LineOutcome, OrderedBounds, BoundTables, oneMore}
 use Rattle.counting.proofs.LineLaws.{line-within}
 
 select-snoc : (t : List ℕ → Bool) (l : List (List ℕ)) (x : List ℕ) → length (select t (l ++ (x ∷ []))) ≡ oneMore (length (select t l)) (t x)
@@ -73,7 +73,7 @@ parts-fit size from found b r =
     let y = length-take-le (from + 3 * size - 1 - (from - 1)) (drop (from - 1) b) (omega (arith, r .inside, r .wider, r .after-head, length-drop (from - 1) b)) in
     (omega (arith, x, r .narrow), omega (arith, x, y, r .after-head))
 
-pub bounds-ordered : {n top : ℕ} {b low high : List ℕ} → Valid (length low) n b → IsBounds (length low) top low high → Ordered low high
+pub bounds-ordered : {n top : ℕ} {b low high : List ℕ} → Valid (length low) n b → IsBounds (length low) top low high → OrderedBounds low high
 bounds-ordered k i = record { few = valid-sizes k .cells-fit; as-many = sym (i .high-size); in-order = i .in-order }
 
 module _ {n : ℕ} {b low high : List ℕ} (k : Valid (length low) n b) where
@@ -96,7 +96,7 @@ module _ {n : ℕ} {b low high : List ℕ} (k : Valid (length low) n b) where
       }
 
   pub counting-next : {found from e : ℕ} {lows spans : List ℕ} {r : Bool} (more width : ℕ) → width ≡ lineLength (length low) → Counting b n low high found from e → e < n →
-      IsBounds (length low) (decodeShape b .top) low high → Tables (length low) low high lows spans →
+      IsBounds (length low) (decodeShape b .top) low high → BoundTables (length low) low high lows spans →
       LineOutcome r (length (take (from + 3 * length low - from) (drop from b))) (take (from + 3 * length low - from) (drop from b)) (take (from + 3 * length low - 1 - (from - 1)) (drop (from - 1) b)) lows spans →
       more ≡ oneMore found r → Counting b n low high more (from + width) (e + 1)
   unfolding lineAt

@@ -17,14 +17,14 @@ use Rattle.grids.specs.Order.{rank}
 use Rattle.grids.proofs.QuestionLaws.{capped-at}
 use Rattle.bounds.specs.Bounds.{IsBounds, InBounds, inBounds}
 use Rattle.bounds.proofs.BoundsLaws.{inBounds-decides}
-use Rattle.layout.specs.Layout.{entryLine}
-use Rattle.layout.specs.Lines.{cellsOf, EntryLine}
+use Rattle.layout.specs.Layout.{entryLine, cellsOf}
+use Rattle.layout.specs.Lines.{EntryLine}
 use Rattle.layout.proofs.LayoutLaws.{field-at}
 use Rattle.layout.proofs.LineLaws.{length-cells}
 use Rattle.lines.specs.Bytes.{stated}
 use Rattle.lines.specs.Tables.{Thirds}
 use Rattle.lines.proofs.FieldLaws.{stated-at}
-use Rattle.counting.specs.Within.{passes, allPass, LineOutcome, Tables}
+use Rattle.counting.specs.Within.{passes, allPass, LineOutcome, BoundTables}
 use Rattle.counting.proofs.PassLaws.{all-at, at-all, passes-any, passes-within, within-passes}
 
 stated-cell : {size top : ℕ} {l : List ℕ} → EntryLine size top l → top ≤ 15 → (j : ℕ) → j < size → stated (getD l (3 * j + 2) 0) (getD l (3 * j + 1) 0) ≡ getD (cellsOf size l) j 0
@@ -37,7 +37,7 @@ stated-cell {size} {top} {l} c small j h =
 -- l is the entry's line, line its cells' bytes and before those a byte earlier
 module _ {size top : ℕ} {l lows spans low high : List ℕ} (line before : List ℕ) (c : EntryLine size top l) (small : top ≤ 15)
     (same : (k : ℕ) → k < 3 * size → getD line k 0 ≡ getD l k 0) (earlier : (k : ℕ) → k + 1 < 3 * size → getD before (k + 1) 0 ≡ getD l k 0)
-    (t : Tables size low high lows spans) (i : IsBounds size top low high) where
+    (t : BoundTables size low high lows spans) (i : IsBounds size top low high) where
   states : (j : ℕ) → j < size → stated (getD line (3 * j + 2) 0) (getD before (3 * j + 2) 0) ≡ getD (cellsOf size l) j 0
   states j h =
       let e : 3 * j + 1 + 1 ≡ 3 * j + 2 = omega arith in
@@ -46,7 +46,7 @@ module _ {size top : ℕ} {l lows spans low high : List ℕ} (line before : List
   pass-in : (r : Bool) → LineOutcome r (3 * size) line before lows spans → allPass (3 * size) line before lows spans ≡ true → InBounds size top low high (cellsOf size l)
   unfolding Thirds
   pass-in r o e = record {
-    cells = length-cells size l;
+    sized = length-cells size l;
     capped = λ j h. capped-at top (cellsOf size l) (c .at-most) j (omega (arith, length-cells size l));
     above = λ j h. both j h .0;
     below = λ j h. both j h .1;

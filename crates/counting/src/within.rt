@@ -14,7 +14,7 @@ ghost use Rattle.bounds.specs.Bounds.{IsBounds, inBounds};
 ghost use Rattle.layout.specs.Layout.{decodeShape, decode};
 ghost use Rattle.machine.specs.Valid.{Valid};
 ghost use Rattle.lines.specs.Bytes.{stated};
-ghost use Rattle.counting.specs.Within.{passes, LineOutcome, Ordered, Tables, oneMore};
+ghost use Rattle.counting.specs.Within.{passes, LineOutcome, OrderedBounds, BoundTables, oneMore};
 
 // Whether all passed so far, and a byte does.
 fn stays_within(within: bool, byte: u8, before: u8, low: u8, span: u8) -> bool
@@ -43,8 +43,8 @@ fn line_within(line: &[u8], before: &[u8], lows: &[u8; 384], spans: &[u8; 384]) 
 
 // Writes the tables of bounds.
 fn fill_tables(low: &[u8], high: &[u8], lows: &mut [u8; 384], spans: &mut [u8; 384])
-    requires { ⌜ (length (now lows) ≡ 384) × (length (now spans) ≡ 384) × Ordered (now low) (now high) ⌝ }
-    ensures { λ _. ⌜ Tables (length (now (low .entry))) (now (low .entry)) (now (high .entry)) (now (lows .exit)) (now (spans .exit)) ⌝ }
+    requires { ⌜ (length (now lows) ≡ 384) × (length (now spans) ≡ 384) × OrderedBounds (now low) (now high) ⌝ }
+    ensures { λ _. ⌜ BoundTables (length (now (low .entry))) (now (low .entry)) (now (high .entry)) (now (lows .exit)) (now (spans .exit)) ⌝ }
 {
     let mut k = 0;
     while k < low.len() {

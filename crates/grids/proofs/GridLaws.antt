@@ -23,7 +23,8 @@ use Rattle.permutations.specs.Permutations.{IsPermutation, identity, composed, 
 use Rattle.permutations.proofs.ListLaws.{length-tabulate, at-tabulate, tabulate-is, tabulate-ext, some-at, at-some}
 use Rattle.permutations.proofs.PermutationLaws.{at-identity, at-composed, identity-permutation, composed-permutation, inverse-permutation, composed-inverse}
 use Rattle.permutations.proofs.PermutationTest.{permutation-listed, listed-permutation}
-use Rattle.grids.specs.Grids.{cell, gridOf, IsGrid, row, column, permutedColumn, arrangement, OneClass, oneClass}
+use Rattle.grids.specs.Sorted.{permutedColumn}
+use Rattle.grids.specs.Grids.{cell, gridOf, IsGrid, row, column, arrangement, OneClass, oneClass}
 use Rattle.grids.proofs.OrderLaws.{equal-eq, eq-equal}
 
 -- ---- a grid by its cells
@@ -157,7 +158,7 @@ class-cell m n a b x k h =
 
 pub class-grid : (m n top : ℕ) (a b : List ℕ) → IsGrid m n top a → OneClass m n a b → IsGrid m n top b
 class-grid m n top a b g x = record {
-  cells = class-length m n a b x;
+  sized = class-length m n a b x;
   capped = λ k h. let r = class-cell m n a b x k h in rw (r .2) (g .capped (r .0) (r .1));
 }
 

@@ -6,7 +6,7 @@
 --   least-in-class, least-no-later  ==  it is in the grid's class, and comes no later than any grid of the class
 --   class-least, least-class, one-class-one-least  ==  two grids are in one class exactly when their least grids are equal
 --   least-least                ==  the least of a least is itself
---   length-least, least-grid   ==  the least of a grid is a grid
+--   least-grid                 ==  the least of a grid is a grid
 use mathlib.Core.Path.{_≡_, refl, sym, _∙_}
 use mathlib.Core.List.{List, [], _∷_, map, List·Memᴰ, List·Memᴰ·head, List·Memᴰ·tail, List·Memᴰ·not-nil, List·Memᴰ·cases-cons, Memᴰ·map, Memᴰ·of-map, Memᴰ·cast}
 use mathlib.Core.Bool.{true, false}
@@ -117,8 +117,5 @@ one-class-one-least m n a b e f = (class-least m n a b e, least-class m n a b e 
 pub least-least : (m n : ℕ) (g : List ℕ) → length g ≡ m * n → least m n (least m n g) ≡ least m n g
 least-least m n g e = sym (class-least m n g (least m n g) e (least-in-class m n g e))
 
-pub length-least : (m n : ℕ) (g : List ℕ) → length g ≡ m * n → length (least m n g) ≡ m * n
-length-least m n g e = class-length m n g (least m n g) (least-in-class m n g e)
-
 pub least-grid : (m n top : ℕ) (g : List ℕ) → IsGrid m n top g → IsGrid m n top (least m n g)
-least-grid m n top g i = class-grid m n top g (least m n g) i (least-in-class m n g (i .cells))
+least-grid m n top g i = class-grid m n top g (least m n g) i (least-in-class m n g (i .sized))

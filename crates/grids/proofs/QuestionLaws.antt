@@ -35,7 +35,8 @@ use Rattle.permutations.specs.Lists.{every, All}
 use Rattle.permutations.proofs.BoolLaws.{and-yes, yes-and}
 use Rattle.permutations.proofs.ListLaws.{every-at, at-every, mem-at, of-mem}
 use Rattle.grids.specs.Grids.{IsGrid, capped, isGrid}
-use Rattle.grids.specs.Questions.{Question, firstNo, inRange, Limits, question1, question2, question3, limitsNo, question6, question7, shapeNo}
+use Rattle.grids.specs.Asked.{limitsNo, shapeNo}
+use Rattle.grids.specs.Questions.{Question, firstNo, inRange, Limits, question1, question2, question3, question6, question7}
 
 abbrev pub AllYes : List Question → Type 0
 AllYes l = All (λ q. q .answer ≡ true) l
@@ -118,16 +119,16 @@ at-capped top g h = at-every (λ x. leb x top) g λ x m. let r = of-mem g 0 x m 
 
 -- a grid by its length and its test of cells
 pub grid-of : (m n top : ℕ) (g : List ℕ) → length g ≡ m * n → capped top g ≡ true → IsGrid m n top g
-grid-of m n top g z t = record { cells = z; capped = λ k h. capped-at top g t k (omega arith) }
+grid-of m n top g z t = record { sized = z; capped = λ k h. capped-at top g t k (omega arith) }
 
 pub grid-capped : (m n top : ℕ) (g : List ℕ) → IsGrid m n top g → capped top g ≡ true
-grid-capped m n top g i = let z = i .cells in at-capped top g (λ k h. i .capped k (omega arith))
+grid-capped m n top g i = let z = i .sized in at-capped top g (λ k h. i .capped k (omega arith))
 
 pub grid-decides : (m n top : ℕ) (g : List ℕ) → (isGrid m n top g ≡ true) ↔ IsGrid m n top g
 unfolding isGrid
 grid-decides m n top g = (
   λ e. let p = and-yes (eqb (length g) (m * n)) (capped top g) e in grid-of m n top g (eqb-true (length g) (m * n) (p .0)) (p .1),
-  λ i. yes-and (eqb (length g) (m * n)) (capped top g) (eq-eqb (length g) (m * n) (i .cells)) (grid-capped m n top g i),
+  λ i. yes-and (eqb (length g) (m * n)) (capped top g) (eq-eqb (length g) (m * n) (i .sized)) (grid-capped m n top g i),
 )
 
 -- ---- what the questions ask

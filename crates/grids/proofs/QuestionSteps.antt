@@ -18,7 +18,8 @@ use lib.Dec.{eqb, leb}
 use borrow.Author.Tests.{eqb-true, eq-eqb, leb-true, le-leb}
 use Rattle.permutations.proofs.BoolLaws.{and-yes, yes-and, bool-ext, refuted}
 use Rattle.grids.specs.Grids.{capped}
-use Rattle.grids.specs.Questions.{Question, firstNo, inRange, Limits, question1, question2, question3, limitsNo, shapeNo}
+use Rattle.grids.specs.Asked.{limitsNo, shapeNo}
+use Rattle.grids.specs.Questions.{Question, firstNo, inRange, Limits, question1, question2, question3}
 use Rattle.grids.proofs.QuestionLaws.{firstNo-pass, firstNo-stop, range-yes, yes-range, limits-decide, limits-refuse, limits-pass, capped-at, at-capped}
 
 pub range-no : (a b x : ℕ) → ((a ≤ x) × (x ≤ b) → ⊥) → inRange a b x ≡ false

@@ -1,4 +1,4 @@
--- What a comparison of two lists of cells finds.
+-- What a comparison of two lists of cells finds. Between functions: no answer of a call is defined here.
 --
 --   isLess c, isEqual c, isGreater c  ==  what the comparison c found
 --   compared a b  ==  Less where a comes before b, Greater where b comes before a, Equal where they are equal

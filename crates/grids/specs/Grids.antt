@@ -8,8 +8,6 @@
 --   row n g i              ==  row i from the left
 --   column m n g j         ==  column j from the top
 --   permutedRow n g i q    ==  row i, its cells in the order q
---   permutedColumn m n g p j  ==  column j, its cells in the order p
---   partOfColumn n g p from count j  ==  of column j, its cells in the rows of the order p from a position on
 --   arrangement m n p q g  ==  the arrangement of g by the row order p and the column order q: g (p i, q j) in row i, column j
 --   OneClass m n a b       ==  some row order and some column order carry a to b: the two grids are in one class
 --   oneClass m n a b       ==  the test of it, over all orders
@@ -30,7 +28,7 @@ unfoldable pub gridOf : ℕ → ℕ → (ℕ → ℕ → ℕ) → List ℕ
 gridOf m n f = tabulate 0 (m * n) (λ k. f (k / n) (k % n))
 
 pub record IsGrid (m n top : ℕ) (g : List ℕ) : Type 0 where
-  pub cells : length g ≡ m * n
+  pub sized : length g ≡ m * n
   pub capped : (k : ℕ) → k < m * n → getD g k 0 ≤ top
 
 unfoldable pub capped : ℕ → List ℕ → Bool
@@ -47,12 +45,6 @@ column m n g j = tabulate 0 m (λ i. cell n g i j)
 
 unfoldable pub permutedRow : ℕ → List ℕ → ℕ → List ℕ → List ℕ
 permutedRow n g i q = tabulate 0 n (λ j. cell n g i (getD q j 0))
-
-unfoldable pub permutedColumn : ℕ → ℕ → List ℕ → List ℕ → ℕ → List ℕ
-permutedColumn m n g p j = tabulate 0 m (λ i. cell n g (getD p i 0) j)
-
-unfoldable pub partOfColumn : ℕ → List ℕ → List ℕ → ℕ → ℕ → ℕ → List ℕ
-partOfColumn n g p from count j = tabulate from count (λ i. cell n g (getD p i 0) j)
 
 unfoldable pub arrangement : ℕ → ℕ → List ℕ → List ℕ → List ℕ → List ℕ
 arrangement m n p q g = gridOf m n (λ i j. cell n g (getD p i 0) (getD q j 0))

@@ -4,8 +4,6 @@
 --   a ≼ b      ==  a comes no later than b: the first unequal value decides, by rank; a list comes before those that it begins
 --   a ≺ b      ==  a comes before b
 --   FirstUnequal a b  ==  at the first index where a and b differ, a's value ranks lower
---   IsNext top x y      ==  of the values 0 to top, y is the one that ranks next above x
---   IsPrevious top x y  ==  of the values 0 to top, y is the one that ranks next below x
 --   leq a b    ==  the test of a ≼ b
 --   less a b   ==  the test of a ≺ b
 --   equal a b  ==  the test of a ≡ b
@@ -13,7 +11,7 @@ use mathlib.Core.Path.{_≡_}
 use mathlib.Core.List.{List, [], _∷_}
 use mathlib.Core.Bool.{Bool, true, false, not, _&&_, _||_}
 use mathlib.Core.Logic.{_⊎_}
-use Prim.Native.Nat.{ℕ, _≤_, _<_}
+use Prim.Native.Nat.{ℕ, _<_}
 use lib.ListN.{length, getD}
 use lib.Dec.{ltb, eqb}
 
@@ -35,16 +33,6 @@ pub record FirstUnequal (a b : List ℕ) : Type 0 where
   pub inside : index < length a
   pub before : (i : ℕ) → i < index → getD a i 0 ≡ getD b i 0
   pub lower : rank (getD a index 0) < rank (getD b index 0)
-
-pub record IsNext (top x y : ℕ) : Type 0 where
-  pub within : y ≤ top
-  pub above : rank x < rank y
-  pub first : (v : ℕ) → v ≤ top → rank x < rank v → rank y ≤ rank v
-
-pub record IsPrevious (top x y : ℕ) : Type 0 where
-  pub within : y ≤ top
-  pub below : rank y < rank x
-  pub last : (v : ℕ) → v ≤ top → rank v < rank x → rank v ≤ rank y
 
 unfoldable pub leq : List ℕ → List ℕ → Bool
 leq [] b = true

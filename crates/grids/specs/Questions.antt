@@ -7,13 +7,11 @@
 --   question1 m         ==  are the rows 1 to 8?
 --   question2 n         ==  are the columns 1 to 16?
 --   question3 top       ==  is top 0 to 15?
---   limitsNo m n top    ==  the first no of questions 1, 2 and 3
 --   question6 size l    ==  has every slice of l its exact length?
---   shapeNo m n top x y ==  the first no of questions 1, 2, 3 and 6, of two slices of lengths x and y
 --   question7 top l     ==  is every cell or bound of the slices of l at most top?
 use mathlib.Core.List.{List, [], _∷_}
 use mathlib.Core.Bool.{Bool, true, false, _&&_}
-use Prim.Native.Nat.{ℕ, _*_, _≤_}
+use Prim.Native.Nat.{ℕ, _≤_}
 use lib.ListN.{length}
 use lib.Dec.{leb, eqb}
 use Rattle.permutations.specs.Lists.{every}
@@ -44,15 +42,8 @@ question2 n = record { number = 2; answer = inRange 1 16 n }
 unfoldable pub question3 : ℕ → Question
 question3 top = record { number = 3; answer = inRange 0 15 top }
 
-unfoldable pub limitsNo : ℕ → ℕ → ℕ → ℕ
-limitsNo m n top = firstNo (question1 m ∷ question2 n ∷ question3 top ∷ [])
-
 unfoldable pub question6 : ℕ → List (List ℕ) → Question
 question6 size l = record { number = 6; answer = every (λ s. eqb (length s) size) l }
-
-unfoldable pub shapeNo : ℕ → ℕ → ℕ → ℕ → ℕ → ℕ
-shapeNo m n top x y =
-    firstNo (question1 m ∷ question2 n ∷ question3 top ∷ record { number = 6; answer = eqb x (m * n) && eqb y (m * n) } ∷ [])
 
 unfoldable pub question7 : ℕ → List (List ℕ) → Question
 question7 top l = record { number = 7; answer = every (capped top) l }

@@ -3,7 +3,8 @@ use permutations::columns::ColumnNumber;
 use permutations::rows::RowNumber;
 ghost use mathlib.Core.Path.{_≡_};
 ghost use Prim.Native.Nat.{ℕ, _≤_, _<_};
-ghost use Rattle.grids.specs.Order.{rank, IsNext, IsPrevious};
+ghost use Rattle.grids.specs.Neighbours.{IsNext, IsPrevious};
+ghost use Rattle.grids.specs.Order.{rank};
 ghost use Rattle.grids.specs.Grids.{cell};
 
 // Where a value stands among the values. Every comparison of two cells goes by it.

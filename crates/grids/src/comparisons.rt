@@ -8,7 +8,8 @@ ghost use mathlib.Core.Path.{_≡_};
 ghost use Prim.Native.Nat.{_-_, _≤_};
 ghost use Rattle.permutations.specs.Rows.{rowNumbers};
 ghost use Rattle.permutations.specs.Columns.{columnNumbers};
-ghost use Rattle.grids.specs.Grids.{cell, permutedRow, partOfColumn};
+ghost use Rattle.grids.specs.Sorted.{partOfColumn};
+ghost use Rattle.grids.specs.Grids.{cell, permutedRow};
 ghost use Rattle.grids.specs.Comparisons.{isLess, isEqual, isGreater, compared, comparedCells};
 
 // What a comparison finds of its first argument.

@@ -3,7 +3,7 @@ ghost use mathlib.Core.Path.{_≡_};
 ghost use mathlib.Core.Logic.{_⊎_};
 ghost use Prim.Native.Nat.{_≤_};
 ghost use Rattle.grids.specs.Grids.{capped};
-ghost use Rattle.grids.specs.Questions.{limitsNo, shapeNo};
+ghost use Rattle.grids.specs.Asked.{limitsNo, shapeNo};
 
 // Questions 1, 2 and 3: the number of the first that gets a no, or 0.
 pub fn limits_no(m: usize, n: usize, top: usize) -> u32

@@ -2,7 +2,8 @@
 --
 --   length-field                ==  a field of w bytes has w bytes
 --   value-append                ==  the digits of one list after those of another
---   value-field, field-inj      ==  what is printed is read back
+--   value-field                 ==  what is printed is read back
+--   field-small                 ==  what a field of w bytes reads is below 10 ^ w
 --   Justified x s               ==  s is spaces and then digits, some unless x is 0, of which the first is no 0
 --   justified-field, zero-field ==  a field is spaces and then digits of which the first is no 0; for zero, spaces and one 0
 use mathlib.Core.Path.{_≡_, refl, sym, ap, _∙_}
@@ -48,9 +49,6 @@ pub value-field : (w x : ℕ) → x < 10 ^ suc w → value (field (suc w) x) ≡
 unfolding field
 value-field w x h =
     snoc-value (lead w (x / 10)) (48 + x % 10) (x / 10) (value-lead w (x / 10) (shorter w x h)) ∙ digit-digit (x / 10) (x % 10) ∙ div-add-mod' x 10
-
-pub field-inj : (w x y : ℕ) → x < 10 ^ suc w → y < 10 ^ suc w → field (suc w) x ≡ field (suc w) y → x ≡ y
-field-inj w x y h k e = sym (value-field w x h) ∙ ap value e ∙ value-field w y k
 
 length-snoc : (s : List ℕ) (b w : ℕ) → length s ≡ w → length (s ++ (b ∷ [])) ≡ suc w
 length-snoc s b w e = simp length-append (omega arith)
@@ -142,3 +140,21 @@ justified-field w x p h =
 pub zero-field : (w : ℕ) → field (suc w) 0 ≡ replicate w 32 ++ (48 ∷ [])
 unfolding field
 zero-field w = ap (λ (l : List ℕ). l ++ (48 ∷ [])) (lead-zero w)
+
+-- ---- the value of a field
+
+snoc-small : (s : List ℕ) (w d : ℕ) → value s < 10 ^ w → d < 10 → value (s ++ ((48 + d) ∷ [])) < 10 ^ suc w
+unfolding value valueFrom digit
+snoc-small s w d h k =
+    let e : 48 + d - 48 ≡ d = omega arith in
+    rw (value-append 0 s ((48 + d) ∷ []), ne-eqb (48 + d) 32 (omega arith), digit, e) (omega arith)
+
+lead-small : (w x : ℕ) → value (lead w x) < 10 ^ w
+unfolding lead value valueFrom digit
+lead-small zero x = omega arith
+lead-small (suc w) zero = rw (value-append 0 (lead w zero) (32 ∷ [])) (omega (arith, lead-small w zero))
+lead-small (suc w) (suc x) = snoc-small (lead w (suc x / 10)) w (suc x % 10) (lead-small w (suc x / 10)) (mod-lt (suc x) (lit< {m = 0} {n = 10} tt))
+
+pub field-small : (w x : ℕ) → value (field (suc w) x) < 10 ^ suc w
+unfolding field
+field-small w x = snoc-small (lead w (x / 10)) w (x % 10) (lead-small w (x / 10)) (mod-lt x (lit< {m = 0} {n = 10} tt))

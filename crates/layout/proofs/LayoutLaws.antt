@@ -20,7 +20,7 @@ use lib.Seq.{take-at, drop-at, drop-drop, drop-cons}
 use Rattle.permutations.specs.Lists.{tabulate}
 use Rattle.permutations.proofs.ListLaws.{tabulate-is, mem-at, at-map}
 use Rattle.layout.specs.Decimal.{field, value}
-use Rattle.layout.specs.Layout.{Shape, Register, cells, fields, headLength, entryWidth, lineLength, entryLine, blankLine, headLine, layout, layoutLength, numberAt, count, entryAt, decodeShape, decode}
+use Rattle.layout.specs.Layout.{Shape, Register, gridSize, fields, headLength, entryWidth, lineLength, entryLine, blankLine, headLine, layout, layoutLength, numberAt, count, entryAt, decodeShape, decode}
 use Rattle.layout.proofs.DecimalLaws.{value-field, length-field}
 
 -- ---- pieces of one length
@@ -108,7 +108,7 @@ pub record Printable (r : Register) : Type 0 where
   pub top-small : r .shape .top < 1000000
   pub capacity-small : r .shape .capacity < 1000000
   pub count-small : length (r .entries) < 1000000
-  pub entries-sized : (g : List ℕ) → List·Memᴰ g (r .entries) → length g ≡ cells (r .shape)
+  pub entries-sized : (g : List ℕ) → List·Memᴰ g (r .entries) → length g ≡ gridSize (r .shape)
   pub entries-small : (g : List ℕ) → List·Memᴰ g (r .entries) → (k : ℕ) → k < length g → getD g k 0 < 1000
 
 -- the number at place i of line 1
@@ -139,7 +139,7 @@ entry-read size es b blanks p sized small e h =
 
 module _ (r : Register) (p : Printable r) where
   body : List ℕ
-  body = flatten (map entryLine (r .entries)) ++ flatten (replicate (r .shape .capacity - length (r .entries)) (blankLine (cells (r .shape))))
+  body = flatten (map entryLine (r .entries)) ++ flatten (replicate (r .shape .capacity - length (r .entries)) (blankLine (gridSize (r .shape))))
 
   shape-read : decodeShape (layout r) ≡ r .shape
   unfolding decodeShape layout body
@@ -158,11 +158,11 @@ module _ (r : Register) (p : Printable r) where
   unfolding layout body
   past-head = drop-at (headLine (r .shape) (length (r .entries))) body headLength (length-head (r .shape) (length (r .entries)))
 
-  entries-read : tabulate 0 (count (layout r)) (entryAt (cells (decodeShape (layout r))) (layout r)) ≡ r .entries
+  entries-read : tabulate 0 (count (layout r)) (entryAt (gridSize (decodeShape (layout r))) (layout r)) ≡ r .entries
   unfolding body
   entries-read =
       rw (count-layout, shape-read)
-      (tabulate-is [] (r .entries) (length (r .entries)) _ refl (λ e h. sym (entry-read (cells (r .shape)) (r .entries) (layout r) _ past-head (p .entries-sized) (p .entries-small) e h)))
+      (tabulate-is [] (r .entries) (length (r .entries)) _ refl (λ e h. sym (entry-read (gridSize (r .shape)) (r .entries) (layout r) _ past-head (p .entries-sized) (p .entries-small) e h)))
 
   pub decode-layout : decode (layout r) ≡ r
   unfolding decode
@@ -180,15 +180,15 @@ length-blanks size k =
     ∙ ap (λ (x : ℕ). x * lineLength size) (length-replicate k (blankLine size))
 
 -- as many bytes as the shape says
-pub length-layout : (r : Register) → ((g : List ℕ) → List·Memᴰ g (r .entries) → length g ≡ cells (r .shape)) → length (r .entries) ≤ r .shape .capacity → length (layout r) ≡ layoutLength (r .shape)
+pub length-layout : (r : Register) → ((g : List ℕ) → List·Memᴰ g (r .entries) → length g ≡ gridSize (r .shape)) → length (r .entries) ≤ r .shape .capacity → length (layout r) ≡ layoutLength (r .shape)
 unfolding layout layoutLength
 length-layout r sized fits =
     length-append (headLine (r .shape) n) (flatten (map entryLine (r .entries)) ++ blanks)
     ∙ ap₂ _+_ (length-head (r .shape) n)
     (length-append (flatten (map entryLine (r .entries))) blanks
-    ∙ ap₂ _+_ (length-entries (cells (r .shape)) (r .entries) sized) (length-blanks (cells (r .shape)) (c - n))
-    ∙ sym (add-mul n (c - n) (lineLength (cells (r .shape))))
-    ∙ ap (λ (x : ℕ). x * lineLength (cells (r .shape))) whole)
+    ∙ ap₂ _+_ (length-entries (gridSize (r .shape)) (r .entries) sized) (length-blanks (gridSize (r .shape)) (c - n))
+    ∙ sym (add-mul n (c - n) (lineLength (gridSize (r .shape))))
+    ∙ ap (λ (x : ℕ). x * lineLength (gridSize (r .shape))) whole)
   where
     n : ℕ
     n = length (r .entries)
@@ -197,7 +197,7 @@ length-layout r sized fits =
     c = r .shape .capacity
 
     blanks : List ℕ
-    blanks = flatten (replicate (c - n) (blankLine (cells (r .shape))))
+    blanks = flatten (replicate (c - n) (blankLine (gridSize (r .shape))))
 
     whole : n + (c - n) ≡ c
     whole = omega arith

@@ -34,8 +34,8 @@ use Rattle.grids.specs.Grids.{capped}
 use Rattle.grids.proofs.OrderLaws.{less-decides, equal-eq, eq-equal}
 use Rattle.grids.proofs.QuestionLaws.{grid-of, grid-capped}
 use Rattle.layout.specs.Decimal.{value}
-use Rattle.layout.specs.Layout.{Shape, Register, cells, headLength, entryWidth, lineLength, entryLine, blankLine, headLine, layout, layoutLength, numberAt, count, entryAt, decodeShape, decode, Ascends, IsRegister, ascending, isRegister, laidOut}
-use Rattle.layout.specs.Lines.{lineStart, lineAt, cellsOf, EntriesLaid, BlanksLaid, HeadLaid}
+use Rattle.layout.specs.Layout.{Shape, Register, gridSize, headLength, entryWidth, lineLength, entryLine, blankLine, headLine, layout, layoutLength, numberAt, count, entryAt, decodeShape, decode, Ascends, IsRegister, ascending, isRegister, laidOut, cellsOf}
+use Rattle.layout.specs.Lines.{lineStart, lineAt, EntriesLaid, BlanksLaid, HeadLaid}
 use Rattle.layout.proofs.LayoutLaws.{Wide, wide-map, of-replicate, piece, length-entry, length-blank, length-head, length-layout}
 use Rattle.layout.proofs.RegisterLaws.{ascending-decides, register-decides}
 
@@ -133,21 +133,21 @@ entry-cells size b e = tabulate-ext 0 size _ _ λ k h. ap value (one k h)
         rw (drop-take (3 * k) (lineLength size) (drop (headLength + e * lineLength size) b), take-take 3 (lineLength size - 3 * k) (drop (3 * k) (drop (headLength + e * lineLength size) b)) (field-inside size k h), drop-drop (3 * k) (headLength + e * lineLength size) b)
 
 pub from-lines : (s : Shape) (n : ℕ) (b : List ℕ) (ls : List (List ℕ)) → length b ≡ layoutLength s → take headLength b ≡ headLine s n → length ls ≡ s .capacity →
-    ((e : ℕ) → e < s .capacity → lineAt (cells s) b e ≡ getD ls e []) → b ≡ headLine s n ++ flatten ls
+    ((e : ℕ) → e < s .capacity → lineAt (gridSize s) b e ≡ getD ls e []) → b ≡ headLine s n ++ flatten ls
 unfolding lineAt lineStart layoutLength
 from-lines s n b ls sized first many line =
-    sym (take-append-drop headLength b) ∙ ap₂ _++_ first (of-parts (lineLength (cells s)) (drop headLength b) ls whole one)
+    sym (take-append-drop headLength b) ∙ ap₂ _++_ first (of-parts (lineLength (gridSize s)) (drop headLength b) ls whole one)
   where
-    whole : length (drop headLength b) ≡ length ls * lineLength (cells s)
+    whole : length (drop headLength b) ≡ length ls * lineLength (gridSize s)
     whole = length-drop headLength b ∙ rw many (omega arith)
 
-    one : (e : ℕ) → e < length ls → take (lineLength (cells s)) (drop (e * lineLength (cells s)) (drop headLength b)) ≡ getD ls e []
-    one e h = rw (drop-drop (e * lineLength (cells s)) headLength b) (line e (omega arith))
+    one : (e : ℕ) → e < length ls → take (lineLength (gridSize s)) (drop (e * lineLength (gridSize s)) (drop headLength b)) ≡ getD ls e []
+    one e h = rw (drop-drop (e * lineLength (gridSize s)) headLength b) (line e (omega arith))
 
 -- ---- the lines of a layout
 
 unfoldable pub linesOf : Register → List (List ℕ)
-linesOf r = map entryLine (r .entries) ++ replicate (r .shape .capacity - length (r .entries)) (blankLine (cells (r .shape)))
+linesOf r = map entryLine (r .entries) ++ replicate (r .shape .capacity - length (r .entries)) (blankLine (gridSize (r .shape)))
 
 pub layout-lines : (r : Register) → layout r ≡ headLine (r .shape) (length (r .entries)) ++ flatten (linesOf r)
 unfolding layout linesOf
@@ -157,40 +157,40 @@ pub length-lines : (r : Register) → length (r .entries) ≤ r .shape .capacity
 unfolding linesOf
 length-lines r fits =
     length-append (map entryLine (r .entries)) _
-    ∙ omega (arith, length-map (r .entries) entryLine, length-replicate (r .shape .capacity - length (r .entries)) (blankLine (cells (r .shape))))
+    ∙ omega (arith, length-map (r .entries) entryLine, length-replicate (r .shape .capacity - length (r .entries)) (blankLine (gridSize (r .shape))))
 
-pub wide-lines : (r : Register) → ((g : List ℕ) → List·Memᴰ g (r .entries) → length g ≡ cells (r .shape)) → Wide (lineLength (cells (r .shape))) (linesOf r)
+pub wide-lines : (r : Register) → ((g : List ℕ) → List·Memᴰ g (r .entries) → length g ≡ gridSize (r .shape)) → Wide (lineLength (gridSize (r .shape))) (linesOf r)
 unfolding linesOf
 wide-lines r sized l m = go (List·Memᴰ·append-cases (map entryLine (r .entries)) m)
   where
-    go : List·Memᴰ l (map entryLine (r .entries)) ⊎ List·Memᴰ l (replicate (r .shape .capacity - length (r .entries)) (blankLine (cells (r .shape)))) → length l ≡ lineLength (cells (r .shape))
-    go (inl k) = wide-map entryLine (lineLength (cells (r .shape))) (r .entries) (λ g i. length-entry g ∙ ap lineLength (sized g i)) l k
-    go (inr k) = ap length (of-replicate (r .shape .capacity - length (r .entries)) (blankLine (cells (r .shape))) l k) ∙ length-blank (cells (r .shape))
+    go : List·Memᴰ l (map entryLine (r .entries)) ⊎ List·Memᴰ l (replicate (r .shape .capacity - length (r .entries)) (blankLine (gridSize (r .shape)))) → length l ≡ lineLength (gridSize (r .shape))
+    go (inl k) = wide-map entryLine (lineLength (gridSize (r .shape))) (r .entries) (λ g i. length-entry g ∙ ap lineLength (sized g i)) l k
+    go (inr k) = ap length (of-replicate (r .shape .capacity - length (r .entries)) (blankLine (gridSize (r .shape))) l k) ∙ length-blank (gridSize (r .shape))
 
 entry-of : (r : Register) (e : ℕ) → e < length (r .entries) → getD (linesOf r) e [] ≡ entryLine (getD (r .entries) e [])
 unfolding linesOf
 entry-of r e h = List·getD-append (map entryLine (r .entries)) _ [] e (omega (arith, length-map (r .entries) entryLine)) ∙ at-map entryLine (r .entries) e [] [] h
 
-blank-of : (r : Register) (e : ℕ) → length (r .entries) ≤ e → e < r .shape .capacity → getD (linesOf r) e [] ≡ blankLine (cells (r .shape))
+blank-of : (r : Register) (e : ℕ) → length (r .entries) ≤ e → e < r .shape .capacity → getD (linesOf r) e [] ≡ blankLine (gridSize (r .shape))
 unfolding linesOf
 blank-of r e low high =
     let n = length (map entryLine (r .entries)) in
     let z = length-map (r .entries) entryLine in
     let i : n + (e - n) ≡ e = omega arith in
     rw (← i)
-    (getD-append-add (map entryLine (r .entries)) _ (e - n) [] ∙ getD-replicate (r .shape .capacity - length (r .entries)) (e - n) (blankLine (cells (r .shape))) [] (omega arith))
+    (getD-append-add (map entryLine (r .entries)) _ (e - n) [] ∙ getD-replicate (r .shape .capacity - length (r .entries)) (e - n) (blankLine (gridSize (r .shape))) [] (omega arith))
 
-module _ (r : Register) (sized : (g : List ℕ) → List·Memᴰ g (r .entries) → length g ≡ cells (r .shape)) (fits : length (r .entries) ≤ r .shape .capacity) where
-  pub line-of : (e : ℕ) → e < r .shape .capacity → lineAt (cells (r .shape)) (layout r) e ≡ getD (linesOf r) e []
+module _ (r : Register) (sized : (g : List ℕ) → List·Memᴰ g (r .entries) → length g ≡ gridSize (r .shape)) (fits : length (r .entries) ≤ r .shape .capacity) where
+  pub line-of : (e : ℕ) → e < r .shape .capacity → lineAt (gridSize (r .shape)) (layout r) e ≡ getD (linesOf r) e []
   unfolding lineAt lineStart
   line-of e h =
-      rw (layout-lines r, ← (drop-drop (e * lineLength (cells (r .shape))) headLength (headLine (r .shape) (length (r .entries)) ++ flatten (linesOf r))), drop-at (headLine (r .shape) (length (r .entries))) (flatten (linesOf r)) headLength (length-head (r .shape) (length (r .entries))))
-      (at-parts (lineLength (cells (r .shape))) (linesOf r) (wide-lines r sized) e (omega (arith, length-lines r fits)))
+      rw (layout-lines r, ← (drop-drop (e * lineLength (gridSize (r .shape))) headLength (headLine (r .shape) (length (r .entries)) ++ flatten (linesOf r))), drop-at (headLine (r .shape) (length (r .entries))) (flatten (linesOf r)) headLength (length-head (r .shape) (length (r .entries))))
+      (at-parts (lineLength (gridSize (r .shape))) (linesOf r) (wide-lines r sized) e (omega (arith, length-lines r fits)))
 
-  pub line-layout : (e : ℕ) → e < length (r .entries) → lineAt (cells (r .shape)) (layout r) e ≡ entryLine (getD (r .entries) e [])
+  pub line-layout : (e : ℕ) → e < length (r .entries) → lineAt (gridSize (r .shape)) (layout r) e ≡ entryLine (getD (r .entries) e [])
   line-layout e h = line-of e (omega arith) ∙ entry-of r e h
 
-  pub blank-layout : (e : ℕ) → length (r .entries) ≤ e → e < r .shape .capacity → lineAt (cells (r .shape)) (layout r) e ≡ blankLine (cells (r .shape))
+  pub blank-layout : (e : ℕ) → length (r .entries) ≤ e → e < r .shape .capacity → lineAt (gridSize (r .shape)) (layout r) e ≡ blankLine (gridSize (r .shape))
   blank-layout e low high = line-of e high ∙ blank-of r e low high
 
 -- ---- each comes before the next
@@ -216,23 +216,23 @@ next-ascends l h = ascending-decides l .0 (next-ascending l h)
 module _ (b : List ℕ) where
   pub entries-counted : length (decode b .entries) ≡ count b
   unfolding decode
-  entries-counted = length-tabulate 0 (count b) (entryAt (cells (decodeShape b)) b)
+  entries-counted = length-tabulate 0 (count b) (entryAt (gridSize (decodeShape b)) b)
 
-  entry-stated : (e : ℕ) → e < count b → getD (decode b .entries) e [] ≡ cellsOf (cells (decodeShape b)) (lineAt (cells (decodeShape b)) b e)
+  entry-stated : (e : ℕ) → e < count b → getD (decode b .entries) e [] ≡ cellsOf (gridSize (decodeShape b)) (lineAt (gridSize (decodeShape b)) b e)
   unfolding decode
-  entry-stated e h = at-tabulate (count b) (entryAt (cells (decodeShape b)) b) e [] h ∙ entry-cells (cells (decodeShape b)) b e
+  entry-stated e h = at-tabulate (count b) (entryAt (gridSize (decodeShape b)) b) e [] h ∙ entry-cells (gridSize (decodeShape b)) b e
 
-  of-entries : (g : List ℕ) → List·Memᴰ g (decode b .entries) → (e : ℕ) × (e < count b) × (g ≡ cellsOf (cells (decodeShape b)) (lineAt (cells (decodeShape b)) b e))
+  of-entries : (g : List ℕ) → List·Memᴰ g (decode b .entries) → (e : ℕ) × (e < count b) × (g ≡ cellsOf (gridSize (decodeShape b)) (lineAt (gridSize (decodeShape b)) b e))
   of-entries g m = let r = of-mem (decode b .entries) [] g m in (r .0, omega (arith, r .1, entries-counted), r .2 ∙ entry-stated (r .0) (omega (arith, r .1, entries-counted)))
 
-pub line-entry : (b : List ℕ) → laidOut b ≡ true → (e : ℕ) → e < count b → getD (decode b .entries) e [] ≡ cellsOf (cells (decodeShape b)) (lineAt (cells (decodeShape b)) b e)
+pub line-entry : (b : List ℕ) → laidOut b ≡ true → (e : ℕ) → e < count b → getD (decode b .entries) e [] ≡ cellsOf (gridSize (decodeShape b)) (lineAt (gridSize (decodeShape b)) b e)
 line-entry b laid = entry-stated b
 
 -- the bytes of a register, line by line
 module _ (b : List ℕ) (o : IsRegister (decode b)) (whole : b ≡ layout (decode b)) where
-  entries-sized : (g : List ℕ) → List·Memᴰ g (decode b .entries) → length g ≡ cells (decodeShape b)
+  entries-sized : (g : List ℕ) → List·Memᴰ g (decode b .entries) → length g ≡ gridSize (decodeShape b)
   unfolding decode
-  entries-sized g m = o .entry-grids g m .cells
+  entries-sized g m = o .entry-grids g m .sized
 
   head-laid : HeadLaid b
   unfolding decode
@@ -243,24 +243,24 @@ module _ (b : List ℕ) (o : IsRegister (decode b)) (whole : b ≡ layout (decod
     line = ap (take headLength) (whole ∙ layout-lines (decode b)) ∙ take-at _ _ headLength (length-head (decodeShape b) _) ∙ ap (headLine (decodeShape b)) (entries-counted b);
   }
 
-  entries-laid : EntriesLaid (cells (decodeShape b)) (decodeShape b .top) (count b) b
+  entries-laid : EntriesLaid (gridSize (decodeShape b)) (decodeShape b .top) (count b) b
   unfolding decode
   entries-laid = record {
     lines = λ e h. record {
-      bytes = ap (λ (l : List ℕ). lineAt (cells (decodeShape b)) l e) whole ∙ line-layout (decode b) entries-sized (o .count-fits) e (omega (arith, entries-counted b)) ∙ ap entryLine (entry-stated b e h);
+      bytes = ap (λ (l : List ℕ). lineAt (gridSize (decodeShape b)) l e) whole ∙ line-layout (decode b) entries-sized (o .count-fits) e (omega (arith, entries-counted b)) ∙ ap entryLine (entry-stated b e h);
       at-most = rw (entry-stated b e h) at (grid-capped (decodeShape b .rows) (decodeShape b .columns) (decodeShape b .top) (getD (decode b .entries) e []) (o .entry-grids _ (mem-at (decode b .entries) [] e (omega (arith, entries-counted b)))));
     };
     ascend = λ e h. rw (entry-stated b e (omega arith), entry-stated b (e + 1) h) at (ascends-next (decode b .entries) (o .entries-ascend) e (omega (arith, entries-counted b)));
   }
 
-  blanks-laid : BlanksLaid (cells (decodeShape b)) (count b) (decodeShape b .capacity) b
+  blanks-laid : BlanksLaid (gridSize (decodeShape b)) (count b) (decodeShape b .capacity) b
   unfolding decode
   blanks-laid = record {
-    lines = λ e low high. ap (λ (l : List ℕ). lineAt (cells (decodeShape b)) l e) whole ∙ blank-layout (decode b) entries-sized (o .count-fits) e (omega (arith, entries-counted b)) high;
+    lines = λ e low high. ap (λ (l : List ℕ). lineAt (gridSize (decodeShape b)) l e) whole ∙ blank-layout (decode b) entries-sized (o .count-fits) e (omega (arith, entries-counted b)) high;
   }
 
 -- bytes that are laid out line by line are those of a register
-module _ (b : List ℕ) (h : HeadLaid b) (l : EntriesLaid (cells (decodeShape b)) (decodeShape b .top) (count b) b) (k : BlanksLaid (cells (decodeShape b)) (count b) (decodeShape b .capacity) b) where
+module _ (b : List ℕ) (h : HeadLaid b) (l : EntriesLaid (gridSize (decodeShape b)) (decodeShape b .top) (count b) b) (k : BlanksLaid (gridSize (decodeShape b)) (count b) (decodeShape b .capacity) b) where
   laid-register : IsRegister (decode b)
   unfolding decode cellsOf
   laid-register = record {
@@ -268,11 +268,11 @@ module _ (b : List ℕ) (h : HeadLaid b) (l : EntriesLaid (cells (decodeShape b)
     count-fits = rw (entries-counted b) (h .count-fits);
     entry-grids = λ g m.
         let r = of-entries b g m in
-        grid-of (decodeShape b .rows) (decodeShape b .columns) (decodeShape b .top) g (ap length (r .2) ∙ length-tabulate 0 (cells (decodeShape b)) _) (ap (capped (decodeShape b .top)) (r .2) ∙ l .lines (r .0) (r .1) .at-most);
+        grid-of (decodeShape b .rows) (decodeShape b .columns) (decodeShape b .top) g (ap length (r .2) ∙ length-tabulate 0 (gridSize (decodeShape b)) _) (ap (capped (decodeShape b .top)) (r .2) ∙ l .lines (r .0) (r .1) .at-most);
     entries-ascend = next-ascends (decode b .entries) (λ e m. let z = entries-counted b in rw (entry-stated b e (omega arith), entry-stated b (e + 1) (omega arith)) (l .ascend e (omega arith)));
   }
 
-  laid-line : (e : ℕ) → Dec (e < count b) → e < decodeShape b .capacity → lineAt (cells (decodeShape b)) b e ≡ getD (linesOf (decode b)) e []
+  laid-line : (e : ℕ) → Dec (e < count b) → e < decodeShape b .capacity → lineAt (gridSize (decodeShape b)) b e ≡ getD (linesOf (decode b)) e []
   unfolding decode
   laid-line e (yes m) i = let z = entries-counted b in l .lines e m .bytes ∙ sym (ap entryLine (entry-stated b e m)) ∙ sym (entry-of (decode b) e (omega arith))
   laid-line e (no m) i = let z = entries-counted b in k .lines e (omega arith) i ∙ sym (blank-of (decode b) e (omega arith) i)
@@ -284,17 +284,17 @@ module _ (b : List ℕ) (h : HeadLaid b) (l : EntriesLaid (cells (decodeShape b)
       ∙ ap (λ (n : ℕ). headLine (decodeShape b) n ++ flatten (linesOf (decode b))) (sym (entries-counted b))
       ∙ sym (layout-lines (decode b))
 
-pub laid-lines : (b : List ℕ) → (laidOut b ≡ true) ↔ (HeadLaid b × EntriesLaid (cells (decodeShape b)) (decodeShape b .top) (count b) b × BlanksLaid (cells (decodeShape b)) (count b) (decodeShape b .capacity) b)
+pub laid-lines : (b : List ℕ) → (laidOut b ≡ true) ↔ (HeadLaid b × EntriesLaid (gridSize (decodeShape b)) (decodeShape b .top) (count b) b × BlanksLaid (gridSize (decodeShape b)) (count b) (decodeShape b .capacity) b)
 unfolding laidOut
 laid-lines b = (to, back)
   where
-    to : laidOut b ≡ true → HeadLaid b × EntriesLaid (cells (decodeShape b)) (decodeShape b .top) (count b) b × BlanksLaid (cells (decodeShape b)) (count b) (decodeShape b .capacity) b
+    to : laidOut b ≡ true → HeadLaid b × EntriesLaid (gridSize (decodeShape b)) (decodeShape b .top) (count b) b × BlanksLaid (gridSize (decodeShape b)) (count b) (decodeShape b .capacity) b
     to e =
         let p = and-yes (isRegister (decode b)) (equal (layout (decode b)) b) e in
         let o = register-decides (decode b) .0 (p .0) in
         let w = sym (equal-eq (layout (decode b)) b (p .1)) in
         (head-laid b o w, entries-laid b o w, blanks-laid b o w)
 
-    back : HeadLaid b × EntriesLaid (cells (decodeShape b)) (decodeShape b .top) (count b) b × BlanksLaid (cells (decodeShape b)) (count b) (decodeShape b .capacity) b → laidOut b ≡ true
+    back : HeadLaid b × EntriesLaid (gridSize (decodeShape b)) (decodeShape b .top) (count b) b × BlanksLaid (gridSize (decodeShape b)) (count b) (decodeShape b .capacity) b → laidOut b ≡ true
     back h =
         yes-and (isRegister (decode b)) (equal (layout (decode b)) b) (register-decides (decode b) .1 (laid-register b (h .0) (h .1) (h .2))) (eq-equal (layout (decode b)) b (sym (laid-layout b (h .0) (h .1) (h .2))))

@@ -16,7 +16,7 @@ use lib.ListN.{length, getD, take, drop, replicate, length-append, length-drop, 
 use lib.Seq.{take-at, drop-at, drop-drop, split-at, length-take-le}
 use Rattle.permutations.proofs.ListLaws.{mem-at}
 use Rattle.layout.specs.Decimal.{field}
-use Rattle.layout.specs.Layout.{Shape, Register, cells, fields, headLength, lineLength, entryLine, blankLine, headLine, layout, layoutLength}
+use Rattle.layout.specs.Layout.{Shape, Register, gridSize, fields, lineLength, entryLine, blankLine, headLine, layout, layoutLength}
 use Rattle.layout.specs.Lines.{lineStart}
 use Rattle.layout.proofs.DecimalLaws.{length-field}
 use Rattle.layout.proofs.LayoutLaws.{length-fields, length-entry, length-blank, length-head, length-entries, length-blanks}
@@ -106,15 +106,15 @@ flatten-append (x ∷ a) b = rw (flatten-append a b) (sym (append-assoc x (flatt
 entries-append : (a b : Grids) → entryLines (a ++ b) ≡ entryLines a ++ entryLines b
 entries-append a b = ap flatten (map-append entryLine a b) ∙ flatten-append (map entryLine a) (map entryLine b)
 
-layout-is : (s : Shape) (es : Grids) (n m : ℕ) → length es ≡ n → s .capacity - n ≡ m → layout (record { shape = s; entries = es }) ≡ headLine s n ++ (entryLines es ++ blankLines (cells s) m)
+layout-is : (s : Shape) (es : Grids) (n m : ℕ) → length es ≡ n → s .capacity - n ≡ m → layout (record { shape = s; entries = es }) ≡ headLine s n ++ (entryLines es ++ blankLines (gridSize s) m)
 unfolding layout
 layout-is s es n m e d = rw (e, d)
 
 layout-parts : (s : Shape) (xs ys : Grids) (n m : ℕ) → length (xs ++ ys) ≡ n → s .capacity - n ≡ m →
-    layout (record { shape = s; entries = xs ++ ys }) ≡ headLine s n ++ (entryLines xs ++ (entryLines ys ++ blankLines (cells s) m))
+    layout (record { shape = s; entries = xs ++ ys }) ≡ headLine s n ++ (entryLines xs ++ (entryLines ys ++ blankLines (gridSize s) m))
 layout-parts s xs ys n m e d =
     layout-is s (xs ++ ys) n m e d
-    ∙ ap (λ (l : List ℕ). headLine s n ++ l) (ap (λ (l : List ℕ). l ++ blankLines (cells s) m) (entries-append xs ys) ∙ append-assoc (entryLines xs) (entryLines ys) (blankLines (cells s) m))
+    ∙ ap (λ (l : List ℕ). headLine s n ++ l) (ap (λ (l : List ℕ). l ++ blankLines (gridSize s) m) (entries-append xs ys) ∙ append-assoc (entryLines xs) (entryLines ys) (blankLines (gridSize s) m))
 
 entries-cons : (g : List ℕ) (ys : Grids) (t : List ℕ) → entryLines (g ∷ ys) ++ t ≡ entryLine g ++ (entryLines ys ++ t)
 unfolding flatten
@@ -131,9 +131,9 @@ sized-drop : (size p : ℕ) (es : Grids) → Sized size es → Sized size (drop 
 sized-drop size p es h g m = h g (rw (take-append-drop p es) at (Memᴰ·append-right (take p es) m))
 
 -- the lines before p, with line 1
-start-is : (s : Shape) (n p : ℕ) (xs : Grids) → Sized (cells s) xs → length xs ≡ p → length (headLine s n) + length (entryLines xs) ≡ lineStart (cells s) p
+start-is : (s : Shape) (n p : ℕ) (xs : Grids) → Sized (gridSize s) xs → length xs ≡ p → length (headLine s n) + length (entryLines xs) ≡ lineStart (gridSize s) p
 unfolding lineStart
-start-is s n p xs sized e = ap₂ _+_ (length-head s n) (length-entries (cells s) xs sized ∙ ap (λ (k : ℕ). k * lineLength (cells s)) e)
+start-is s n p xs sized e = ap₂ _+_ (length-head s n) (length-entries (gridSize s) xs sized ∙ ap (λ (k : ℕ). k * lineLength (gridSize s)) e)
 
 -- as many lines
 lines-are : (size k : ℕ) (ys : Grids) → Sized size ys → length ys ≡ k → length (entryLines ys) ≡ k * lineLength size
@@ -141,42 +141,42 @@ lines-are size k ys sized e = length-entries size ys sized ∙ ap (λ (k : ℕ).
 
 -- ---- a line put in, a line taken out
 
-module _ (s : Shape) (xs ys : Grids) (g : List ℕ) (n p m : ℕ) (front : Sized (cells s) xs) (back : Sized (cells s) ys) where
+module _ (s : Shape) (xs ys : Grids) (g : List ℕ) (n p m : ℕ) (front : Sized (gridSize s) xs) (back : Sized (gridSize s) ys) where
   insert-parts : (b b₁ : List ℕ) → length xs ≡ p → p + length ys ≡ n → s .capacity - n ≡ suc m → b ≡ layout (record { shape = s; entries = xs ++ ys }) →
-      b₁ ≡ take (lineStart (cells s) p) b ++ (entryLine g ++ (take ((n - p) * lineLength (cells s)) (drop (lineStart (cells s) p) b) ++ drop ((n - p) * lineLength (cells s) + lineLength (cells s)) (drop (lineStart (cells s) p) b))) →
+      b₁ ≡ take (lineStart (gridSize s) p) b ++ (entryLine g ++ (take ((n - p) * lineLength (gridSize s)) (drop (lineStart (gridSize s) p) b) ++ drop ((n - p) * lineLength (gridSize s) + lineLength (gridSize s)) (drop (lineStart (gridSize s) p) b))) →
       take 24 b₁ ++ (field 6 (n + 1) ++ drop 6 (drop 24 b₁)) ≡ layout (record { shape = s; entries = xs ++ (g ∷ ys) })
   insert-parts b b₁ lx ly room e d =
-      recount s n (n + 1) (entryLines xs ++ (entryLine g ++ (entryLines ys ++ blankLines (cells s) m))) b₁
-      (d ∙ put-in (headLine s n) (entryLines xs) (entryLines ys) (blankLine (cells s)) (blankLines (cells s) m) (entryLine g) b _ _ _
+      recount s n (n + 1) (entryLines xs ++ (entryLine g ++ (entryLines ys ++ blankLines (gridSize s) m))) b₁
+      (d ∙ put-in (headLine s n) (entryLines xs) (entryLines ys) (blankLine (gridSize s)) (blankLines (gridSize s) m) (entryLine g) b _ _ _
       (e ∙ layout-parts s xs ys n (suc m) (length-append xs ys ∙ omega arith) room
-      ∙ ap (λ (l : List ℕ). headLine s n ++ (entryLines xs ++ (entryLines ys ++ l))) (blanks-cons (cells s) m))
-      (start-is s n p xs front lx) (lines-are (cells s) (n - p) ys back (omega arith)) (length-blank (cells s)))
+      ∙ ap (λ (l : List ℕ). headLine s n ++ (entryLines xs ++ (entryLines ys ++ l))) (blanks-cons (gridSize s) m))
+      (start-is s n p xs front lx) (lines-are (gridSize s) (n - p) ys back (omega arith)) (length-blank (gridSize s)))
       ∙ sym
       (layout-parts s xs (g ∷ ys) (n + 1) m (length-append xs (g ∷ ys) ∙ omega arith) (omega arith)
-      ∙ ap (λ (l : List ℕ). headLine s (n + 1) ++ (entryLines xs ++ l)) (entries-cons g ys (blankLines (cells s) m)))
+      ∙ ap (λ (l : List ℕ). headLine s (n + 1) ++ (entryLines xs ++ l)) (entries-cons g ys (blankLines (gridSize s) m)))
 
-  remove-parts : (b b₁ : List ℕ) → length xs ≡ p → length g ≡ cells s → p + suc (length ys) ≡ n → n ≤ s .capacity → s .capacity - n ≡ m → b ≡ layout (record { shape = s; entries = xs ++ (g ∷ ys) }) →
-      b₁ ≡ take (lineStart (cells s) p) b ++ (take ((n - (p + 1)) * lineLength (cells s)) (drop (lineLength (cells s)) (drop (lineStart (cells s) p) b)) ++ (blankLine (cells s) ++ drop ((n - (p + 1)) * lineLength (cells s) + lineLength (cells s)) (drop (lineStart (cells s) p) b))) →
+  remove-parts : (b b₁ : List ℕ) → length xs ≡ p → length g ≡ gridSize s → p + suc (length ys) ≡ n → n ≤ s .capacity → s .capacity - n ≡ m → b ≡ layout (record { shape = s; entries = xs ++ (g ∷ ys) }) →
+      b₁ ≡ take (lineStart (gridSize s) p) b ++ (take ((n - (p + 1)) * lineLength (gridSize s)) (drop (lineLength (gridSize s)) (drop (lineStart (gridSize s) p) b)) ++ (blankLine (gridSize s) ++ drop ((n - (p + 1)) * lineLength (gridSize s) + lineLength (gridSize s)) (drop (lineStart (gridSize s) p) b))) →
       take 24 b₁ ++ (field 6 (n - 1) ++ drop 6 (drop 24 b₁)) ≡ layout (record { shape = s; entries = xs ++ ys })
   remove-parts b b₁ lx lg ly fits room e d =
-      recount s n (n - 1) (entryLines xs ++ (entryLines ys ++ (blankLine (cells s) ++ blankLines (cells s) m))) b₁
-      (d ∙ take-out (headLine s n) (entryLines xs) (entryLine g) (entryLines ys) (blankLines (cells s) m) (blankLine (cells s)) b _ _ _
+      recount s n (n - 1) (entryLines xs ++ (entryLines ys ++ (blankLine (gridSize s) ++ blankLines (gridSize s) m))) b₁
+      (d ∙ take-out (headLine s n) (entryLines xs) (entryLine g) (entryLines ys) (blankLines (gridSize s) m) (blankLine (gridSize s)) b _ _ _
       (e ∙ layout-parts s xs (g ∷ ys) n m (length-append xs (g ∷ ys) ∙ omega arith) room
-      ∙ ap (λ (l : List ℕ). headLine s n ++ (entryLines xs ++ l)) (entries-cons g ys (blankLines (cells s) m)))
-      (start-is s n p xs front lx) (length-entry g ∙ ap lineLength lg) (lines-are (cells s) (n - (p + 1)) ys back (omega arith)))
+      ∙ ap (λ (l : List ℕ). headLine s n ++ (entryLines xs ++ l)) (entries-cons g ys (blankLines (gridSize s) m)))
+      (start-is s n p xs front lx) (length-entry g ∙ ap lineLength lg) (lines-are (gridSize s) (n - (p + 1)) ys back (omega arith)))
       ∙ sym
       (layout-parts s xs ys (n - 1) (suc m) (length-append xs ys ∙ omega arith) (omega arith)
-      ∙ ap (λ (l : List ℕ). headLine s (n - 1) ++ (entryLines xs ++ (entryLines ys ++ l))) (blanks-cons (cells s) m))
+      ∙ ap (λ (l : List ℕ). headLine s (n - 1) ++ (entryLines xs ++ (entryLines ys ++ l))) (blanks-cons (gridSize s) m))
 
 -- a register with its entries in two parts
 rejoined : (r : Register) (es : Grids) → es ≡ r .entries → layout r ≡ layout (record { shape = r .shape; entries = es })
 rejoined r es e = λ i. layout (record { shape = r .shape; entries = sym e i })
 
-pub insert-layout : (r : Register) (b b₁ g : List ℕ) (p : ℕ) → Sized (cells (r .shape)) (r .entries) → b ≡ layout r → length (r .entries) < r .shape .capacity → p ≤ length (r .entries) → length g ≡ cells (r .shape) →
-    b₁ ≡ take (lineStart (cells (r .shape)) p) b
+pub insert-layout : (r : Register) (b b₁ g : List ℕ) (p : ℕ) → Sized (gridSize (r .shape)) (r .entries) → b ≡ layout r → length (r .entries) < r .shape .capacity → p ≤ length (r .entries) → length g ≡ gridSize (r .shape) →
+    b₁ ≡ take (lineStart (gridSize (r .shape)) p) b
     ++ (entryLine g
-    ++ (take ((length (r .entries) - p) * lineLength (cells (r .shape))) (drop (lineStart (cells (r .shape)) p) b)
-    ++ drop ((length (r .entries) - p) * lineLength (cells (r .shape)) + lineLength (cells (r .shape))) (drop (lineStart (cells (r .shape)) p) b))) →
+    ++ (take ((length (r .entries) - p) * lineLength (gridSize (r .shape))) (drop (lineStart (gridSize (r .shape)) p) b)
+    ++ drop ((length (r .entries) - p) * lineLength (gridSize (r .shape)) + lineLength (gridSize (r .shape))) (drop (lineStart (gridSize (r .shape)) p) b))) →
     take 24 b₁ ++ (field 6 (length (r .entries) + 1) ++ drop 6 (drop 24 b₁)) ≡ layout (record { shape = r .shape; entries = take p (r .entries) ++ (g ∷ drop p (r .entries)) })
 insert-layout r b b₁ g p sized e room inside width d =
     insert-parts (r .shape) (take p (r .entries)) (drop p (r .entries)) g (length (r .entries)) p (r .shape .capacity - length (r .entries) - 1)
@@ -184,11 +184,11 @@ insert-layout r b b₁ g p sized e room inside width d =
     (length-take-le p (r .entries) inside) (omega (arith, length-drop p (r .entries))) (omega arith)
     (e ∙ rejoined r (take p (r .entries) ++ drop p (r .entries)) (take-append-drop p (r .entries))) d
 
-pub remove-layout : (r : Register) (b b₁ : List ℕ) (p : ℕ) → Sized (cells (r .shape)) (r .entries) → b ≡ layout r → length (r .entries) ≤ r .shape .capacity → p < length (r .entries) →
-    b₁ ≡ take (lineStart (cells (r .shape)) p) b
-    ++ (take ((length (r .entries) - (p + 1)) * lineLength (cells (r .shape))) (drop (lineLength (cells (r .shape))) (drop (lineStart (cells (r .shape)) p) b))
-    ++ (blankLine (cells (r .shape))
-    ++ drop ((length (r .entries) - (p + 1)) * lineLength (cells (r .shape)) + lineLength (cells (r .shape))) (drop (lineStart (cells (r .shape)) p) b))) →
+pub remove-layout : (r : Register) (b b₁ : List ℕ) (p : ℕ) → Sized (gridSize (r .shape)) (r .entries) → b ≡ layout r → length (r .entries) ≤ r .shape .capacity → p < length (r .entries) →
+    b₁ ≡ take (lineStart (gridSize (r .shape)) p) b
+    ++ (take ((length (r .entries) - (p + 1)) * lineLength (gridSize (r .shape))) (drop (lineLength (gridSize (r .shape))) (drop (lineStart (gridSize (r .shape)) p) b))
+    ++ (blankLine (gridSize (r .shape))
+    ++ drop ((length (r .entries) - (p + 1)) * lineLength (gridSize (r .shape)) + lineLength (gridSize (r .shape))) (drop (lineStart (gridSize (r .shape)) p) b))) →
     take 24 b₁ ++ (field 6 (length (r .entries) - 1) ++ drop 6 (drop 24 b₁)) ≡ layout (record { shape = r .shape; entries = take p (r .entries) ++ drop (suc p) (r .entries) })
 remove-layout r b b₁ p sized e fits inside d =
     remove-parts (r .shape) (take p (r .entries)) (drop (suc p) (r .entries)) (getD (r .entries) p []) (length (r .entries)) p (r .shape .capacity - length (r .entries))
@@ -205,11 +205,11 @@ remove-layout r b b₁ p sized e fits inside d =
 pub record Opened (s : Shape) (k : ℕ) (b : List ℕ) : Type 0 where
   pub sized : length b ≡ layoutLength s
   pub rest : List ℕ
-  pub bytes : b ≡ headLine s 0 ++ (flatten (replicate k (blankLine (cells s))) ++ rest)
+  pub bytes : b ≡ headLine s 0 ++ (flatten (replicate k (blankLine (gridSize s))) ++ rest)
 
-blank-start : (s : Shape) (k : ℕ) → length (headLine s 0) + length (blankLines (cells s) k) ≡ lineStart (cells s) k
+blank-start : (s : Shape) (k : ℕ) → length (headLine s 0) + length (blankLines (gridSize s) k) ≡ lineStart (gridSize s) k
 unfolding lineStart
-blank-start s k = ap₂ _+_ (length-head s 0) (length-blanks (cells s) k)
+blank-start s k = ap₂ _+_ (length-head s 0) (length-blanks (gridSize s) k)
 
 blanks-snoc : (size k : ℕ) (t : List ℕ) → blankLines size k ++ (blankLine size ++ t) ≡ blankLines size (k + 1) ++ t
 unfolding flatten
@@ -221,11 +221,11 @@ blanks-snoc size k t = sym (append-assoc (blankLines size k) (blankLine size) t)
         ∙ flatten-append (replicate k (blankLine size)) (blankLine size ∷ [])
         ∙ ap (λ (l : List ℕ). blankLines size k ++ l) (append-nil (blankLine size))
 
-length-opened : {s : Shape} {k : ℕ} {b : List ℕ} (o : Opened s k b) → length b ≡ lineStart (cells s) k + length (o .rest)
+length-opened : {s : Shape} {k : ℕ} {b : List ℕ} (o : Opened s k b) → length b ≡ lineStart (gridSize s) k + length (o .rest)
 length-opened {s} {k} o =
     ap length (o .bytes)
-    ∙ length-append (headLine s 0) (blankLines (cells s) k ++ o .rest)
-    ∙ omega (arith, length-append (blankLines (cells s) k) (o .rest), blank-start s k)
+    ∙ length-append (headLine s 0) (blankLines (gridSize s) k ++ o .rest)
+    ∙ omega (arith, length-append (blankLines (gridSize s) k) (o .rest), blank-start s k)
 
 length-over : (z b : List ℕ) (start w : ℕ) → start + w ≤ length b → length z ≡ w → length (take start b ++ (z ++ drop w (drop start b))) ≡ length b
 length-over z b start w h lz =
@@ -236,11 +236,11 @@ no-length : (l : List ℕ) → length l ≡ 0 → l ≡ []
 no-length [] e = refl
 no-length (x ∷ l) e = absurd (omega arith)
 
-pub opened-inside : {s : Shape} {k : ℕ} {b : List ℕ} → Opened s k b → k < s .capacity → lineStart (cells s) k + lineLength (cells s) ≤ length b
+pub opened-inside : {s : Shape} {k : ℕ} {b : List ℕ} → Opened s k b → k < s .capacity → lineStart (gridSize s) k + lineLength (gridSize s) ≤ length b
 unfolding lineStart layoutLength
 opened-inside {s} {k} {b} o room =
-    let q : (k + 1) * lineLength (cells s) ≤ s .capacity * lineLength (cells s) = mul-le-mul-right (lineLength (cells s)) (omega arith) in
-    rw (o .sized) (omega (arith, add-mul k 1 (lineLength (cells s))))
+    let q : (k + 1) * lineLength (gridSize s) ≤ s .capacity * lineLength (gridSize s) = mul-le-mul-right (lineLength (gridSize s)) (omega arith) in
+    rw (o .sized) (omega (arith, add-mul k 1 (lineLength (gridSize s))))
 
 pub opened-head : {s : Shape} (b : List ℕ) → length b ≡ layoutLength s → Opened s 0 (headLine s 0 ++ drop 31 b)
 unfolding flatten layoutLength
@@ -251,16 +251,16 @@ opened-head {s} b e = record {
 }
 
 pub opened-next : {s : Shape} {k : ℕ} {b : List ℕ} → Opened s k b → k < s .capacity →
-    Opened s (k + 1) (take (lineStart (cells s) k) b ++ (blankLine (cells s) ++ drop (lineLength (cells s)) (drop (lineStart (cells s) k) b)))
+    Opened s (k + 1) (take (lineStart (gridSize s) k) b ++ (blankLine (gridSize s) ++ drop (lineLength (gridSize s)) (drop (lineStart (gridSize s) k) b)))
 opened-next {s} {k} {b} o room = record {
-  sized = length-over (blankLine (cells s)) b (lineStart (cells s) k) (lineLength (cells s)) (opened-inside o room) (length-blank (cells s)) ∙ o .sized;
-  rest = drop (lineLength (cells s)) (o .rest);
+  sized = length-over (blankLine (gridSize s)) b (lineStart (gridSize s) k) (lineLength (gridSize s)) (opened-inside o room) (length-blank (gridSize s)) ∙ o .sized;
+  rest = drop (lineLength (gridSize s)) (o .rest);
   bytes =
-      put-over (headLine s 0) (blankLines (cells s) k) (take (lineLength (cells s)) (o .rest)) (drop (lineLength (cells s)) (o .rest)) (blankLine (cells s)) b (lineStart (cells s) k) (lineLength (cells s))
-      (rw (take-append-drop (lineLength (cells s)) (o .rest)) (o .bytes))
+      put-over (headLine s 0) (blankLines (gridSize s) k) (take (lineLength (gridSize s)) (o .rest)) (drop (lineLength (gridSize s)) (o .rest)) (blankLine (gridSize s)) b (lineStart (gridSize s) k) (lineLength (gridSize s))
+      (rw (take-append-drop (lineLength (gridSize s)) (o .rest)) (o .bytes))
       (blank-start s k)
-      (length-take-le (lineLength (cells s)) (o .rest) (omega (arith, length-opened o, opened-inside o room)))
-      ∙ ap (λ (l : List ℕ). headLine s 0 ++ l) (blanks-snoc (cells s) k (drop (lineLength (cells s)) (o .rest)));
+      (length-take-le (lineLength (gridSize s)) (o .rest) (omega (arith, length-opened o, opened-inside o room)))
+      ∙ ap (λ (l : List ℕ). headLine s 0 ++ l) (blanks-snoc (gridSize s) k (drop (lineLength (gridSize s)) (o .rest)));
 }
 
 -- the same in the form of a part put back after it is written
@@ -271,6 +271,6 @@ pub opened-all : {s : Shape} {b : List ℕ} → Opened s (s .capacity) b → b �
 unfolding lineStart layoutLength flatten
 opened-all {s} {b} o =
     o .bytes
-    ∙ ap (λ (l : List ℕ). headLine s 0 ++ (blankLines (cells s) (s .capacity) ++ l)) (no-length (o .rest) (omega (arith, length-opened o, o .sized)))
-    ∙ ap (λ (l : List ℕ). headLine s 0 ++ l) (append-nil (blankLines (cells s) (s .capacity)))
+    ∙ ap (λ (l : List ℕ). headLine s 0 ++ (blankLines (gridSize s) (s .capacity) ++ l)) (no-length (o .rest) (omega (arith, length-opened o, o .sized)))
+    ∙ ap (λ (l : List ℕ). headLine s 0 ++ l) (append-nil (blankLines (gridSize s) (s .capacity)))
     ∙ sym (layout-is s [] 0 (s .capacity) refl (omega arith))

@@ -22,7 +22,7 @@ use Rattle.grids.specs.Grids.{isGrid}
 use Rattle.grids.specs.Questions.{inRange}
 use Rattle.grids.proofs.OrderLaws.{≺-trans, less-decides, equal-eq, eq-equal}
 use Rattle.grids.proofs.QuestionLaws.{range-yes, yes-range, grid-decides}
-use Rattle.layout.specs.Layout.{Shape, Register, cells, layout, decode, InLimits, Ascends, IsRegister, inLimits, ascending, isRegister, laidOut}
+use Rattle.layout.specs.Layout.{Shape, Register, layout, decode, InLimits, Ascends, IsRegister, inLimits, ascending, isRegister, laidOut}
 use Rattle.layout.proofs.LayoutLaws.{Printable, decode-layout}
 
 pub limits-decides : (s : Shape) → (inLimits s ≡ true) ↔ InLimits s
@@ -109,8 +109,8 @@ register-printable r o =
       top-small = omega (arith, l .top-limit);
       capacity-small = omega arith;
       count-small = omega arith;
-      entries-sized = λ g m. o .entry-grids g m .cells;
-      entries-small = λ g m k h. let i = o .entry-grids g m in omega (arith, l .top-limit, i .capped k (omega (arith, i .cells)));
+      entries-sized = λ g m. o .entry-grids g m .sized;
+      entries-small = λ g m k h. let i = o .entry-grids g m in omega (arith, l .top-limit, i .capped k (omega (arith, i .sized)));
     }
 
 pub question5-layouts : (b : List ℕ) → (laidOut b ≡ true) ↔ ((r : Register) × IsRegister r × (b ≡ layout r))

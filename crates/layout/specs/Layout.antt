@@ -2,7 +2,7 @@
 --
 --   Shape          ==  rows, columns, top and capacity, as opened
 --   Register       ==  a shape and the entries
---   cells s        ==  how many cells a grid of the shape has
+--   gridSize s     ==  how many cells a grid of the shape has
 --   fields w l     ==  the numbers of l, w wide each
 --   headLength     ==  how many bytes line 1 has
 --   entryWidth size  ==  how many bytes the numbers of an entry with so many cells take
@@ -13,6 +13,7 @@
 --   layout r       ==  the register's bytes: line 1, the entries, and blank lines up to the capacity
 --   layoutLength s ==  how many bytes that is
 --   numberAt w i b ==  the number in the w bytes from i on
+--   cellsOf size l ==  the cells that a line states
 --   count b        ==  the count that the bytes state
 --   entryAt size b e  ==  the cells that line e of the entries states, the first being 0
 --   decodeShape b  ==  the shape that the bytes state
@@ -43,8 +44,8 @@ pub record Register : Type 0 where
   pub shape : Shape
   pub entries : List (List ℕ)
 
-abbrev pub cells : Shape → ℕ
-cells s = s .rows * s .columns
+abbrev pub gridSize : Shape → ℕ
+gridSize s = s .rows * s .columns
 
 unfoldable pub fields : ℕ → List ℕ → List ℕ
 fields w l = flatten (map (field w) l)
@@ -70,13 +71,16 @@ headLine s n = fields 6 (s .rows ∷ s .columns ∷ s .top ∷ s .capacity ∷ n
 unfoldable pub layout : Register → List ℕ
 layout r =
     headLine (r .shape) (length (r .entries))
-    ++ (flatten (map entryLine (r .entries)) ++ flatten (replicate (r .shape .capacity - length (r .entries)) (blankLine (cells (r .shape)))))
+    ++ (flatten (map entryLine (r .entries)) ++ flatten (replicate (r .shape .capacity - length (r .entries)) (blankLine (gridSize (r .shape)))))
 
 unfoldable pub layoutLength : Shape → ℕ
-layoutLength s = headLength + s .capacity * lineLength (cells s)
+layoutLength s = headLength + s .capacity * lineLength (gridSize s)
 
 unfoldable pub numberAt : ℕ → ℕ → List ℕ → ℕ
 numberAt w i b = value (take w (drop i b))
+
+unfoldable pub cellsOf : ℕ → List ℕ → List ℕ
+cellsOf size l = tabulate 0 size (λ k. numberAt 3 (3 * k) l)
 
 unfoldable pub count : List ℕ → ℕ
 count b = numberAt 6 24 b
@@ -88,7 +92,7 @@ unfoldable pub decodeShape : List ℕ → Shape
 decodeShape b = record { rows = numberAt 6 0 b; columns = numberAt 6 6 b; top = numberAt 6 12 b; capacity = numberAt 6 18 b }
 
 unfoldable pub decode : List ℕ → Register
-decode b = record { shape = decodeShape b; entries = tabulate 0 (count b) (entryAt (cells (decodeShape b)) b) }
+decode b = record { shape = decodeShape b; entries = tabulate 0 (count b) (entryAt (gridSize (decodeShape b)) b) }
 
 pub record InLimits (s : Shape) : Type 0 where
   pub grid-limits : Limits (s .rows) (s .columns) (s .top)

@@ -1,8 +1,7 @@
--- The lines of a register's bytes, by their places; question 5 line by line.
+-- The lines of a register's bytes, by their places; question 5 line by line. Between functions: no answer of a call is defined here.
 --
 --   lineStart size e           ==  where line e of the entries begins, the first being 0
 --   lineAt size b e            ==  the bytes of that line, its line feed included
---   cellsOf size l             ==  the cells that a line states
 --   EntryLine size top l       ==  l is the line of an entry whose cells are at most top
 --   EntriesLaid size top n b   ==  the first n lines are lines of entries, each of which comes before the next
 --   BlanksLaid size from to b  ==  the lines from `from` up to `to` are blank
@@ -12,19 +11,15 @@ use mathlib.Core.List.{List}
 use mathlib.Core.Bool.{true}
 use Prim.Native.Nat.{ℕ, _+_, _*_, _≤_, _<_}
 use lib.ListN.{length, take, drop}
-use Rattle.permutations.specs.Lists.{tabulate}
 use Rattle.grids.specs.Order.{_≺_}
 use Rattle.grids.specs.Grids.{capped}
-use Rattle.layout.specs.Layout.{headLength, lineLength, entryLine, blankLine, headLine, layoutLength, numberAt, count, decodeShape, InLimits}
+use Rattle.layout.specs.Layout.{cellsOf, headLength, lineLength, entryLine, blankLine, headLine, layoutLength, count, decodeShape, InLimits}
 
 unfoldable pub lineStart : ℕ → ℕ → ℕ
 lineStart size e = headLength + e * lineLength size
 
 unfoldable pub lineAt : ℕ → List ℕ → ℕ → List ℕ
 lineAt size b e = take (lineLength size) (drop (lineStart size e) b)
-
-unfoldable pub cellsOf : ℕ → List ℕ → List ℕ
-cellsOf size l = tabulate 0 size (λ k. numberAt 3 (3 * k) l)
 
 pub record EntryLine (size top : ℕ) (l : List ℕ) : Type 0 where
   pub bytes : l ≡ entryLine (cellsOf size l)

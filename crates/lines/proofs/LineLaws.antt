@@ -21,8 +21,8 @@ use lib.ListN.{length, take, drop, set, getD, replicate, length-take, length-dro
 use lib.Seq.{take-suc, take-all, drop-cons, set-at, take-at, drop-at, getD-take, getD-drop, getD-append-add, length-take-le, append-snoc, drop-drop}
 use Rattle.grids.proofs.QuestionLaws.{capped-at}
 use Rattle.layout.specs.Decimal.{field}
-use Rattle.layout.specs.Layout.{fields, entryWidth, lineLength, entryLine, blankLine, numberAt}
-use Rattle.layout.specs.Lines.{cellsOf, EntryLine}
+use Rattle.layout.specs.Layout.{fields, entryWidth, lineLength, entryLine, blankLine, numberAt, cellsOf}
+use Rattle.layout.specs.Lines.{EntryLine}
 use Rattle.layout.proofs.LayoutLaws.{length-entry}
 use Rattle.layout.proofs.LineLaws.{length-cells, cell-at}
 use Rattle.lines.proofs.FillLaws.{Filled, fill-none, fill, fill-part, filled, filled-whole}
@@ -60,18 +60,18 @@ fields-snoc w (y ∷ l) x = ap (λ (r : List ℕ). field w y ++ r) (fields-snoc 
 
 pub record EntryTo (k i : ℕ) (g l o : List ℕ) : Type 0 where
   pub place : i ≡ 3 * k
-  pub cells : k ≤ length g
+  pub within : k ≤ length g
   pub so-far : Filled (fields 3 (take k g)) l i o
 
 pub entry-none : (g l : List ℕ) → EntryTo 0 0 g l l
 unfolding fields flatten
-entry-none g l = record { place = refl; cells = omega arith; so-far = fill-none l }
+entry-none g l = record { place = refl; within = omega arith; so-far = fill-none l }
 
 pub entry-next : {k i : ℕ} {g l o : List ℕ} (ys : List ℕ) → EntryTo k i g l o → k < length g → i + 3 ≤ length l → ys ≡ field (length (take (i + 3 - i) (drop i o))) (getD g k 0) →
     EntryTo (k + 1) (i + 3) g l (take i o ++ (ys ++ drop (i + 3 - i) (drop i o)))
 entry-next {k} {i} {g} {l} {o} ys t h b y = record {
   place = omega (arith, t .place);
-  cells = omega arith;
+  within = omega arith;
   so-far =
       let z : i + 3 - i ≡ 3 = omega arith in
       fill-part _ (i + 3) (getD g k 0) ys (t .so-far) (omega arith) b y
@@ -81,9 +81,9 @@ entry-next {k} {i} {g} {l} {o} ys t h b y = record {
 pub entry-all : {k i : ℕ} {g l o : List ℕ} → EntryTo k i g l o → length g ≤ k → lineLength (length g) ≤ length l → set o i 10 ≡ entryLine g ++ drop (lineLength (length g)) l
 unfolding entryLine lineLength entryWidth
 entry-all {k} {i} {g} {l} {o} t h b =
-    filled (fields 3 g ++ (10 ∷ [])) (lineLength (length g)) (fill _ 10 (t .so-far) (omega (arith, t .place, t .cells)) refl)
+    filled (fields 3 g ++ (10 ∷ [])) (lineLength (length g)) (fill _ 10 (t .so-far) (omega (arith, t .place, t .within)) refl)
     (ap (λ (r : List ℕ). fields 3 r ++ (10 ∷ [])) (take-all k g h))
-    (omega (arith, t .place, t .cells))
+    (omega (arith, t .place, t .within))
 
 pub record BlankTo (k : ℕ) (l o : List ℕ) : Type 0 where
   pub so-far : Filled (replicate k 32) l k o

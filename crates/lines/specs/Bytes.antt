@@ -1,4 +1,4 @@
--- Bytes as numbers. A cell's field is two spaces and a digit, or a space, a 1 and a digit.
+-- Bytes as numbers. A cell's field is two spaces and a digit, or a space, a 1 and a digit. Between functions: no answer of a call is defined here.
 --
 --   above byte base     ==  how far a byte is above another, round the 256
 --   ten byte            ==  10 for a 1, 0 for another byte

@@ -1,4 +1,4 @@
--- Line 1 as the code holds it.
+-- Line 1 as the code holds it. Between functions: no answer of a call is defined here.
 --
 --   shapeOf h    ==  the shape that its numbers are
 --   States b h   ==  the bytes b state these numbers

@@ -1,4 +1,4 @@
--- Tables with three bytes for each cell.
+-- Tables with three bytes for each cell. Between functions: no answer of a call is defined here.
 --
 --   put table k a b c     ==  a table with a, b and c written, as the bytes of cell k
 --   Thirds table n a b f  ==  the bytes of each cell k < n are a, b and f k

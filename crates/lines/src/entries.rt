@@ -5,8 +5,8 @@ ghost use mathlib.Core.Path.{_≡_};
 ghost use mathlib.Core.List.{_++_};
 ghost use Prim.Native.Nat.{_+_, _*_, _≤_};
 ghost use lib.ListN.{length, take, drop};
-ghost use Rattle.layout.specs.Layout.{headLength, lineLength, entryLine, blankLine};
-ghost use Rattle.layout.specs.Lines.{cellsOf, EntryLine};
+ghost use Rattle.layout.specs.Layout.{headLength, lineLength, entryLine, blankLine, cellsOf};
+ghost use Rattle.layout.specs.Lines.{EntryLine};
 
 // How many bytes the line of an entry with so many cells has, the line feed included.
 pub fn line_length(size: usize) -> usize

@@ -20,18 +20,18 @@ use Rattle.grids.specs.Questions.{Question, firstNo, question1, question2, ques
 use Rattle.grids.proofs.QuestionLaws.{AllYes, Numbered, first-no-zero, range-yes, yes-range, grid-of, grid-capped, all-one, limits-asked, lengths-asked, cells-asked}
 use Rattle.bounds.specs.Bounds.{IsBounds}
 use Rattle.bounds.proofs.BoundsLaws.{bounds-asked, bounds-numbered}
-use Rattle.layout.specs.Layout.{Shape, Register, cells, layoutLength, InLimits, laidOut}
+use Rattle.layout.specs.Layout.{Shape, Register, gridSize, layoutLength, InLimits, laidOut}
 use Rattle.machine.specs.Calls.{question4, question5, gridQuestions, holds, question9, question10, openQuestions, enterQuestions, strikeQuestions, fitQuestions}
 use Rattle.machine.specs.Valid.{numbersNo}
 
 -- ---- a grid's questions
 
-grid-yes : (s : Shape) (g : List ℕ) → (question6 (cells s) (g ∷ []) .answer ≡ true) → (question7 (s .top) (g ∷ []) .answer ≡ true) → IsGrid (s .rows) (s .columns) (s .top) g
+grid-yes : (s : Shape) (g : List ℕ) → (question6 (gridSize s) (g ∷ []) .answer ≡ true) → (question7 (s .top) (g ∷ []) .answer ≡ true) → IsGrid (s .rows) (s .columns) (s .top) g
 grid-yes s g p q =
-    grid-of (s .rows) (s .columns) (s .top) g (lengths-asked (cells s) (g ∷ []) .0 p g (List·Memᴰ·head refl)) (cells-asked (s .top) (g ∷ []) .0 q g (List·Memᴰ·head refl))
+    grid-of (s .rows) (s .columns) (s .top) g (lengths-asked (gridSize s) (g ∷ []) .0 p g (List·Memᴰ·head refl)) (cells-asked (s .top) (g ∷ []) .0 q g (List·Memᴰ·head refl))
 
-yes-length : (s : Shape) (g : List ℕ) → IsGrid (s .rows) (s .columns) (s .top) g → question6 (cells s) (g ∷ []) .answer ≡ true
-yes-length s g i = lengths-asked (cells s) (g ∷ []) .1 (all-one (λ x. length x ≡ cells s) g (i .cells))
+yes-length : (s : Shape) (g : List ℕ) → IsGrid (s .rows) (s .columns) (s .top) g → question6 (gridSize s) (g ∷ []) .answer ≡ true
+yes-length s g i = lengths-asked (gridSize s) (g ∷ []) .1 (all-one (λ x. length x ≡ gridSize s) g (i .sized))
 
 yes-cells : (s : Shape) (g : List ℕ) → IsGrid (s .rows) (s .columns) (s .top) g → question7 (s .top) (g ∷ []) .answer ≡ true
 yes-cells s g i = cells-asked (s .top) (g ∷ []) .1 (all-one (λ x. capped (s .top) x ≡ true) g (grid-capped (s .rows) (s .columns) (s .top) g i))
@@ -122,11 +122,11 @@ module _ (b : List ℕ) (x : Register) (g r : List ℕ) where
 
 fit-numbered : (b : List ℕ) (x : Register) (low high : List ℕ) → Numbered (fitQuestions b x low high)
 unfolding fitQuestions question5
-fit-numbered b x low high = (omega arith, bounds-numbered (cells (x .shape)) (x .shape .top) low high)
+fit-numbered b x low high = (omega arith, bounds-numbered (gridSize (x .shape)) (x .shape .top) low high)
 
-pub fit-pass : (b : List ℕ) (x : Register) (low high : List ℕ) → (firstNo (fitQuestions b x low high) ≡ 0) ↔ ((laidOut b ≡ true) × IsBounds (cells (x .shape)) (x .shape .top) low high)
+pub fit-pass : (b : List ℕ) (x : Register) (low high : List ℕ) → (firstNo (fitQuestions b x low high) ≡ 0) ↔ ((laidOut b ≡ true) × IsBounds (gridSize (x .shape)) (x .shape .top) low high)
 unfolding fitQuestions question5
 fit-pass b x low high =
     let z = first-no-zero (fitQuestions b x low high) (fit-numbered b x low high) in
-    let a = bounds-asked (cells (x .shape)) (x .shape .top) low high in
+    let a = bounds-asked (gridSize (x .shape)) (x .shape .top) low high in
     (λ e. let h = z .0 e in (h .0, a .0 (h .1)), λ h. z .1 (h .0, a .1 (h .1)))

@@ -2,7 +2,7 @@
 --
 --   inserted-register, reduced-register  ==  a register with a new entry, where there is room, and one with fewer
 --   Leaves b o             ==  the outcome o leaves the register's bytes b the bytes of a register of the same shape
---   entered-leaves, struck-leaves, fitted-leaves  ==  what the calls leave of bytes that are laid out
+--   entered-leaves, struck-leaves  ==  what the calls leave of bytes that are laid out
 --   unlaid-entered, unlaid-struck  ==  and of others: themselves
 --   entered-laid, struck-laid  ==  question 5 still gets a yes
 --   opened-length, entered-length, struck-length  ==  no call changes the length of the slice
@@ -17,7 +17,7 @@ use lib.Dec.{ltb}
 use borrow.Author.Tests.{ltb-true}
 use Rattle.permutations.specs.Lists.{select}
 use Rattle.permutations.proofs.BoolLaws.{and-yes, or-yes, yes-or-no}
-use Rattle.permutations.proofs.ListLaws.{of-select, length-select}
+use Rattle.permutations.proofs.SelectLaws.{of-select, length-select}
 use Rattle.grids.specs.Order.{equal}
 use Rattle.grids.specs.Grids.{IsGrid}
 use Rattle.grids.specs.Questions.{firstNo}
@@ -25,11 +25,11 @@ use Rattle.grids.proofs.OrderLaws.{equal-eq}
 use Rattle.grids.proofs.LeastLaws.{least-grid}
 use Rattle.grids.proofs.QuestionLaws.{firstNo-stop}
 use Rattle.layout.specs.Layout.{Shape, Register, layout, layoutLength, decode, IsRegister, isRegister, laidOut}
-use Rattle.machine.specs.Calls.{Outcome, refusal, answered, question5, holds, leastIn, insert, without, openQuestions, enterQuestions, strikeQuestions, enterInto, strikeFrom, enterRegister, strikeRegister, opened, entered, struck, fitted}
+use Rattle.machine.specs.Calls.{Outcome, refusal, answered, question5, holds, leastIn, insert, without, openQuestions, enterQuestions, strikeQuestions, enterInto, strikeFrom, enterRegister, strikeRegister, opened, entered, struck}
 use Rattle.layout.proofs.LayoutLaws.{length-layout}
 use Rattle.layout.proofs.RegisterLaws.{register-decides, question5-layouts}
 use Rattle.machine.proofs.AskedLaws.{open-pass, enter-pass}
-use Rattle.machine.proofs.RefusalLaws.{entered-refused, struck-refused, fit-unchanged}
+use Rattle.machine.proofs.RefusalLaws.{entered-refused, struck-refused}
 use Rattle.machine.proofs.SortedLaws.{in-holds, of-insert, insert-asc, length-insert, select-asc}
 
 -- ---- registers
@@ -112,9 +112,6 @@ struck-leaves b g e = answered-leaves _ b _ e λ z. record {
   bytes-are = refl;
 }
 
-pub fitted-leaves : (b low high : List ℕ) → laidOut b ≡ true → Leaves b (fitted b low high)
-fitted-leaves b low high e = unchanged b (fitted b low high) e (fit-unchanged b low high)
-
 -- ---- bytes that are not laid out stay as they are
 
 pub unlaid-entered : (b g : List ℕ) → laidOut b ≡ false → entered b g ≡ refusal 5 b
@@ -137,7 +134,7 @@ pub struck-laid : (b g : List ℕ) → laidOut b ≡ true → laidOut (struck b 
 struck-laid b g e = laid-after b (struck b g) (struck-leaves b g e)
 
 register-length : (r : Register) → IsRegister r → length (layout r) ≡ layoutLength (r .shape)
-register-length r o = length-layout r (λ g m. o .entry-grids g m .cells) (o .count-fits)
+register-length r o = length-layout r (λ g m. o .entry-grids g m .sized) (o .count-fits)
 
 length-after : (b : List ℕ) (o : Outcome) → laidOut b ≡ true → Leaves b o → length (o .bytes) ≡ length b
 length-after b o e l =

@@ -19,7 +19,7 @@ use native.Mathlib.Omega.{arith}
 use lib.ListN.{length}
 use lib.Dec.{eqb}
 use Rattle.permutations.specs.Lists.{select, every}
-use Rattle.permutations.proofs.ListLaws.{select-none}
+use Rattle.permutations.proofs.SelectLaws.{select-none}
 use Rattle.grids.specs.Questions.{firstNo}
 use Rattle.machine.proofs.AskedLaws.{open-pass}
 use Rattle.machine.proofs.CallListLaws.{meets-has}
@@ -30,7 +30,7 @@ use Rattle.bounds.specs.Prune.{boundsQuestions}
 use Rattle.bounds.proofs.KeptLaws.{obeyed-decides}
 use Rattle.bounds.proofs.AllpermLaws.{allperm-decides, least-allperm}
 use Rattle.bounds.proofs.PruneLaws.{none-in-bounds}
-use Rattle.layout.specs.Layout.{Shape, Register, cells, layout, layoutLength, count, decode, InLimits}
+use Rattle.layout.specs.Layout.{Shape, Register, gridSize, layout, layoutLength, count, decode, InLimits}
 use Rattle.machine.specs.Calls.{Outcome, answered, leastIn, holds, opened, fitted}
 use Rattle.machine.specs.CallLists.{Call, enter, strike, fit, Implementation, registerCalls, Meets, called, run, left, accepted}
 use Rattle.machine.specs.Machine.{sorted, shown, stepUnless, fitClasses, step, outcome, outcomes}
@@ -104,35 +104,35 @@ open-answers s b l z = ap (λ (k : ℕ). answered k b (record { number = 0; plac
 
 -- an accepted fit counts the classes whose least grid lies in the bounds as sent
 module _ (s : Shape) (l : Grids) (g : Good s l) (low high : List ℕ) where
-  fit-place : fitClasses s l low high .place ≡ length (select (inBounds (cells s) (s .top) low high) l)
+  fit-place : fitClasses s l low high .place ≡ length (select (inBounds (gridSize s) (s .top) low high) l)
   unfolding fitClasses
-  fit-place = go (obeyed rule (cells s) (s .top) low high) refl
+  fit-place = go (obeyed rule (gridSize s) (s .top) low high) refl
     where
       rule : List ℕ → Bool
       rule = allperm (s .rows) (s .columns)
 
-      none : obeyed rule (cells s) (s .top) low high ≡ false → Obeyed (Allperm (s .rows) (s .columns)) (cells s) (s .top) low high → ⊥
-      none e o = true≢false (sym (obeyed-decides (Allperm (s .rows) (s .columns)) rule (allperm-decides (s .rows) (s .columns)) (cells s) (s .top) low high .1 o) ∙ e)
+      none : obeyed rule (gridSize s) (s .top) low high ≡ false → Obeyed (Allperm (s .rows) (s .columns)) (gridSize s) (s .top) low high → ⊥
+      none e o = true≢false (sym (obeyed-decides (Allperm (s .rows) (s .columns)) rule (allperm-decides (s .rows) (s .columns)) (gridSize s) (s .top) low high .1 o) ∙ e)
 
-      go : (t : Bool) → obeyed rule (cells s) (s .top) low high ≡ t → fitClasses s l low high .place ≡ length (select (inBounds (cells s) (s .top) low high) l)
+      go : (t : Bool) → obeyed rule (gridSize s) (s .top) low high ≡ t → fitClasses s l low high .place ≡ length (select (inBounds (gridSize s) (s .top) low high) l)
       go true e = rw (e, fitClasses)
       go false e =
           rw (e, fitClasses)
-          (ap length (sym (select-none (inBounds (cells s) (s .top) low high) l (λ r m t. none-in-bounds (s .rows) (s .columns) (s .top) low high (none e) r (least-allperm (s .rows) (s .columns) r r (self-least s l g r m)) t))))
+          (ap length (sym (select-none (inBounds (gridSize s) (s .top) low high) l (λ r m t. none-in-bounds (s .rows) (s .columns) (s .top) low high (none e) r (least-allperm (s .rows) (s .columns) r r (self-least s l g r m)) t))))
 
-  pub fit-counts : accepted (fitted (shown s l) low high .number) ≡ true → fitted (shown s l) low high .place ≡ length (select (inBounds (cells s) (s .top) low high) l)
+  pub fit-counts : accepted (fitted (shown s l) low high .number) ≡ true → fitted (shown s l) low high .place ≡ length (select (inBounds (gridSize s) (s .top) low high) l)
   unfolding stepUnless outcome
   fit-counts h = ap (λ (o : Outcome). o .place) same ∙ go k refl (sym (ap (λ (o : Outcome). accepted (o .number)) same) ∙ h)
     where
       k : ℕ
-      k = firstNo (boundsQuestions (cells s) (s .top) low high)
+      k = firstNo (boundsQuestions (gridSize s) (s .top) low high)
 
       same : fitted (shown s l) low high ≡ outcome s (stepUnless k l (fitClasses s l low high))
       same = fit-same s l g low high
 
-      go : (j : ℕ) → k ≡ j → accepted (stepUnless j l (fitClasses s l low high) .number) ≡ true → stepUnless j l (fitClasses s l low high) .place ≡ length (select (inBounds (cells s) (s .top) low high) l)
+      go : (j : ℕ) → k ≡ j → accepted (stepUnless j l (fitClasses s l low high) .number) ≡ true → stepUnless j l (fitClasses s l low high) .place ≡ length (select (inBounds (gridSize s) (s .top) low high) l)
       go zero e a = fit-place
-      go (suc j) e a = absurd (true≢false (sym a ∙ bounds-refused (cells s) (s .top) low high j e))
+      go (suc j) e a = absurd (true≢false (sym a ∙ bounds-refused (gridSize s) (s .top) low high j e))
 
 pub shown-count : (s : Shape) (l : Grids) → Good s l → count (shown s l) ≡ length l
 unfolding shown registerOf
@@ -159,7 +159,7 @@ module _ (s : Shape) (slice : List ℕ) (e : opened s slice .number ≡ 0) (call
   unfolding end
   end-bytes = ap (λ (b : List ℕ). left registerCalls b calls) (opened-shown s slice e) ∙ left-shown s calls [] (opened-good s slice e)
 
-  end-live : (a : List ℕ) → length a ≡ cells s → live registerCalls s (opened s slice .bytes) calls a ≡ holds (leastIn s a) end
+  end-live : (a : List ℕ) → length a ≡ gridSize s → live registerCalls s (opened s slice .bytes) calls a ≡ holds (leastIn s a) end
   unfolding end
   end-live = live-machine registerCalls s (opened s slice .bytes) calls end-run
 
@@ -181,17 +181,17 @@ module _ (s : Shape) (slice slice′ : List ℕ) (e : opened s slice .number ≡
   l = end s slice′ e′ calls′
 
   bytes-live : (left registerCalls (opened s slice .bytes) calls ≡ left registerCalls (opened s slice′ .bytes) calls′)
-      ↔ ((a : List ℕ) → length a ≡ cells s → live registerCalls s (opened s slice .bytes) calls a ≡ live registerCalls s (opened s slice′ .bytes) calls′ a)
+      ↔ ((a : List ℕ) → length a ≡ gridSize s → live registerCalls s (opened s slice .bytes) calls a ≡ live registerCalls s (opened s slice′ .bytes) calls′ a)
   unfolding k l shown
   bytes-live = (to, back)
     where
-      to : left registerCalls (opened s slice .bytes) calls ≡ left registerCalls (opened s slice′ .bytes) calls′ → (a : List ℕ) → length a ≡ cells s → live registerCalls s (opened s slice .bytes) calls a ≡ live registerCalls s (opened s slice′ .bytes) calls′ a
+      to : left registerCalls (opened s slice .bytes) calls ≡ left registerCalls (opened s slice′ .bytes) calls′ → (a : List ℕ) → length a ≡ gridSize s → live registerCalls s (opened s slice .bytes) calls a ≡ live registerCalls s (opened s slice′ .bytes) calls′ a
       to p a z =
           end-live s slice e calls a z ∙ sym (holds-sorted (leastIn s a) k)
           ∙ ap (holds (leastIn s a)) (shown-inj s k l (end-good s slice e calls) (end-good s slice′ e′ calls′) (sym (end-bytes s slice e calls) ∙ p ∙ end-bytes s slice′ e′ calls′))
           ∙ holds-sorted (leastIn s a) l ∙ sym (end-live s slice′ e′ calls′ a z)
 
-      back : ((a : List ℕ) → length a ≡ cells s → live registerCalls s (opened s slice .bytes) calls a ≡ live registerCalls s (opened s slice′ .bytes) calls′ a) → left registerCalls (opened s slice .bytes) calls ≡ left registerCalls (opened s slice′ .bytes) calls′
+      back : ((a : List ℕ) → length a ≡ gridSize s → live registerCalls s (opened s slice .bytes) calls a ≡ live registerCalls s (opened s slice′ .bytes) calls′ a) → left registerCalls (opened s slice .bytes) calls ≡ left registerCalls (opened s slice′ .bytes) calls′
       back f =
           end-bytes s slice e calls
           ∙ ap (λ (x : Grids). layout (record { shape = s; entries = x }))

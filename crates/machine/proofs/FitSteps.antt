@@ -8,14 +8,13 @@
 --   fit-unlaid, fit-lengths ==  question 5 gets a no; question 6 does
 --   fit-bounds              ==  what prune leaves on the copies are bounds
 --   fit-none, fit-counts    ==  prune's number is not 0; it is 0, and the entries in the pruned bounds are counted
-use mathlib.Core.Path.{_≡_, refl, sym, ap, ap₂, _∙_}
+use mathlib.Core.Path.{_≡_, refl, sym, ap, _∙_}
 use mathlib.Core.List.{List, [], _∷_, List·Memᴰ·head, List·Memᴰ·tail}
-use mathlib.Core.Bool.{Bool, true, false}
+use mathlib.Core.Bool.{true, false}
 use mathlib.Core.Logic.{_⊎_, inl, inr, _↔_}
-use Prim.Native.Nat.{ℕ, zero, suc, _*_, _≤_, _<_}
+use Prim.Native.Nat.{ℕ, zero, suc, _*_}
 use native.Mathlib.Omega.{arith}
 use lib.ListN.{length}
-use lib.Dec.{eqb}
 use Rattle.permutations.specs.Lists.{select}
 use Rattle.permutations.proofs.BoolLaws.{refuted, decided}
 use Rattle.grids.specs.Questions.{firstNo, Limits, question6}
@@ -23,15 +22,15 @@ use Rattle.grids.proofs.QuestionLaws.{firstNo-pass, firstNo-stop, limits-pass, 
 use Rattle.bounds.specs.Bounds.{IsBounds, inBounds}
 use Rattle.bounds.specs.Kept.{Obeyed, obeyed}
 use Rattle.bounds.specs.Allperm.{Allperm, allperm}
-use Rattle.bounds.specs.Prune.{Pruned, boundsQuestions, pruneQuestions, pruned, question8}
+use Rattle.bounds.specs.Prune.{Pruned, boundsQuestions, pruneQuestions, pruned}
 use Rattle.bounds.specs.Demand2.{Prunes}
 use Rattle.bounds.proofs.AllpermLaws.{allperm-decides}
 use Rattle.bounds.proofs.KeptLaws.{obeyed-decides, kept-is-bounds}
 use Rattle.bounds.proofs.PruneLaws.{pruned-refused, pruned-some, pruned-none}
-use Rattle.layout.specs.Layout.{Shape, Register, cells, decodeShape, decode, laidOut}
+use Rattle.layout.specs.Layout.{Shape, Register, gridSize, decodeShape, decode, laidOut}
 use Rattle.layout.proofs.LineLaws.{laid-lines}
-use Rattle.machine.specs.Calls.{Outcome, refusal, answered, question5, fitQuestions, fitPruned, fitRegister, fitted}
-use Rattle.machine.specs.Valid.{placed, PrunesCopies}
+use Rattle.machine.specs.Calls.{refusal, answered, question5, fitQuestions, fitPruned, fitRegister, fitted, placed}
+use Rattle.machine.specs.Valid.{PrunesCopies}
 use Rattle.machine.proofs.RefusalLaws.{fitted-refused}
 
 pub prune-asked : (m n top : ℕ) (low high : List ℕ) → Limits m n top → firstNo (pruneQuestions m n top low high) ≡ firstNo (boundsQuestions (m * n) top low high)
@@ -46,7 +45,7 @@ refused-fit : (b : List ℕ) (x : Register) (p : Pruned) (k : ℕ) → p .number
 unfolding fitPruned
 refused-fit b x p k e = rw (e, fitPruned) refl
 
-counted-fit : (b : List ℕ) (x : Register) (p : Pruned) → p .number ≡ 0 → fitPruned b x p ≡ placed 0 (length (select (inBounds (cells (x .shape)) (x .shape .top) (p .low) (p .high)) (x .entries))) b
+counted-fit : (b : List ℕ) (x : Register) (p : Pruned) → p .number ≡ 0 → fitPruned b x p ≡ placed 0 (length (select (inBounds (gridSize (x .shape)) (x .shape .top) (p .low) (p .high)) (x .entries))) b
 unfolding fitPruned
 counted-fit b x p e = rw (e, fitPruned) refl
 
@@ -61,14 +60,14 @@ unfolding fitQuestions question5
 fit-unlaid b low high e = sym (fitted-refused b low high 4 (firstNo-stop (question5 b) _ e))
 
 module _ (b low high : List ℕ) (laid : laidOut b ≡ true) where
-  laid-asked : firstNo (fitQuestions b (decode b) low high) ≡ firstNo (boundsQuestions (cells (decode b .shape)) (decode b .shape .top) low high)
+  laid-asked : firstNo (fitQuestions b (decode b) low high) ≡ firstNo (boundsQuestions (gridSize (decode b .shape)) (decode b .shape .top) low high)
   unfolding fitQuestions question5
   laid-asked = firstNo-pass (question5 b) _ laid
 
-  pub fit-lengths : ((length low ≡ cells (decode b .shape)) × (length high ≡ cells (decode b .shape)) → ⊥) → placed 6 0 b ≡ fitted b low high
+  pub fit-lengths : ((length low ≡ gridSize (decode b .shape)) × (length high ≡ gridSize (decode b .shape)) → ⊥) → placed 6 0 b ≡ fitted b low high
   unfolding boundsQuestions question6
   fit-lengths h =
-      let size = cells (decode b .shape) in
+      let size = gridSize (decode b .shape) in
       let a = lengths-asked size (low ∷ high ∷ []) in
       sym (fitted-refused b low high 5 (laid-asked ∙ firstNo-stop (question6 size (low ∷ high ∷ [])) _
       (refuted (question6 size (low ∷ high ∷ []) .answer) a (λ f. h (f low (List·Memᴰ·head refl), f high (List·Memᴰ·tail (List·Memᴰ·head refl)))))))
@@ -136,8 +135,8 @@ module _ (b low high : List ℕ) (laid : laidOut b ≡ true) {s : Shape} (e : s 
       fit-counts {r} q = ap (λ (k : ℕ). placed 0 k b) (q ∙ same) ∙ sym (shape-pruned ∙ counted-fit b (decode b) (pruned (s .rows) (s .columns) (s .top) low high) (sym (p .number-is) ∙ z))
         where
           same : length (select (inBounds (length lows) (decodeShape b .top) lows highs) (decode b .entries))
-              ≡ length (select (inBounds (cells (decode b .shape)) (decode b .shape .top) (pruned (s .rows) (s .columns) (s .top) low high .low) (pruned (s .rows) (s .columns) (s .top) low high .high)) (decode b .entries))
-          same = rw (← (p .lows-are), ← (p .highs-are), bounds-left .low-size ∙ ap cells e) refl
+              ≡ length (select (inBounds (gridSize (decode b .shape)) (decode b .shape .top) (pruned (s .rows) (s .columns) (s .top) low high .low) (pruned (s .rows) (s .columns) (s .top) low high .high)) (decode b .entries))
+          same = rw (← (p .lows-are), ← (p .highs-are), bounds-left .low-size ∙ ap gridSize e) refl
 
 -- ---- the copies
 

@@ -8,7 +8,7 @@
 --   struck-none, struck-held      ==  striking it: it does not stand at its place; it is taken out
 use mathlib.Core.Path.{_≡_, refl, sym, ap, ap₂, _∙_, subst}
 use mathlib.Core.List.{List, [], _∷_, _++_}
-use mathlib.Core.Bool.{Bool, true, false, _&&_, _||_}
+use mathlib.Core.Bool.{Bool, true, false, _&&_}
 use mathlib.Core.Logic.{_⊎_, inl, inr}
 use Prim.Native.Nat.{ℕ, zero, suc, _≤_, _<_}
 use native.Mathlib.Decide.{decLt, ℕ-discrete}
@@ -22,9 +22,9 @@ use Rattle.grids.specs.Questions.{Question, firstNo, question6, question7}
 use Rattle.grids.proofs.OrderLaws.{equal-eq, eq-equal}
 use Rattle.grids.proofs.QuestionLaws.{Numbered, first-no-stays, first-no-next}
 use Rattle.layout.specs.Layout.{Register, layout, decode, Ascends}
-use Rattle.machine.specs.Calls.{Outcome, refusal, answered, question5, gridQuestions, question9, question10, holds, placeIn, insert, without, leastIn, enterInto, strikeFrom, enterQuestions, strikeQuestions, enterRegister, strikeRegister, entered, struck}
+use Rattle.machine.specs.Calls.{Outcome, refusal, answered, question5, gridQuestions, question9, question10, holds, placeIn, insert, leastIn, enterInto, strikeFrom, enterQuestions, strikeQuestions, enterRegister, strikeRegister, entered, struck, placed}
 use Rattle.machine.specs.Places.{Lower}
-use Rattle.machine.specs.Valid.{placed, asked, enteredLeast, struckLeast}
+use Rattle.machine.specs.Valid.{asked, enteredLeast, struckLeast}
 use Rattle.machine.proofs.PlaceLaws.{place-lower, insert-lower, holds-lower, holds-not-end, holds-not-there, without-lower}
 
 pub answered-refusal : (k : ℕ) (b : List ℕ) (o : Outcome) → (k ≡ 0 → ⊥) → answered k b o ≡ refusal k b

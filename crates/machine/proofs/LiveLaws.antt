@@ -14,7 +14,7 @@ use lib.ListN.{length}
 use lib.Dec.{ltb}
 use Rattle.permutations.specs.Lists.{select, some}
 use Rattle.permutations.proofs.BoolLaws.{bool-ext}
-use Rattle.permutations.proofs.ListLaws.{of-select, in-select}
+use Rattle.permutations.proofs.SelectLaws.{of-select, in-select}
 use Rattle.grids.specs.Order.{equal}
 use Rattle.grids.specs.Grids.{oneClass}
 use Rattle.grids.specs.Least.{least}
@@ -23,7 +23,7 @@ use Rattle.grids.proofs.OrderLaws.{equal-eq, eq-equal, equal-sym}
 use Rattle.grids.proofs.GridLaws.{class-passes, passes-class}
 use Rattle.grids.proofs.LeastLaws.{class-least, least-class}
 use Rattle.bounds.specs.Prune.{boundsQuestions, question8}
-use Rattle.layout.specs.Layout.{Shape, cells}
+use Rattle.layout.specs.Layout.{Shape, gridSize}
 use Rattle.machine.specs.Calls.{gridQuestions, leastIn, holds, without}
 use Rattle.machine.specs.CallLists.{Call, enter, strike, fit, Implementation, run, accepted}
 use Rattle.machine.specs.Machine.{Step, stepUnless, enterClass, strikeClass, fitClasses, step, outcome, outcomes}
@@ -93,7 +93,7 @@ bounds-refused size top low high = refused-number (boundsQuestions size top low 
 
 -- ---- membership after a call of the machine
 
-module _ (s : Shape) (l : Grids) (a : List ℕ) (z : length a ≡ cells s) where
+module _ (s : Shape) (l : Grids) (a : List ℕ) (z : length a ≡ gridSize s) where
   -- a call of the grid g, of which `c` is what comes after its questions
   held-grid : (g : List ℕ) (x : Bool) (c : Step) →
       holds (leastIn s a) (c .next) ≡ Chosen (accepted (c .number) && equal (leastIn s g) (leastIn s a)) x (holds (leastIn s a) l) →
@@ -104,7 +104,7 @@ module _ (s : Shape) (l : Grids) (a : List ℕ) (z : length a ≡ cells s) where
     where
       go : (k : ℕ) → firstNo (gridQuestions s g) ≡ k →
           holds (leastIn s a) (stepUnless k l c .next) ≡ Chosen (accepted (stepUnless k l c .number) && oneClass (s .rows) (s .columns) g a) x (holds (leastIn s a) l)
-      go zero e = rw (class-equal (s .rows) (s .columns) g a (grid-pass s g .0 e .cells) z) h
+      go zero e = rw (class-equal (s .rows) (s .columns) g a (grid-pass s g .0 e .sized) z) h
       go (suc k) e = rw (grid-refused s g k e)
 
   held-fit : (k : ℕ) (low high : List ℕ) → holds (leastIn s a) (stepUnless k l (fitClasses s l low high) .next) ≡ holds (leastIn s a) l
@@ -116,11 +116,11 @@ module _ (s : Shape) (l : Grids) (a : List ℕ) (z : length a ≡ cells s) where
   unfolding step liveNext
   held-step (enter g) = held-grid g true (enterClass s l (leastIn s g)) (held-enter s l (leastIn s a) (leastIn s g))
   held-step (strike g) = held-grid g false (strikeClass l (leastIn s g)) (held-strike l (leastIn s a) (leastIn s g))
-  held-step (fit low high) = held-fit (firstNo (boundsQuestions (cells s) (s .top) low high)) low high
+  held-step (fit low high) = held-fit (firstNo (boundsQuestions (gridSize s) (s .top) low high)) low high
 
 -- ---- whole lists
 
-pub live-held : (s : Shape) (a : List ℕ) → length a ≡ cells s → (calls : List Call) (l : Grids) →
+pub live-held : (s : Shape) (a : List ℕ) → length a ≡ gridSize s → (calls : List Call) (l : Grids) →
     liveAfter (s .rows) (s .columns) a (holds (leastIn s a) l) calls (outcomes s l calls) ≡ holds (leastIn s a) (afterwards s l calls)
 unfolding liveAfter outcomes outcome afterwards
 live-held s a z [] l = refl
@@ -128,15 +128,15 @@ live-held s a z (c ∷ calls) l =
     ap (λ (t : Bool). liveAfter (s .rows) (s .columns) a t calls (outcomes s (step s l c .next) calls)) (sym (held-step s l a z c)) ∙ live-held s a z calls (step s l c .next)
 
 -- where an implementation answers what the machine does, from the empty set on, its live classes are those of the machine's set
-pub live-machine : (i : Implementation) (s : Shape) (b : List ℕ) (calls : List Call) → run i b calls ≡ outcomes s [] calls → (a : List ℕ) → length a ≡ cells s →
+pub live-machine : (i : Implementation) (s : Shape) (b : List ℕ) (calls : List Call) → run i b calls ≡ outcomes s [] calls → (a : List ℕ) → length a ≡ gridSize s →
     live i s b calls a ≡ holds (leastIn s a) (afterwards s [] calls)
 unfolding live holds some
 live-machine i s b calls e a z = ap (liveAfter (s .rows) (s .columns) a false calls) e ∙ live-held s a z calls []
 
 -- a good set lists the classes that it holds
-pub lists-held : (s : Shape) (l : Grids) → Good s l → (live : List ℕ → Bool) → ((a : List ℕ) → length a ≡ cells s → live a ≡ holds (leastIn s a) l) → ListsLive (s .rows) (s .columns) live l
+pub lists-held : (s : Shape) (l : Grids) → Good s l → (live : List ℕ → Bool) → ((a : List ℕ) → length a ≡ gridSize s → live a ≡ holds (leastIn s a) l) → ListsLive (s .rows) (s .columns) live l
 lists-held s l g live same = record {
   exact = λ a z. (λ h. holds-in (leastIn s a) l (sym (same a z) ∙ h), λ k. same a z ∙ in-holds (leastIn s a) l k);
-  leasts = λ r k. (g .grids r k .cells, g .leasts r k);
+  leasts = λ r k. (g .grids r k .sized, g .leasts r k);
   once = g .once;
 }

@@ -10,7 +10,7 @@ use Prim.Native.Nat.{ℕ}
 use lib.ListN.{length}
 use Rattle.permutations.specs.Lists.{select}
 use Rattle.bounds.specs.Bounds.{inBounds}
-use Rattle.layout.specs.Layout.{Shape, cells, count}
+use Rattle.layout.specs.Layout.{Shape, gridSize, count}
 use Rattle.machine.specs.CallLists.{Call, Implementation, left, accepted}
 use Rattle.machine.specs.Machine.{sorted}
 use Rattle.machine.specs.Demand3.{live, ListsLive, AfterOpen}
@@ -31,8 +31,8 @@ module _ (i : Implementation) (s : Shape) (b : List ℕ) (calls : List Call) (a 
   counts-live = a .counts ∙ sym (length-sorted (a .classes)) ∙ ap length one ∙ length-sorted l
 
   pub fits-live : (low high : List ℕ) → accepted (i .fits (left i b calls) low high .number) ≡ true →
-      i .fits (left i b calls) low high .place ≡ length (select (inBounds (cells s) (s .top) low high) l)
+      i .fits (left i b calls) low high .place ≡ length (select (inBounds (gridSize s) (s .top) low high) l)
   fits-live low high h =
       a .fits low high h ∙ sym (count-sorted _ (a .classes) (a .lists .once))
-      ∙ ap (λ (x : Grids). length (select (inBounds (cells s) (s .top) low high) x)) one
+      ∙ ap (λ (x : Grids). length (select (inBounds (gridSize s) (s .top) low high) x)) one
       ∙ count-sorted _ l (y .once)

@@ -19,7 +19,7 @@ use lib.ListN.{length}
 use lib.Dec.{ltb}
 use borrow.Author.Tests.{ltb-true}
 use Rattle.permutations.specs.Lists.{select}
-use Rattle.permutations.proofs.ListLaws.{of-select, select-ext, length-select}
+use Rattle.permutations.proofs.SelectLaws.{of-select, select-ext, length-select}
 use Rattle.grids.specs.Order.{less, equal}
 use Rattle.grids.specs.Grids.{IsGrid}
 use Rattle.grids.specs.Least.{IsLeast}
@@ -34,7 +34,7 @@ use Rattle.bounds.proofs.BoundsLaws.{bounds-pass}
 use Rattle.bounds.proofs.KeptLaws.{obeyed-decides}
 use Rattle.bounds.proofs.AllpermLaws.{allperm-decides}
 use Rattle.bounds.proofs.PruneLaws.{prune-pass, pruned-some, pruned-none, least-same-bounds}
-use Rattle.layout.specs.Layout.{Shape, Register, cells, layout, decode, InLimits, IsRegister, laidOut}
+use Rattle.layout.specs.Layout.{Shape, Register, gridSize, layout, decode, InLimits, IsRegister, laidOut}
 use Rattle.machine.specs.Calls.{Outcome, answered, question5, question9, question10, gridQuestions, leastIn, holds, placeIn, without, enterInto, strikeFrom, enterQuestions, strikeQuestions, fitQuestions, enterRegister, strikeRegister, fitPruned, fitRegister, entered, struck, fitted}
 use Rattle.machine.specs.CallLists.{Call, enter, strike, fit}
 use Rattle.machine.specs.Machine.{sorted, shown, Step, stepUnless, enterClass, strikeClass, fitClasses, step, outcome}
@@ -172,11 +172,11 @@ module _ (s : Shape) (l : Grids) (g : Good s l) where
 
   -- the least grids of the set have allperm, so the pruned bounds hold those that the bounds as sent hold
   pub self-least : (r : List ℕ) → List·Memᴰ r l → IsLeast (s .rows) (s .columns) r r
-  self-least r m = rw (g .leasts r m) at (least-is (s .rows) (s .columns) r (g .grids r m .cells))
+  self-least r m = rw (g .leasts r m) at (least-is (s .rows) (s .columns) r (g .grids r m .sized))
 
-  fit-classes : (low high : List ℕ) → IsBounds (cells s) (s .top) low high → fitPruned (shown s l) (registerOf s l) (pruned (s .rows) (s .columns) (s .top) low high) ≡ outcome s (fitClasses s l low high)
+  fit-classes : (low high : List ℕ) → IsBounds (gridSize s) (s .top) low high → fitPruned (shown s l) (registerOf s l) (pruned (s .rows) (s .columns) (s .top) low high) ≡ outcome s (fitClasses s l low high)
   unfolding fitPruned fitClasses outcome registerOf
-  fit-classes low high i = go (obeyed rule (cells s) (s .top) low high) refl
+  fit-classes low high i = go (obeyed rule (gridSize s) (s .top) low high) refl
     where
       rule : List ℕ → Bool
       rule = allperm (s .rows) (s .columns)
@@ -184,33 +184,33 @@ module _ (s : Shape) (l : Grids) (g : Good s l) where
       asked : firstNo (pruneQuestions (s .rows) (s .columns) (s .top) low high) ≡ 0
       asked = prune-pass (s .rows) (s .columns) (s .top) low high .1 (g .limits .grid-limits, i)
 
-      decides : (obeyed rule (cells s) (s .top) low high ≡ true) ↔ Obeyed (Allperm (s .rows) (s .columns)) (cells s) (s .top) low high
-      decides = obeyed-decides (Allperm (s .rows) (s .columns)) rule (allperm-decides (s .rows) (s .columns)) (cells s) (s .top) low high
+      decides : (obeyed rule (gridSize s) (s .top) low high ≡ true) ↔ Obeyed (Allperm (s .rows) (s .columns)) (gridSize s) (s .top) low high
+      decides = obeyed-decides (Allperm (s .rows) (s .columns)) rule (allperm-decides (s .rows) (s .columns)) (gridSize s) (s .top) low high
 
-      inside : obeyed rule (cells s) (s .top) low high ≡ true →
-          length (select (inBounds (cells s) (s .top) (keptLow rule (cells s) (s .top) low high) (keptHigh rule (cells s) (s .top) low high)) (sorted l)) ≡ length (select (inBounds (cells s) (s .top) low high) l)
+      inside : obeyed rule (gridSize s) (s .top) low high ≡ true →
+          length (select (inBounds (gridSize s) (s .top) (keptLow rule (gridSize s) (s .top) low high) (keptHigh rule (gridSize s) (s .top) low high)) (sorted l)) ≡ length (select (inBounds (gridSize s) (s .top) low high) l)
       inside e =
           count-sorted _ l (g .once) ∙ ap length (select-ext _ _ l (λ r m. least-same-bounds (s .rows) (s .columns) (s .top) low high (decides .0 e) r r (self-least r m)))
 
-      go : (t : Bool) → obeyed rule (cells s) (s .top) low high ≡ t →
+      go : (t : Bool) → obeyed rule (gridSize s) (s .top) low high ≡ t →
           fitPruned (shown s l) (registerOf s l) (pruned (s .rows) (s .columns) (s .top) low high) ≡ outcome s (fitClasses s l low high)
       go true e = ap (fitPruned (shown s l) (registerOf s l)) (pruned-some (s .rows) (s .columns) (s .top) low high asked (decides .0 e)) ∙ rw (e, fitClasses) (made 0 (inside e) refl)
       go false e = ap (fitPruned (shown s l) (registerOf s l)) (pruned-none (s .rows) (s .columns) (s .top) low high asked (λ o. true≢false (sym (decides .1 o) ∙ e))) ∙ rw (e, fitClasses) refl
 
-  pub fit-same : (low high : List ℕ) → fitted (shown s l) low high ≡ outcome s (stepUnless (firstNo (boundsQuestions (cells s) (s .top) low high)) l (fitClasses s l low high))
+  pub fit-same : (low high : List ℕ) → fitted (shown s l) low high ≡ outcome s (stepUnless (firstNo (boundsQuestions (gridSize s) (s .top) low high)) l (fitClasses s l low high))
   unfolding fitted fitRegister fitQuestions registerOf
   fit-same low high =
       ap (λ (x : Register). fitRegister (shown s l) x low high) (reads s l g)
       ∙ ap (λ (k : ℕ). answered k (shown s l) (fitPruned (shown s l) (registerOf s l) (pruned (s .rows) (s .columns) (s .top) low high))) (question5-passes _)
-      ∙ refused-or (firstNo (boundsQuestions (cells s) (s .top) low high)) _ s l (fitClasses s l low high) (λ z. fit-classes low high (bounds-pass (cells s) (s .top) low high .0 z))
+      ∙ refused-or (firstNo (boundsQuestions (gridSize s) (s .top) low high)) _ s l (fitClasses s l low high) (λ z. fit-classes low high (bounds-pass (gridSize s) (s .top) low high .0 z))
 
 -- ---- a good set stays good
 
 pub fit-keeps : (s : Shape) (l : Grids) (low high : List ℕ) → fitClasses s l low high .next ≡ l
 unfolding fitClasses
-fit-keeps s l low high = go (obeyed (allperm (s .rows) (s .columns)) (cells s) (s .top) low high) refl
+fit-keeps s l low high = go (obeyed (allperm (s .rows) (s .columns)) (gridSize s) (s .top) low high) refl
   where
-    go : (t : Bool) → obeyed (allperm (s .rows) (s .columns)) (cells s) (s .top) low high ≡ t → fitClasses s l low high .next ≡ l
+    go : (t : Bool) → obeyed (allperm (s .rows) (s .columns)) (gridSize s) (s .top) low high ≡ t → fitClasses s l low high .next ≡ l
     go true e = rw (e, fitClasses)
     go false e = rw (e, fitClasses)
 
@@ -251,7 +251,7 @@ module _ (s : Shape) (l : Grids) (g : Good s l) where
       go true h f d = rw (h, enterClass) g
       go false h true d =
           rw (h, d, enterClass)
-          (added r (λ m. true≢false (sym (in-holds r l m) ∙ h)) (ltb-true (length l) (s .capacity) d) (least-grid (s .rows) (s .columns) (s .top) a i) (least-least (s .rows) (s .columns) a (i .cells)))
+          (added r (λ m. true≢false (sym (in-holds r l m) ∙ h)) (ltb-true (length l) (s .capacity) d) (least-grid (s .rows) (s .columns) (s .top) a i) (least-least (s .rows) (s .columns) a (i .sized)))
       go false h false d = rw (h, d, enterClass) g
 
   strike-good : (r : List ℕ) → Good s (strikeClass l r .next)
@@ -271,7 +271,7 @@ module _ (s : Shape) (l : Grids) (g : Good s l) where
   unfolding step
   step-good (enter a) = unless-good (firstNo (gridQuestions s a)) _ (enter-good a)
   step-good (strike a) = unless-good (firstNo (gridQuestions s a)) _ (λ e. strike-good (leastIn s a))
-  step-good (fit low high) = unless-good (firstNo (boundsQuestions (cells s) (s .top) low high)) _ (λ e. rw (fit-keeps s l low high) g)
+  step-good (fit low high) = unless-good (firstNo (boundsQuestions (gridSize s) (s .top) low high)) _ (λ e. rw (fit-keeps s l low high) g)
 
 -- the set after the calls
 unfoldable pub afterwards : Shape → Grids → List Call → Grids

@@ -15,7 +15,8 @@ use native.Mathlib.Omega.{arith}
 use lib.ListN.{length, getD, take, drop}
 use Rattle.permutations.specs.Lists.{select}
 use Rattle.permutations.proofs.BoolLaws.{refuted}
-use Rattle.permutations.proofs.ListLaws.{mem-at, of-mem, select-yes, select-no}
+use Rattle.permutations.proofs.ListLaws.{mem-at, of-mem}
+use Rattle.permutations.proofs.SelectLaws.{select-yes, select-no}
 use Rattle.grids.specs.Order.{_≼_, _≺_, less, equal}
 use Rattle.grids.proofs.OrderLaws.{≼-refl, ≼-trans, ≺-≼, ≺-trans, less-decides, equal-eq, eq-equal}
 use Rattle.layout.specs.Layout.{Ascends}

@@ -19,7 +19,8 @@ use native.Mathlib.Omega.{arith}
 use lib.ListN.{length, getD}
 use Rattle.permutations.specs.Lists.{select}
 use Rattle.permutations.proofs.BoolLaws.{yes-or-no, bool-ext, refuted}
-use Rattle.permutations.proofs.ListLaws.{in-select, of-select, select-yes, select-no, select-none, some-at, at-some}
+use Rattle.permutations.proofs.ListLaws.{some-at, at-some}
+use Rattle.permutations.proofs.SelectLaws.{in-select, of-select, select-yes, select-no, select-none}
 use Rattle.grids.specs.Order.{_≼_, _≺_, leq, less, equal}
 use Rattle.grids.proofs.OrderLaws.{≼-refl, ≼-antisymm, ≼-dec, ≼-leq, leq-yes, ≺-≼, ≺-trans, ≼-≺, less-decides, equal-eq, eq-equal}
 use Rattle.layout.specs.Layout.{Ascends}

@@ -16,7 +16,7 @@ use Rattle.bounds.specs.Bounds.{inBounds}
 use Rattle.bounds.specs.Kept.{obeyed}
 use Rattle.bounds.specs.Allperm.{allperm}
 use Rattle.bounds.specs.Prune.{boundsQuestions, question8}
-use Rattle.layout.specs.Layout.{Shape, cells}
+use Rattle.layout.specs.Layout.{Shape, gridSize}
 use Rattle.machine.specs.Calls.{gridQuestions, leastIn, holds, placeIn}
 use Rattle.machine.specs.CallLists.{Call, enter, strike, fit}
 use Rattle.machine.specs.Machine.{Step, stepUnless, enterClass, strikeClass, fitClasses, step}
@@ -50,10 +50,10 @@ module _ (P : ℕ → ℕ → Type 0) (s : Shape) (l : Grids) (a : Answerable P 
   unfolding gridQuestions question6 question7
   grid-refuses g = firstNo-has Refuses (gridQuestions s g) (λ n. absurd (n refl)) (λ n. a .length-no, (λ n. a .cells-no, tt))
 
-  bounds-refuse : (low high : List ℕ) → Refuses (firstNo (boundsQuestions (cells s) (s .top) low high))
+  bounds-refuse : (low high : List ℕ) → Refuses (firstNo (boundsQuestions (gridSize s) (s .top) low high))
   unfolding boundsQuestions question6 question7 question8
   bounds-refuse low high =
-      firstNo-has Refuses (boundsQuestions (cells s) (s .top) low high) (λ n. absurd (n refl)) (λ n. a .length-no, (λ n. a .cells-no, (λ n. a .order-no, tt)))
+      firstNo-has Refuses (boundsQuestions (gridSize s) (s .top) low high) (λ n. absurd (n refl)) (λ n. a .length-no, (λ n. a .cells-no, (λ n. a .order-no, tt)))
 
   enter-has : (r : List ℕ) → Has (enterClass s l r)
   unfolding enterClass
@@ -74,10 +74,10 @@ module _ (P : ℕ → ℕ → Type 0) (s : Shape) (l : Grids) (a : Answerable P 
 
   fit-has : (low high : List ℕ) → Has (fitClasses s l low high)
   unfolding fitClasses
-  fit-has low high = go (obeyed (allperm (s .rows) (s .columns)) (cells s) (s .top) low high) refl
+  fit-has low high = go (obeyed (allperm (s .rows) (s .columns)) (gridSize s) (s .top) low high) refl
     where
-      go : (t : Bool) → obeyed (allperm (s .rows) (s .columns)) (cells s) (s .top) low high ≡ t → Has (fitClasses s l low high)
-      go true e = rw (e, fitClasses) (a .counted (inBounds (cells s) (s .top) low high))
+      go : (t : Bool) → obeyed (allperm (s .rows) (s .columns)) (gridSize s) (s .top) low high ≡ t → Has (fitClasses s l low high)
+      go true e = rw (e, fitClasses) (a .counted (inBounds (gridSize s) (s .top) low high))
       go false e = rw (e, fitClasses) (a .none)
 
   pub step-answers : (c : Call) → P (step s l c .number) (step s l c .place)

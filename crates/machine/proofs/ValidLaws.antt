@@ -18,8 +18,8 @@ use Rattle.grids.specs.Grids.{capped}
 use Rattle.grids.proofs.OrderLaws.{equal-eq}
 use Rattle.grids.proofs.QuestionLaws.{size-fits, capped-at, at-capped}
 use Rattle.permutations.proofs.BoolLaws.{and-yes}
-use Rattle.layout.specs.Layout.{Register, cells, headLength, lineLength, layout, layoutLength, count, decodeShape, decode, Ascends, IsRegister, isRegister, laidOut}
-use Rattle.layout.specs.Lines.{lineStart, lineAt, cellsOf, EntryLine, HeadLaid, EntriesLaid, BlanksLaid}
+use Rattle.layout.specs.Layout.{lineLength, layout, layoutLength, decodeShape, decode, Ascends, IsRegister, isRegister, laidOut, cellsOf}
+use Rattle.layout.specs.Lines.{lineStart, lineAt, EntryLine}
 use Rattle.layout.proofs.RegisterLaws.{register-decides}
 use Rattle.layout.proofs.LineLaws.{laid-lines, line-entry, entries-counted, line-short}
 use Rattle.machine.specs.Valid.{Valid}

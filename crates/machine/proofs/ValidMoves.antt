@@ -7,8 +7,8 @@
 --   put-tail, tail-part      ==  a part up to the end
 --   put-fits, count-part     ==  the bytes are as many as before, and the count's field has 6 bytes
 --   bytes-inserted, bytes-removed  ==  the bytes afterwards are the layout with the entry put in, or taken out
-use mathlib.Core.Path.{_≡_, refl, sym, ap, _∙_}
-use mathlib.Core.List.{List, [], _∷_, _++_, append-nil}
+use mathlib.Core.Path.{_≡_, refl, ap, _∙_}
+use mathlib.Core.List.{List, _∷_, _++_, append-nil}
 use Prim.Native.Nat.{ℕ, suc, _+_, _-_, _*_, _≤_, _<_}
 use native.Mathlib.Nat.{mul-le-mul}
 use native.Mathlib.Omega.{arith}
@@ -16,7 +16,7 @@ use lib.ListN.{length, take, drop, length-drop}
 use lib.Seq.{take-all, drop-drop, drop-length, length-take-le}
 use borrow.Rule.Slice.PartMut.{midOf, putMid, same-len-mid}
 use Rattle.layout.specs.Decimal.{field}
-use Rattle.layout.specs.Layout.{cells, lineLength, entryLine, blankLine, layout, decodeShape, decode}
+use Rattle.layout.specs.Layout.{gridSize, lineLength, entryLine, blankLine, layout, decodeShape, decode}
 use Rattle.layout.specs.Lines.{lineStart}
 use Rattle.layout.proofs.MoveLaws.{insert-layout, remove-layout}
 use Rattle.machine.specs.Valid.{Valid}
@@ -70,7 +70,7 @@ module _ {size n : ℕ} {b : List ℕ} (k : Valid size n b) (p w : ℕ) (q : w �
       let z = valid-sizes k in
       lines-fit b p (n - (p + 1)) (decodeShape b .capacity) w (omega (arith, z .count-fits)) (rw (← q) at (z .length-is)) (z .capacity-fits) (omega (arith, z .width-fits))
 
-  cells-are : size ≡ cells (decode b .shape)
+  cells-are : size ≡ gridSize (decode b .shape)
   unfolding decode
   cells-are = k .sized
 
@@ -86,7 +86,7 @@ module _ {size n : ℕ} {b : List ℕ} (k : Valid size n b) (p w : ℕ) (q : w �
   bytes-inserted i h g ys zs gs e f six =
       rw (f, six)
       (rw (valid-count k) at
-      (insert-layout (decode b) b (putMid (31 + p * w) (length b - (31 + p * w)) b ys) g p (λ x m. valid-register k .entry-grids x m .cells) (valid-layout k) (omega (arith, valid-count k, capacity-is)) (omega (arith, valid-count k)) (gs ∙ cells-are)
+      (insert-layout (decode b) b (putMid (31 + p * w) (length b - (31 + p * w)) b ys) g p (λ x m. valid-register k .entry-grids x m .sized) (valid-layout k) (omega (arith, valid-count k, capacity-is)) (omega (arith, valid-count k)) (gs ∙ cells-are)
       (rw (← cells-are, valid-count k, ← q) (put-tail b (31 + p * w) (room-insert i h .start-inside) ys ∙ ap (λ (l : List ℕ). take (31 + p * w) b ++ l) (rw (tail-part b (31 + p * w) (room-insert i h .start-inside), gs, ← q) at e)))))
 
   pub bytes-removed : p < n → (ys zs : List ℕ) {m : ℕ} →
@@ -97,5 +97,5 @@ module _ {size n : ℕ} {b : List ℕ} (k : Valid size n b) (p w : ℕ) (q : w �
   bytes-removed i ys zs e f six =
       rw (f, six)
       (rw (valid-count k) at
-      (remove-layout (decode b) b (putMid (31 + p * w) (length b - (31 + p * w)) b ys) p (λ x m. valid-register k .entry-grids x m .cells) (valid-layout k) (valid-register k .count-fits) (omega (arith, valid-count k))
+      (remove-layout (decode b) b (putMid (31 + p * w) (length b - (31 + p * w)) b ys) p (λ x m. valid-register k .entry-grids x m .sized) (valid-layout k) (valid-register k .count-fits) (omega (arith, valid-count k))
       (rw (← cells-are, valid-count k, ← q) (put-tail b (31 + p * w) (room-remove i .start-inside) ys ∙ ap (λ (l : List ℕ). take (31 + p * w) b ++ l) (rw (tail-part b (31 + p * w) (room-remove i .start-inside), ← q) at e)))))

@@ -5,10 +5,10 @@
 --   enter-room, strike-room, strike-place  ==  there is room for the lines that are moved; a grid that is struck stands at its place
 --   enter-held, enter-full, enter-new  ==  the ways out of enter
 --   strike-none, strike-held           ==  the ways out of strike
-use mathlib.Core.Path.{_≡_, refl, sym, ap, ap₂, _∙_}
-use mathlib.Core.List.{List, [], _∷_, _++_}
+use mathlib.Core.Path.{_≡_, refl, sym, ap₂, _∙_}
+use mathlib.Core.List.{List, [], _++_}
 use mathlib.Core.Bool.{Bool, true, false, not, _&&_}
-use Prim.Native.Nat.{ℕ, suc, _+_, _-_, _*_, _≤_, _<_}
+use Prim.Native.Nat.{ℕ, _+_, _-_, _*_, _≤_, _<_}
 use native.Mathlib.Numerals.{add-one}
 use native.Mathlib.Omega.{arith}
 use lib.ListN.{length, getD, take, drop}
@@ -19,10 +19,10 @@ use Rattle.permutations.proofs.BoolLaws.{and-yes}
 use Rattle.grids.specs.Order.{equal}
 use Rattle.grids.proofs.OrderLaws.{equal-eq}
 use Rattle.layout.specs.Decimal.{field}
-use Rattle.layout.specs.Layout.{lineLength, entryLine, blankLine, layout, decodeShape, decode}
-use Rattle.machine.specs.Calls.{holds}
+use Rattle.layout.specs.Layout.{lineLength, entryLine, blankLine, decodeShape, decode}
+use Rattle.machine.specs.Calls.{holds, placed}
 use Rattle.machine.specs.Places.{Lower}
-use Rattle.machine.specs.Valid.{placed, Valid, enteredLeast, struckLeast}
+use Rattle.machine.specs.Valid.{Valid, enteredLeast, struckLeast}
 use Rattle.machine.proofs.ValidLaws.{valid-count, valid-ascends, valid-sizes}
 use Rattle.machine.proofs.LeastSteps.{held-there, entered-held, entered-full, entered-new, struck-none, struck-held}
 use Rattle.machine.proofs.ValidMoves.{Room, room-insert, room-remove, bytes-inserted, bytes-removed}

@@ -1,6 +1,8 @@
 -- What open, enter, strike and fit answer and leave in the register's bytes, on all arguments.
 --
 --   Outcome              ==  the number, the place or count, and the register's bytes afterwards
+--   placed number place bytes  ==  such an outcome
+--   shape m n top capacity  ==  the numbers of an open
 --   refusal k b          ==  the number k, place or count 0, and the bytes as they were
 --   answered k b o       ==  the refusal k, unless k is 0: then o
 --   question4, question5, question9, question10  ==  document 01's questions
@@ -29,12 +31,18 @@ use Rattle.grids.specs.Least.{least}
 use Rattle.grids.specs.Questions.{Question, firstNo, inRange, question1, question2, question3, question6, question7}
 use Rattle.bounds.specs.Bounds.{inBounds}
 use Rattle.bounds.specs.Prune.{boundsQuestions, Pruned, pruned}
-use Rattle.layout.specs.Layout.{Shape, Register, cells, layout, layoutLength, decode, laidOut}
+use Rattle.layout.specs.Layout.{Shape, Register, gridSize, layout, layoutLength, decode, laidOut}
 
 pub record Outcome : Type 0 where
   pub number : ℕ
   pub place : ℕ
   pub bytes : List ℕ
+
+abbrev pub placed : ℕ → ℕ → List ℕ → Outcome
+placed number place bytes = record { number = number; place = place; bytes = bytes }
+
+abbrev pub shape : ℕ → ℕ → ℕ → ℕ → Shape
+shape m n top capacity = record { rows = m; columns = n; top = top; capacity = capacity }
 
 abbrev pub refusal : ℕ → List ℕ → Outcome
 refusal k b = record { number = k; place = 0; bytes = b }
@@ -52,7 +60,7 @@ unfoldable pub question5 : List ℕ → Question
 question5 b = record { number = 5; answer = laidOut b }
 
 unfoldable pub gridQuestions : Shape → List ℕ → List Question
-gridQuestions s g = question6 (cells s) (g ∷ []) ∷ question7 (s .top) (g ∷ []) ∷ []
+gridQuestions s g = question6 (gridSize s) (g ∷ []) ∷ question7 (s .top) (g ∷ []) ∷ []
 
 unfoldable pub holds : List ℕ → List (List ℕ) → Bool
 holds r l = some (equal r) l
@@ -104,7 +112,7 @@ unfoldable pub strikeQuestions : List ℕ → Register → List ℕ → List ℕ
 strikeQuestions b x g r = question5 b ∷ (gridQuestions (x .shape) g ++ (question10 x r ∷ []))
 
 unfoldable pub fitQuestions : List ℕ → Register → List ℕ → List ℕ → List Question
-fitQuestions b x low high = question5 b ∷ boundsQuestions (cells (x .shape)) (x .shape .top) low high
+fitQuestions b x low high = question5 b ∷ boundsQuestions (gridSize (x .shape)) (x .shape .top) low high
 
 unfoldable pub enterRegister : List ℕ → Register → List ℕ → List ℕ → Outcome
 enterRegister b x g r = answered (firstNo (enterQuestions b x g r)) b (enterInto b x r)
@@ -121,7 +129,7 @@ struck b g = strikeRegister b (decode b) g (leastIn (decode b .shape) g)
 unfoldable pub fitPruned : List ℕ → Register → Pruned → Outcome
 fitPruned b x p =
     elim (p .number) [
-      | zero ↦ record { number = 0; place = length (select (inBounds (cells (x .shape)) (x .shape .top) (p .low) (p .high)) (x .entries)); bytes = b }
+      | zero ↦ record { number = 0; place = length (select (inBounds (gridSize (x .shape)) (x .shape .top) (p .low) (p .high)) (x .entries)); bytes = b }
       | suc k ↦ record { number = suc k; place = 0; bytes = b }
     ]
 

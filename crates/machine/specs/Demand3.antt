@@ -19,7 +19,7 @@ use Rattle.permutations.specs.Lists.{select, every}
 use Rattle.grids.specs.Grids.{oneClass}
 use Rattle.grids.specs.Least.{least}
 use Rattle.bounds.specs.Bounds.{inBounds}
-use Rattle.layout.specs.Layout.{Shape, cells, layoutLength, count, InLimits}
+use Rattle.layout.specs.Layout.{Shape, gridSize, layoutLength, count, InLimits}
 use Rattle.machine.specs.Calls.{Outcome}
 use Rattle.machine.specs.CallLists.{Call, enter, strike, fit, Implementation, run, left, accepted}
 use Rattle.machine.specs.Machine.{shown, outcomes}
@@ -60,11 +60,11 @@ pub record AfterOpen (i : Implementation) (s : Shape) (b : List ℕ) (calls : Li
   pub counts : count (left i b calls) ≡ length classes
   -- a fit counts the live classes whose least grid lies in the bounds as sent
   pub fits : (low high : List ℕ) → accepted (i .fits (left i b calls) low high .number) ≡ true →
-      i .fits (left i b calls) low high .place ≡ length (select (inBounds (cells s) (s .top) low high) classes)
+      i .fits (left i b calls) low high .place ≡ length (select (inBounds (gridSize s) (s .top) low high) classes)
   -- two lists leave equal bytes exactly when the same classes are live
   pub bytes-live : (slice′ : List ℕ) → i .opens s slice′ .number ≡ 0 → (calls′ : List Call) →
       (left i b calls ≡ left i (i .opens s slice′ .bytes) calls′)
-      ↔ ((a : List ℕ) → length a ≡ cells s → live i s b calls a ≡ live i s (i .opens s slice′ .bytes) calls′ a)
+      ↔ ((a : List ℕ) → length a ≡ gridSize s → live i s b calls a ≡ live i s (i .opens s slice′ .bytes) calls′ a)
 
 pub record Demand3 (i : Implementation) : Type 0 where
   -- an open whose questions all get a yes answers 0 and place 0, and leaves the machine's bytes for the empty set

@@ -22,7 +22,7 @@ use Rattle.bounds.specs.Bounds.{inBounds}
 use Rattle.bounds.specs.Kept.{obeyed}
 use Rattle.bounds.specs.Allperm.{allperm}
 use Rattle.bounds.specs.Prune.{boundsQuestions}
-use Rattle.layout.specs.Layout.{Shape, cells, layout}
+use Rattle.layout.specs.Layout.{Shape, gridSize, layout}
 use Rattle.machine.specs.Calls.{Outcome, gridQuestions, leastIn, holds, placeIn, insert, without}
 use Rattle.machine.specs.CallLists.{Call, enter, strike, fit}
 
@@ -61,15 +61,15 @@ strikeClass l r =
 
 unfoldable pub fitClasses : Shape → List (List ℕ) → List ℕ → List ℕ → Step
 fitClasses s l low high =
-    elim (obeyed (allperm (s .rows) (s .columns)) (cells s) (s .top) low high) [
-      | true ↦ record { number = 0; place = length (select (inBounds (cells s) (s .top) low high) l); next = l }
+    elim (obeyed (allperm (s .rows) (s .columns)) (gridSize s) (s .top) low high) [
+      | true ↦ record { number = 0; place = length (select (inBounds (gridSize s) (s .top) low high) l); next = l }
       | false ↦ record { number = 102; place = 0; next = l }
     ]
 
 unfoldable pub step : Shape → List (List ℕ) → Call → Step
 step s l (enter g) = stepUnless (firstNo (gridQuestions s g)) l (enterClass s l (leastIn s g))
 step s l (strike g) = stepUnless (firstNo (gridQuestions s g)) l (strikeClass l (leastIn s g))
-step s l (fit low high) = stepUnless (firstNo (boundsQuestions (cells s) (s .top) low high)) l (fitClasses s l low high)
+step s l (fit low high) = stepUnless (firstNo (boundsQuestions (gridSize s) (s .top) low high)) l (fitClasses s l low high)
 
 unfoldable pub outcome : Shape → Step → Outcome
 outcome s t = record { number = t .number; place = t .place; bytes = shown s (t .next) }

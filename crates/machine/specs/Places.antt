@@ -1,4 +1,4 @@
--- Where a grid belongs in an ascending list.
+-- Where a grid belongs in an ascending list. Between functions: no answer of a call is defined here.
 --
 --   Lower l r p           ==  p grids of l come before r, those in front
 --   Between l r low high  ==  the grids before low come before r, and those from high on do not

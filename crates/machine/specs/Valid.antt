@@ -1,8 +1,6 @@
--- A valid register, one that question 5 gets a yes for, and what the calls answer on it.
+-- A valid register, one that question 5 gets a yes for, and what the calls answer on it. Between functions: no answer of a call is defined here.
 --
---   placed number place bytes   ==  such an outcome
 --   Valid size n b              ==  b is a valid register, with n entries of so many cells
---   shape m n top capacity      ==  such a shape
 --   numbersNo s                 ==  the first no of questions 1 to 4
 --   openNo s length             ==  the first no of open's questions, of a slice of that length
 --   PrunesCopies m n top low high number lows highs  ==  the number and the bounds are those that prune leaves of low and high
@@ -16,14 +14,8 @@ use Prim.Native.Nat.{ℕ}
 use lib.Dec.{eqb}
 use Rattle.grids.specs.Questions.{firstNo, question1, question2, question3}
 use Rattle.bounds.specs.Prune.{pruned}
-use Rattle.layout.specs.Layout.{Shape, cells, layoutLength, count, decodeShape, decode, laidOut}
+use Rattle.layout.specs.Layout.{Shape, gridSize, layoutLength, count, decodeShape, decode, laidOut}
 use Rattle.machine.specs.Calls.{Outcome, answered, question4, question5, gridQuestions, question9, question10, enterInto, strikeFrom}
-
-abbrev pub placed : ℕ → ℕ → List ℕ → Outcome
-placed number place bytes = record { number = number; place = place; bytes = bytes }
-
-abbrev pub shape : ℕ → ℕ → ℕ → ℕ → Shape
-shape m n top capacity = record { rows = m; columns = n; top = top; capacity = capacity }
 
 unfoldable pub numbersNo : Shape → ℕ
 numbersNo s = firstNo (question1 (s .rows) ∷ question2 (s .columns) ∷ question3 (s .top) ∷ question4 (s .capacity) ∷ [])
@@ -34,7 +26,7 @@ openNo s length =
 
 pub record Valid (size n : ℕ) (b : List ℕ) : Type 0 where
   pub laid : laidOut b ≡ true
-  pub sized : size ≡ cells (decodeShape b)
+  pub sized : size ≡ gridSize (decodeShape b)
   pub counts : n ≡ count b
 
 unfoldable pub asked : List ℕ → List ℕ → ℕ

@@ -5,28 +5,26 @@ use permutations::columns::ColumnPermutation;
 use permutations::rows::RowNumber;
 use permutations::rows::RowPermutation;
 
-fn print_rows(label: &[u8], p: RowPermutation) {
+// Prints a line: a label, and the numbers after it.
+fn print_numbers(label: &[u8], numbers: &[u8]) {
     io::write_all(STDOUT_FILENO, label);
     let mut i = 0;
-    while i < RowPermutation::WIDTH {
+    while i < numbers.len() {
         io::write_all(STDOUT_FILENO, b" ");
-        let row = p.row(i);
-        io::print_decimal(STDOUT_FILENO, row.0 as u64);
+        io::print_decimal(STDOUT_FILENO, numbers[i] as u64);
         i += 1;
     }
     io::write_all(STDOUT_FILENO, b"\n");
 }
 
+fn print_rows(label: &[u8], p: RowPermutation) {
+    let numbers = p.bytes();
+    print_numbers(label, &numbers);
+}
+
 fn print_columns(label: &[u8], q: ColumnPermutation) {
-    io::write_all(STDOUT_FILENO, label);
-    let mut i = 0;
-    while i < ColumnPermutation::WIDTH {
-        io::write_all(STDOUT_FILENO, b" ");
-        let column = q.column(i);
-        io::print_decimal(STDOUT_FILENO, column.0 as u64);
-        i += 1;
-    }
-    io::write_all(STDOUT_FILENO, b"\n");
+    let numbers = q.bytes();
+    print_numbers(label, &numbers);
 }
 
 fn rows(a: u8, b: u8, size: usize) -> RowPermutation {

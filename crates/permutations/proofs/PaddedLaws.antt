@@ -3,37 +3,31 @@
 --   length-padded, padded-below, padded-from  ==  length and entries of a padded list
 --   padded-is                      ==  when a list is a padded list
 --   length-identity, padded-identity  ==  the identity's length, and that it is its own padding
---   padded-none, padded-more, padded-end  ==  a loop's start, its next position, and its end
 --   take-padded, take-identity     ==  at a narrower width
 --   padded-own                     ==  the first n positions of n padded numbers are those numbers
 --   sound, isSound-yes, isSound-no  ==  the test decides it
---   listing-sound                  ==  it holds where each number below n stands before position n
---   isSound-take                  ==  the test looks at the first `width` positions only
 --   isSound-padded, isSound-identity  ==  a padded permutation and the identity pass
 --   composedPadded-is, take-composedPadded, composedPadded-permutation  ==  of sound arguments: the composed permutation, padded
---   inversePadded-is, take-inversePadded, inversePadded-permutation     ==  of a sound argument: the inverse permutation, padded
+--   inversePadded-is, take-inversePadded  ==  of a sound argument: the inverse permutation, padded
 --   composedPadded-no, composedPadded-sizes, composedPadded-first, composedPadded-second, inversePadded-no  ==  of others: the identity
---   isSound-composed, isSound-inverse  ==  with a size of 1 to width every result passes the test
---   composed-inversePadded, inversePadded-composed  ==  composed with its inverse, on either side, a permutation is the identity
---   isSound-first, followed-is, reversed-is, own-composed, own-inverse, composed-of, inverse-of  ==  what the code makes of w numbers, in its first `width` positions
+--   isSound-inverse                ==  with a size of 1 to width the inverse passes the test, whatever the argument
 use mathlib.Core.Path.{_≡_, refl, sym, ap, _∙_}
 use mathlib.Core.List.{List}
 use mathlib.Core.Bool.{true, false, _&&_, and-false}
 use mathlib.Core.Logic.{⊎-elim}
-use Prim.Native.Nat.{ℕ, _+_, _≤_, _<_, min}
-use native.Mathlib.Decide.{ℕ-discrete, decLt}
+use Prim.Native.Nat.{ℕ, _≤_, _<_}
+use native.Mathlib.Decide.{decLt}
 use native.Mathlib.Omega.{arith}
-use borrow.Author.Tests.{lt-ltb, le-ltb, leb-true, le-leb, eqb-true, eq-eqb, ne-eqb}
-use lib.ListN.{length, getD, set, take, length-set}
-use lib.Seq.{getD-set-same, getD-set-other, getD-take, take-take, length-take-le}
+use borrow.Author.Tests.{lt-ltb, le-ltb, leb-true, le-leb, eq-eqb, ne-eqb}
+use lib.ListN.{length, getD, take}
+use lib.Seq.{getD-take, length-take-le}
 use lib.Dec.{leb, ltb, eqb}
-use Rattle.permutations.specs.Permutations.{IsPermutation, identity, composed, position, inverse}
+use Rattle.permutations.specs.Permutations.{IsPermutation, identity, composed, inverse}
 use Rattle.permutations.specs.Padded.{padded, Sound, isSound, composedPadded, inversePadded}
-use Rattle.permutations.proofs.BoolLaws.{and-yes, yes-and, yes-or-no, bool-ext}
-use Rattle.permutations.proofs.ListLaws.{length-tabulate, at-tabulate, tabulate-is, tabulate-ext}
-use Rattle.permutations.proofs.PermutationLaws.{at-identity, identity-permutation, composed-permutation, inverse-permutation, composed-inverse, inverse-composed}
-use Rattle.permutations.proofs.PermutationTest.{listing-suffices, passes-permutation, permutation-passes}
-use Rattle.permutations.proofs.PositionLaws.{position-holds}
+use Rattle.permutations.proofs.BoolLaws.{and-yes, yes-and, yes-or-no}
+use Rattle.permutations.proofs.ListLaws.{length-tabulate, at-tabulate, tabulate-is}
+use Rattle.permutations.proofs.PermutationLaws.{at-identity, identity-permutation, composed-permutation, inverse-permutation}
+use Rattle.permutations.proofs.PermutationTest.{passes-permutation, permutation-passes}
 
 -- ---- padded lists
 
@@ -66,46 +60,6 @@ padded-identity width n =
     sym
     (padded-is width n (identity n) (identity width) (length-identity width) (λ i h k. at-identity width i h ∙ sym (at-identity n i k)) λ i h k.
     at-identity width i h)
-
-pub padded-none : (width : ℕ) (p : List ℕ) → identity width ≡ padded width 0 p
-padded-none width p =
-    padded-is width 0 p (identity width) (length-identity width) (λ i h k. absurd (omega arith)) (λ i h k. at-identity width i h)
-
--- as a loop fills a list: position i is next
-padded-next : (width : ℕ) (p : List ℕ) (i : ℕ) → i < width → set (padded width i p) i (getD p i 0) ≡ padded width (i + 1) p
-padded-next width p i h = padded-is width (i + 1) p next (length-set l i v ∙ size) below from
-  where
-    l : List ℕ
-    l = padded width i p
-
-    v : ℕ
-    v = getD p i 0
-
-    next : List ℕ
-    next = set l i v
-
-    size : length l ≡ width
-    size = length-padded width i p
-
-    below : (k : ℕ) → k < width → k < i + 1 → getD next k 0 ≡ getD p k 0
-    below k w b = go (ℕ-discrete k i)
-      where
-        go : Dec (k ≡ i) → getD next k 0 ≡ getD p k 0
-        go (yes e) = rw e (getD-set-same l i v 0 (omega (arith, size)))
-        go (no ne) = getD-set-other l i k v 0 ne ∙ padded-below width i p k w (omega arith)
-
-    from : (k : ℕ) → k < width → i + 1 ≤ k → getD next k 0 ≡ k
-    from k w b = let ne : k ≡ i → ⊥ = omega arith in getD-set-other l i k v 0 ne ∙ padded-from width i p k w (omega arith)
-
-pub padded-more : (width : ℕ) (p l : List ℕ) (i v : ℕ) → i < width → l ≡ padded width i p → v ≡ getD p i 0 → set l i v ≡ padded width (i + 1) p
-padded-more width p l i v h e f = rw (e, f) (padded-next width p i h)
-
--- the loop ends at n or at the width
-pub padded-end : (width i n : ℕ) (p l : List ℕ) → i ≤ n → min n width ≤ i → l ≡ padded width i p → l ≡ padded width n p
-padded-end width i n p l a b e =
-    e
-    ∙ padded-is width n p (padded width i p) (length-padded width i p) (λ k h c. padded-below width i p k h (omega arith)) λ k h c.
-    padded-from width i p k h (omega arith)
 
 pub take-padded : (width w n : ℕ) (p : List ℕ) → width ≤ w → take width (padded w n p) ≡ padded width n p
 take-padded width w n p a =
@@ -140,27 +94,6 @@ isSound-yes width n p s =
 
 pub isSound-no : (width n : ℕ) (p : List ℕ) → (Sound width n p → ⊥) → isSound width n p ≡ false
 isSound-no width n p no-sound = ⊎-elim (λ t. absurd (no-sound (sound width n p t))) (λ t. t) (yes-or-no (isSound width n p))
-
--- each number below n stands before position n: the test by first positions
-pub listing-sound : (width n : ℕ) (p : List ℕ) → 1 ≤ n → n ≤ width → n ≤ length p → ((k : ℕ) → k < n → position (take n p) k < n) → Sound width n p
-listing-sound width n p a b c stands =
-    let l = length-take-le n p c in
-    record {
-      some = a;
-      fits = b;
-      permutation = listing-suffices n (take n p) l (position (take n p)) λ k h.
-          (stands k h, position-holds (take n p) k (omega (arith, stands k h)));
-    }
-
-pub isSound-take : (width n : ℕ) (p : List ℕ) → isSound width n (take width p) ≡ isSound width n p
-isSound-take width n p =
-    bool-ext _ _
-    (λ t.
-    let s = sound width n (take width p) t in
-    isSound-yes width n p (record { some = s .some; fits = s .fits; permutation = rw (take-take n width p (s .fits)) at (s .permutation) })) λ t.
-    let s = sound width n p t in
-    isSound-yes width n (take width p)
-    (record { some = s .some; fits = s .fits; permutation = rw (take-take n width p (s .fits)) (s .permutation) })
 
 module _ (width n : ℕ) (a : 1 ≤ n) (b : n ≤ width) where
   pub isSound-padded : (p : List ℕ) → IsPermutation n p → isSound width n (padded width n p) ≡ true
@@ -199,9 +132,6 @@ module _ (width n : ℕ) (p : List ℕ) (t : isSound width n p ≡ true) where
   pub take-inversePadded : take n (inversePadded width n p) ≡ inverse n (take n p)
   take-inversePadded = rw inversePadded-is (padded-own width n _ (sound width n p t .fits) (back .size))
 
-  pub inversePadded-permutation : IsPermutation n (take n (inversePadded width n p))
-  inversePadded-permutation = rw take-inversePadded back
-
 -- ---- of other arguments
 
 module _ (width n : ℕ) (p : List ℕ) (k : ℕ) (r : List ℕ) where
@@ -222,82 +152,13 @@ pub inversePadded-no : (width n : ℕ) (p : List ℕ) → isSound width n p ≡ 
 unfolding inversePadded
 inversePadded-no width n p e = rw (e, inversePadded)
 
--- ---- the results are sound
+-- ---- the inverse is sound
 
-module _ (width n : ℕ) (a : 1 ≤ n) (b : n ≤ width) where
-  pub isSound-composed : (p : List ℕ) (k : ℕ) (r : List ℕ) → isSound width n (composedPadded width n p k r) ≡ true
-  isSound-composed p k r = ⊎-elim yes-case no-case (yes-or-no (eqb n k && (isSound width n p && isSound width n r)))
-    where
-      yes-case : (eqb n k && (isSound width n p && isSound width n r)) ≡ true → isSound width n (composedPadded width n p k r) ≡ true
-      yes-case t =
-          let s = and-yes (eqb n k) _ t in
-          let u = and-yes (isSound width n p) (isSound width n r) (s .1) in
-          rw (← eqb-true n k (s .0), composedPadded-is width n p r (u .0) (u .1)) (isSound-padded width n a b _ (both width n p r (u .0) (u .1)))
+pub isSound-inverse : (width n : ℕ) → 1 ≤ n → n ≤ width → (p : List ℕ) → isSound width n (inversePadded width n p) ≡ true
+isSound-inverse width n a b p = ⊎-elim yes-case no-case (yes-or-no (isSound width n p))
+  where
+    yes-case : isSound width n p ≡ true → isSound width n (inversePadded width n p) ≡ true
+    yes-case t = rw (inversePadded-is width n p t) (isSound-padded width n a b _ (back width n p t))
 
-      no-case : (eqb n k && (isSound width n p && isSound width n r)) ≡ false → isSound width n (composedPadded width n p k r) ≡ true
-      no-case t = rw (composedPadded-no width n p k r t) (isSound-identity width n a b)
-
-  pub isSound-inverse : (p : List ℕ) → isSound width n (inversePadded width n p) ≡ true
-  isSound-inverse p = ⊎-elim yes-case no-case (yes-or-no (isSound width n p))
-    where
-      yes-case : isSound width n p ≡ true → isSound width n (inversePadded width n p) ≡ true
-      yes-case t = rw (inversePadded-is width n p t) (isSound-padded width n a b _ (back width n p t))
-
-      no-case : isSound width n p ≡ false → isSound width n (inversePadded width n p) ≡ true
-      no-case t = rw (inversePadded-no width n p t) (isSound-identity width n a b)
-
--- ---- composed with the inverse
-
-module _ (width n : ℕ) (p : List ℕ) (t : isSound width n p ≡ true) where
-  back-sound : isSound width n (inversePadded width n p) ≡ true
-  back-sound = let s = sound width n p t in isSound-inverse width n (s .some) (s .fits) p
-
-  pub composed-inversePadded : composedPadded width n p n (inversePadded width n p) ≡ identity width
-  composed-inversePadded =
-      composedPadded-is width n p (inversePadded width n p) t back-sound
-      ∙ rw (take-inversePadded width n p t, composed-inverse n (take n p) (sound width n p t .permutation)) (padded-identity width n)
-
-  pub inversePadded-composed : composedPadded width n (inversePadded width n p) n p ≡ identity width
-  inversePadded-composed =
-      composedPadded-is width n (inversePadded width n p) p back-sound t
-      ∙ rw (take-inversePadded width n p t, inverse-composed n (take n p) (sound width n p t .permutation)) (padded-identity width n)
-
--- ---- of a list of w numbers, the first `width`: what the code makes of it
-
-pub isSound-first : (width n : ℕ) (a p : List ℕ) → take width a ≡ p → isSound width n a ≡ isSound width n p
-isSound-first width n a p e = sym (isSound-take width n a) ∙ ap (isSound width n) e
-
-composed-take : (n : ℕ) (p r : List ℕ) → IsPermutation n (take n r) → composed n p r ≡ composed n (take n p) (take n r)
-unfolding composed
-composed-take n p r o = tabulate-ext 0 n _ _ λ i h. rw (← getD-take n r i 0 h) (sym (getD-take n p (getD (take n r) i 0) 0 (o .within i h)))
-
--- p and r as arrays of w positions, of which the first `width` count, and o the array that the code makes of them
-module _ (width w n : ℕ) (p o : List ℕ) (h : width ≤ w) where
-  pub followed-is : (k : ℕ) (r : List ℕ) → n ≡ k → isSound width n p ≡ true → isSound width n r ≡ true → o ≡ padded w n (composed n p r) →
-      take width o ≡ composedPadded width n (take width p) k (take width r)
-  followed-is k r m tp tr e =
-      let s = sound width n r tr in
-      let t : composed n p r ≡ composed n (take n (take width p)) (take n (take width r)) =
-      rw (take-take n width p (s .fits), take-take n width r (s .fits)) (composed-take n p r (s .permutation)) in
-      rw (e, ← m, take-padded width w n (composed n p r) h)
-      (ap (padded width n) t ∙ sym (composedPadded-is width n (take width p) (take width r) (isSound-take width n p ∙ tp) (isSound-take width n r ∙ tr)))
-
-  pub reversed-is : isSound width n p ≡ true → o ≡ padded w n (inverse n (take n p)) → take width o ≡ inversePadded width n (take width p)
-  reversed-is t e =
-      rw (e, inversePadded-is width n (take width p) (isSound-take width n p ∙ t), take-take n width p (sound width n p t .fits))
-      (take-padded width w n (inverse n (take n p)) h)
-
-  -- the identity, where the composition or the inverse is
-  pub own-composed : (k : ℕ) (r : List ℕ) → composedPadded width n (take width p) k (take width r) ≡ identity width → o ≡ identity w →
-      take width o ≡ composedPadded width n (take width p) k (take width r)
-  own-composed k r e f = rw f (take-identity width w h ∙ sym e)
-
-  pub own-inverse : isSound width n p ≡ false → o ≡ identity w → take width o ≡ inversePadded width n (take width p)
-  own-inverse t f = rw f (take-identity width w h ∙ sym (inversePadded-no width n (take width p) (isSound-take width n p ∙ t)))
-
--- with the first positions by their names
-pub composed-of : (width n k : ℕ) (a b p r c : List ℕ) → a ≡ p → b ≡ r → c ≡ composedPadded width n a k b → c ≡ composedPadded width n p k r
-composed-of width n k a b p r c e f g = rw (← e, ← f) g
-
-pub inverse-of : (width n : ℕ) (a p c : List ℕ) → a ≡ p → c ≡ inversePadded width n a → c ≡ inversePadded width n p
-inverse-of width n a p c e g = rw (← e) g
+    no-case : isSound width n p ≡ false → isSound width n (inversePadded width n p) ≡ true
+    no-case t = rw (inversePadded-no width n p t) (isSound-identity width n a b)

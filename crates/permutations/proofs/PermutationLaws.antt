@@ -10,8 +10,7 @@
 --   composed-inverse, inverse-composed     ==  a permutation composed with its inverse, on either side, is the identity
 --   through                                ==  any permutation is a given one followed by another
 --   composed-assoc                         ==  composition is associative
---   composed-identity, identity-composed   ==  the identity changes nothing, on either side
---   inverse-inverse                        ==  the inverse of the inverse is the permutation
+--   identity-composed                      ==  the identity followed by a permutation is that permutation
 use mathlib.Core.Path.{_≡_, sym, ap, _∙_}
 use mathlib.Core.List.{List, [], _∷_}
 use mathlib.Core.Logic.{_⊎_, inl, inr}
@@ -137,10 +136,6 @@ unfolding composed
 composed-assoc n p r s o =
     tabulate-ext 0 n _ _ λ i h. at-composed n p r (getD s i 0) (o .within i h) ∙ ap (λ (x : ℕ). getD p x 0) (sym (at-composed n r s i h))
 
-pub composed-identity : (n : ℕ) (p : List ℕ) → IsPermutation n p → composed n p (identity n) ≡ p
-unfolding composed
-composed-identity n p o = tabulate-is 0 p n _ (o .size) λ i h. rw (at-identity n i h)
-
 pub identity-composed : (n : ℕ) (p : List ℕ) → IsPermutation n p → composed n (identity n) p ≡ p
 unfolding composed
 identity-composed n p o = tabulate-is 0 p n _ (o .size) λ i h. sym (at-identity n (getD p i 0) (o .within i h))
@@ -176,13 +171,3 @@ module _ (n : ℕ) (p : List ℕ) (o : IsPermutation n p) where
   -- r is p followed by a permutation
   pub through : (r : List ℕ) → IsPermutation n r → composed n p (composed n (inverse n p) r) ≡ r
   through r or = sym (composed-assoc n p (inverse n p) r or) ∙ rw composed-inverse (identity-composed n r or)
-
-pub inverse-inverse : (n : ℕ) (p : List ℕ) → IsPermutation n p → inverse n (inverse n p) ≡ p
-inverse-inverse n p o =
-    let oi = inverse-permutation n p o in
-    let oii = inverse-permutation n (inverse n p) oi in
-    sym (identity-composed n (inverse n (inverse n p)) oii)
-    ∙ ap (λ (x : List ℕ). composed n x (inverse n (inverse n p))) (sym (composed-inverse n p o))
-    ∙ composed-assoc n p (inverse n p) (inverse n (inverse n p)) oii
-    ∙ ap (composed n p) (composed-inverse n (inverse n p) oi)
-    ∙ composed-identity n p o

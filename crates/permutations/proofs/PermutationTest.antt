@@ -16,7 +16,8 @@ use lib.Dec.{eqb}
 use Rattle.permutations.specs.Lists.{numbers, every, occurrences}
 use Rattle.permutations.specs.Permutations.{IsPermutation, isPermutation, position, words, permutations}
 use Rattle.permutations.proofs.BoolLaws.{and-yes, yes-and}
-use Rattle.permutations.proofs.ListLaws.{in-select, of-select, in-flatMap, in-numbers, every-number, number-every, occurs-at, once-occurs}
+use Rattle.permutations.proofs.ListLaws.{in-flatMap, in-numbers, every-number, number-every}
+use Rattle.permutations.proofs.SelectLaws.{in-select, of-select, occurs-at, once-occurs}
 use Rattle.permutations.proofs.PermutationLaws.{onto, listed, position-found}
 
 -- n entries among which every number below n stands: then each stands once, and nothing else does

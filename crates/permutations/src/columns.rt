@@ -22,25 +22,7 @@ impl ColumnPermutation {
     pub fn identity(size: usize) -> ColumnPermutation
         ensures { λ r. ⌜ ListsColumns (identity 16) size r ⌝ }
     {
-        let at = [
-            ColumnNumber(0),
-            ColumnNumber(1),
-            ColumnNumber(2),
-            ColumnNumber(3),
-            ColumnNumber(4),
-            ColumnNumber(5),
-            ColumnNumber(6),
-            ColumnNumber(7),
-            ColumnNumber(8),
-            ColumnNumber(9),
-            ColumnNumber(10),
-            ColumnNumber(11),
-            ColumnNumber(12),
-            ColumnNumber(13),
-            ColumnNumber(14),
-            ColumnNumber(15),
-        ];
-        ColumnPermutation { at, size }
+        ColumnPermutation::from_numbers(numbers::own_numbers(), size)
     }
 
     // The column at a position; column 0 past the end.

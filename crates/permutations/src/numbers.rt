@@ -53,7 +53,7 @@ pub fn lists_each_once(p: [u8; 16], width: usize, n: usize) -> bool
 }
 
 // Each position's own number.
-fn own_numbers() -> [u8; 16]
+pub fn own_numbers() -> [u8; 16]
     ensures { λ o. ⌜ o ≡ identity 16 ⌝ }
 {
     [0, 1, 2, 3, 4, 5, 6, 7, 8, 9, 10, 11, 12, 13, 14, 15]

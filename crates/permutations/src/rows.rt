@@ -22,17 +22,7 @@ impl RowPermutation {
     pub fn identity(size: usize) -> RowPermutation
         ensures { λ r. ⌜ ListsRows (identity 8) size r ⌝ }
     {
-        let at = [
-            RowNumber(0),
-            RowNumber(1),
-            RowNumber(2),
-            RowNumber(3),
-            RowNumber(4),
-            RowNumber(5),
-            RowNumber(6),
-            RowNumber(7),
-        ];
-        RowPermutation { at, size }
+        RowPermutation::from_numbers(numbers::own_numbers(), size)
     }
 
     // The row at a position; row 0 past the end.

@@ -1,13 +1,13 @@
--- Answers as they are exported.
+-- Answers as they are exported. Between functions: no answer of a call is defined here.
 --
 --   Exported answer r  ==  r holds the answer's number and the numbers of its two orders
 use mathlib.Core.Path.{_≡_}
 use Rattle.permutations.specs.Rows.{rowNumbers}
 use Rattle.permutations.specs.Columns.{columnNumbers}
 use Rattle.canonical.specs.declared.answers.Answer.{Answer}
-use Rattle.plan_register.specs.declared.Orders.{Orders}
+use Rattle.plan_register.specs.declared.Arranged.{Arranged}
 
-pub record Exported (answer : Answer) (r : Orders) : Type 0 where
+pub record Exported (answer : Answer) (r : Arranged) : Type 0 where
   pub number : r .number ≡ answer .number
   pub rows : r .rows ≡ rowNumbers (answer .rows)
   pub columns : r .columns ≡ columnNumbers (answer .columns)

@@ -12,25 +12,24 @@ use register::striking;
 ghost use mathlib.Core.Path.{_≡_};
 ghost use Rattle.canonical.specs.Represent.{Represented};
 ghost use Rattle.canonical.specs.Same.{Compared};
-ghost use Rattle.bounds.specs.Prune.{outcome};
+ghost use Rattle.bounds.specs.Prune.{prunedTo};
 ghost use Rattle.bounds.specs.Demand2.{Prunes};
-ghost use Rattle.machine.specs.Calls.{opened, entered, struck, fitted};
-ghost use Rattle.machine.specs.Valid.{placed, shape};
+ghost use Rattle.machine.specs.Calls.{opened, entered, struck, fitted, placed, shape};
 ghost use Rattle.plan_register.specs.Exported.{Exported};
 
 // The number, the row order and the column order.
 #[repr(C)]
-pub struct Orders {
+pub struct Arranged {
     pub number: u32,
     pub rows: [u8; 8],
     pub columns: [u8; 16],
 }
 
 // The same numbers, without the types that tell rows from columns.
-fn exported(answer: Answer) -> Orders
+fn exported(answer: Answer) -> Arranged
     ensures { λ r. ⌜ Exported answer r ⌝ }
 {
-    Orders {
+    Arranged {
         number: answer.number,
         rows: answer.rows.bytes(),
         columns: answer.columns.bytes(),
@@ -44,14 +43,14 @@ pub extern "C" fn plan_register_represent(
     top: usize,
     grid: &[u8],
     out: &mut [u8],
-) -> Orders
+) -> Arranged
     ensures { λ r. ⌜ Represented m n top (now (grid .entry)) (now (out .entry)) (r .number) (r .rows) (r .columns) (now (out .exit)) ⌝ }
 {
     exported(represent::represent(m, n, top, grid, out))
 }
 
 #[no_mangle]
-pub extern "C" fn plan_register_same(m: usize, n: usize, top: usize, a: &[u8], b: &[u8]) -> Orders
+pub extern "C" fn plan_register_same(m: usize, n: usize, top: usize, a: &[u8], b: &[u8]) -> Arranged
     ensures { λ r. ⌜ Compared m n top (now (a .entry)) (now (b .entry)) (r .number) (r .rows) (r .columns) ⌝ }
 {
     exported(same::same(m, n, top, a, b))
@@ -65,7 +64,7 @@ pub extern "C" fn plan_register_prune(
     low: &mut [u8],
     high: &mut [u8],
 ) -> Counted
-    ensures { λ r. ⌜ Prunes m n top (now (low .entry)) (now (high .entry)) (outcome (r .number) (r .count) (now (low .exit)) (now (high .exit))) ⌝ }
+    ensures { λ r. ⌜ Prunes m n top (now (low .entry)) (now (high .entry)) (prunedTo (r .number) (r .count) (now (low .exit)) (now (high .exit))) ⌝ }
 {
     prune::prune(m, n, top, low, high)
 }

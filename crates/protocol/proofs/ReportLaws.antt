@@ -15,9 +15,9 @@ use Prim.Native.Nat.{ℕ, _*_, _≤_, _<_}
 use native.Mathlib.Omega.{arith}
 use lib.ListN.{length, getD, length-append}
 use Rattle.permutations.specs.Lists.{select}
-use Rattle.permutations.proofs.ListLaws.{length-select}
+use Rattle.permutations.proofs.SelectLaws.{length-select}
 use Rattle.grids.specs.Order.{less}
-use Rattle.layout.specs.Layout.{Shape, cells, numberAt}
+use Rattle.layout.specs.Layout.{Shape, gridSize, numberAt}
 use Rattle.layout.proofs.LayoutLaws.{length-ended, fields-read}
 use Rattle.machine.specs.Calls.{placeIn}
 use Rattle.machine.specs.CallLists.{Call}
@@ -27,7 +27,7 @@ use Rattle.machine.proofs.StepLaws.{step-answers}
 use Rattle.protocol.specs.Input.{commandIn, isLaid}
 use Rattle.protocol.specs.Commands.{callOf, callIn, report, answerCall, malformed, answer}
 use Rattle.protocol.specs.Transcript.{reports}
-use Rattle.protocol.proofs.InputLaws.{CommandLaid, laid-command, laid-exactly}
+use Rattle.protocol.proofs.CommandLaws.{CommandLaid, laid-command, laid-exactly}
 
 -- ---- one line
 
@@ -49,20 +49,20 @@ report-states k x p a b c = record { command = read 0 (omega arith) a; number = 
 
 -- ---- the answers
 
-pub call-answer : (s : Shape) (l : List (List ℕ)) (line : List ℕ) → isLaid (cells s) line ≡ true →
-    answer s l line ≡ answerCall (commandIn line) (step s l (callIn (cells s) line))
+pub call-answer : (s : Shape) (l : List (List ℕ)) (line : List ℕ) → isLaid (gridSize s) line ≡ true →
+    answer s l line ≡ answerCall (commandIn line) (step s l (callIn (gridSize s) line))
 unfolding answer
 call-answer s l line e = rw (e, answer)
 
-pub malformed-answer : (s : Shape) (l : List (List ℕ)) (line : List ℕ) → isLaid (cells s) line ≡ false → answer s l line ≡ malformed l
+pub malformed-answer : (s : Shape) (l : List (List ℕ)) (line : List ℕ) → isLaid (gridSize s) line ≡ false → answer s l line ≡ malformed l
 unfolding answer
 malformed-answer s l line e = rw (e, answer)
 
 pub length-answer : (s : Shape) (l : List (List ℕ)) (line : List ℕ) → length (answer s l line .printed) ≡ 19
 unfolding answerCall malformed
-length-answer s l line = go (isLaid (cells s) line) refl
+length-answer s l line = go (isLaid (gridSize s) line) refl
   where
-    go : (t : Bool) → isLaid (cells s) line ≡ t → length (answer s l line .printed) ≡ 19
+    go : (t : Bool) → isLaid (gridSize s) line ≡ t → length (answer s l line .printed) ≡ 19
     go true e = rw (call-answer s l line e) (length-report _ _ _)
     go false e = rw (malformed-answer s l line e) (length-report 0 12 0)
 
@@ -97,14 +97,14 @@ module _ (s : Shape) (l : List (List ℕ)) (g : Good s l) where
 
 -- ---- what is stated
 
-pub malformed-states : (s : Shape) (l : List (List ℕ)) (line : List ℕ) → isLaid (cells s) line ≡ false → ReportStates 0 12 0 (answer s l line .printed)
+pub malformed-states : (s : Shape) (l : List (List ℕ)) (line : List ℕ) → isLaid (gridSize s) line ≡ false → ReportStates 0 12 0 (answer s l line .printed)
 unfolding malformed
 malformed-states s l line e = rw (malformed-answer s l line e) (report-states 0 12 0 (omega arith) (omega arith) (omega arith))
 
-pub answer-states : (s : Shape) (l : List (List ℕ)) → Good s l → (k : ℕ) (c line : List ℕ) → CommandLaid (cells s) k c line →
-    ReportStates k (step s l (callOf (cells s) k c) .number) (step s l (callOf (cells s) k c) .place) (answer s l line .printed)
+pub answer-states : (s : Shape) (l : List (List ℕ)) → Good s l → (k : ℕ) (c line : List ℕ) → CommandLaid (gridSize s) k c line →
+    ReportStates k (step s l (callOf (gridSize s) k c) .number) (step s l (callOf (gridSize s) k c) .place) (answer s l line .printed)
 unfolding answerCall callIn
 answer-states s l g k c line o =
     let q = laid-command o in
-    let f = step-fits s l g (callOf (cells s) k c) in
-    rw (call-answer s l line (laid-exactly (cells s) line .1 (k, c, o)), q .0, q .1) (report-states k _ _ (omega (arith, o .command)) (f .0) (f .1))
+    let f = step-fits s l g (callOf (gridSize s) k c) in
+    rw (call-answer s l line (laid-exactly (gridSize s) line .1 (k, c, o)), q .0, q .1) (report-states k _ _ (omega (arith, o .command)) (f .0) (f .1))

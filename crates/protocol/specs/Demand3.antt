@@ -12,7 +12,7 @@ use mathlib.Core.Bool.{true, false}
 use Prim.Native.Nat.{ℕ, suc}
 use lib.ListN.{length, drop}
 use Rattle.permutations.specs.Lists.{select}
-use Rattle.layout.specs.Layout.{cells, layoutLength}
+use Rattle.layout.specs.Layout.{gridSize, layoutLength}
 use Rattle.machine.specs.Calls.{Outcome}
 use Rattle.machine.specs.CallLists.{Call, Implementation, run, left}
 use Rattle.machine.specs.Demand3.{AfterOpen, Demand3}
@@ -37,13 +37,13 @@ replies size (line ∷ ls) os =
     ]
 
 unfoldable pub inputCalls : List ℕ → List Call
-inputCalls input = callsIn (cells (shapeIn input)) (furtherLines input)
+inputCalls input = callsIn (gridSize (shapeIn input)) (furtherLines input)
 
 pub record PrintsCalls (p : Printing) (i : Implementation) (input : List ℕ) (o : Outcome) : Type 0 where
   -- the open is not refused
   pub opened : o .number ≡ 0
   -- a line for each further line, and then the register
-  pub prints : p input ≡ replies (cells (shapeIn input)) (furtherLines input) (run i (o .bytes) (inputCalls input)) ++ left i (o .bytes) (inputCalls input)
+  pub prints : p input ≡ replies (gridSize (shapeIn input)) (furtherLines input) (run i (o .bytes) (inputCalls input)) ++ left i (o .bytes) (inputCalls input)
   -- demand 3 of these calls: of what they answer, and of the register printed, its count, its fits and its bytes
   pub after : AfterOpen i (shapeIn input) (o .bytes) (inputCalls input)
 

@@ -19,8 +19,7 @@ use Rattle.grids.specs.Order.{equal}
 use Rattle.grids.specs.Grids.{capped}
 use Rattle.grids.specs.Questions.{inRange}
 use Rattle.layout.specs.Decimal.{field}
-use Rattle.layout.specs.Layout.{Shape, fields, numberAt}
-use Rattle.layout.specs.Lines.{cellsOf}
+use Rattle.layout.specs.Layout.{Shape, fields, numberAt, cellsOf}
 
 unfoldable pub onto : ℕ → List (List ℕ) → List (List ℕ)
 onto b [] = (b ∷ []) ∷ []

@@ -28,8 +28,8 @@ use Rattle.layout.specs.Layout.{Shape, layoutLength, decodeShape, decode, laidO
 use Rattle.layout.proofs.LineLaws.{laid-lines}
 use Rattle.lines.specs.declared.head.Head.{Head}
 use Rattle.lines.specs.Head.{States}
-use Rattle.machine.specs.Calls.{Outcome, answered, question5, gridQuestions, leastIn}
-use Rattle.machine.specs.Valid.{placed, Valid, asked}
+use Rattle.machine.specs.Calls.{Outcome, answered, question5, gridQuestions, leastIn, placed}
+use Rattle.machine.specs.Valid.{Valid, asked}
 use Rattle.machine.proofs.LeastSteps.{answered-refusal}
 use Rattle.machine.proofs.ValidLaws.{valid-sizes}
 use Rattle.register.specs.declared.asking.Asked.{Asked}

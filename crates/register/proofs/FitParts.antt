@@ -6,20 +6,21 @@
 --   fit-ready     ==  what the count requires
 --   count-small   ==  the count is a small number
 --   fit-placed    ==  the count is fit's
-use mathlib.Core.Path.{_≡_, refl, sym, ap, _∙_}
+use mathlib.Core.Path.{_≡_, sym, _∙_}
 use mathlib.Core.List.{List, _++_}
 use mathlib.Core.Bool.{Bool, true}
 use Prim.Native.Nat.{ℕ, _-_, _*_, _≤_}
 use native.Mathlib.Omega.{arith}
 use lib.ListN.{length, take}
 use Rattle.permutations.specs.Lists.{select}
-use Rattle.permutations.proofs.ListLaws.{part-within, part-is, part-length, length-select}
+use Rattle.permutations.proofs.ListLaws.{part-within, part-is, part-length}
+use Rattle.permutations.proofs.SelectLaws.{length-select}
 use Rattle.bounds.specs.Bounds.{IsBounds, inBounds}
-use Rattle.layout.specs.Layout.{Shape, cells, decodeShape, decode, laidOut}
+use Rattle.layout.specs.Layout.{gridSize, decodeShape, decode, laidOut}
 use Rattle.lines.specs.declared.head.Head.{Head}
-use Rattle.lines.specs.Head.{shapeOf, States}
-use Rattle.machine.specs.Calls.{fitted}
-use Rattle.machine.specs.Valid.{placed, Valid, PrunesCopies}
+use Rattle.lines.specs.Head.{States}
+use Rattle.machine.specs.Calls.{fitted, placed}
+use Rattle.machine.specs.Valid.{Valid, PrunesCopies}
 use Rattle.machine.proofs.ValidLaws.{valid-count, valid-sizes}
 use Rattle.machine.proofs.FitSteps.{fit-lengths, fit-none, fit-bounds, fit-counts, pruned-sizes}
 use Rattle.register.proofs.AskSteps.{head-size, head-valid}
@@ -39,7 +40,7 @@ module _ {b : List ℕ} {h : Head} (laid : laidOut b ≡ true) (st : States b h)
   copy-part = part-is x x′ (h .rows * h .columns) copy-length
 
 module _ {b : List ℕ} {h : Head} (laid : laidOut b ≡ true) (st : States b h) (low high : List ℕ) where
-  sized : cells (decode b .shape) ≡ h .rows * h .columns
+  sized : gridSize (decode b .shape) ≡ h .rows * h .columns
   unfolding decode
   sized = sym (head-valid laid st .sized)
 

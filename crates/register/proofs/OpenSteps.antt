@@ -21,15 +21,16 @@ use lib.Dec.{eqb}
 use borrow.Author.Tests.{eq-eqb, ne-eqb}
 use borrow.Rule.Slice.PartMut.{midOf, putMid}
 use Rattle.permutations.specs.Lists.{every}
-use Rattle.grids.specs.Questions.{Question, firstNo, limitsNo, question6}
+use Rattle.grids.specs.Asked.{limitsNo}
+use Rattle.grids.specs.Questions.{Question, firstNo, question6}
 use Rattle.grids.proofs.QuestionLaws.{firstNo-pass, firstNo-stop, first-no-stays, first-no-next, yes-range, limits-decide, limits-refuse, limits-pass, size-fits}
 use Rattle.grids.proofs.QuestionSteps.{range-no}
-use Rattle.layout.specs.Layout.{Shape, cells, headLength, lineLength, headLine, blankLine, layout, layoutLength, InLimits}
+use Rattle.layout.specs.Layout.{Shape, gridSize, headLength, lineLength, headLine, blankLine, layout, layoutLength, InLimits}
 use Rattle.layout.specs.Lines.{lineStart}
 use Rattle.layout.proofs.LineLaws.{line-short}
 use Rattle.layout.proofs.MoveLaws.{Opened, opened-head-part, opened-next, opened-all}
-use Rattle.machine.specs.Calls.{answered, question4, openQuestions, opened}
-use Rattle.machine.specs.Valid.{placed, shape, numbersNo, openNo}
+use Rattle.machine.specs.Calls.{answered, question4, openQuestions, opened, placed, shape}
+use Rattle.machine.specs.Valid.{numbersNo, openNo}
 use Rattle.machine.proofs.AskedLaws.{numberQuestions, number-numbered, numbers-pass, open-pass}
 use Rattle.machine.proofs.LeastSteps.{answered-refusal}
 use Rattle.machine.proofs.ValidMoves.{Room, lines-fit, tail-part, put-tail}
@@ -77,7 +78,7 @@ module _ (s : Shape) (x : ℕ) {k : ℕ} (e : k ≡ numbersNo s) where
 pub numbers-limits : (s : Shape) {k : ℕ} → k ≡ numbersNo s → k ≡ 0 → InLimits s
 numbers-limits s e z = numbers-pass s .0 (sym e ∙ z)
 
-pub length-is : (s : Shape) {x : ℕ} → x ≡ headLength + s .capacity * lineLength (cells s) → x ≡ layoutLength s
+pub length-is : (s : Shape) {x : ℕ} → x ≡ headLength + s .capacity * lineLength (gridSize s) → x ≡ layoutLength s
 unfolding layoutLength
 length-is s q = q
 
@@ -110,16 +111,16 @@ head-fits s b e = omega (arith, e)
 
 -- line 1 and e blank lines are written, and the next one begins at start
 pub record Filling (s : Shape) (w start e : ℕ) (b : List ℕ) : Type 0 where
-  pub width-is : w ≡ lineLength (cells s)
+  pub width-is : w ≡ lineLength (gridSize s)
   pub place : start ≡ 31 + e * w
   pub passed : e ≤ s .capacity
   pub written : Opened s e b
 
-pub filling-head : (s : Shape) {w : ℕ} (b ys : List ℕ) → w ≡ lineLength (cells s) → length b ≡ layoutLength s → ys ≡ headLine s 0 → Filling s w 31 0 (putMid 0 31 b ys)
+pub filling-head : (s : Shape) {w : ℕ} (b ys : List ℕ) → w ≡ lineLength (gridSize s) → length b ≡ layoutLength s → ys ≡ headLine s 0 → Filling s w 31 0 (putMid 0 31 b ys)
 filling-head s b ys q l e = record { width-is = q; place = omega arith; passed = omega arith; written = opened-head-part b l e refl }
 
 module _ {s : Shape} {w start e : ℕ} {b : List ℕ} (i : InLimits s) (f : Filling s w start e b) (h : e < s .capacity) where
-  start-is : start ≡ lineStart (cells s) e
+  start-is : start ≡ lineStart (gridSize s) e
   unfolding lineStart
   start-is = f .place ∙ ap (λ (x : ℕ). 31 + e * x) (f .width-is)
 
@@ -127,11 +128,11 @@ module _ {s : Shape} {w start e : ℕ} {b : List ℕ} (i : InLimits s) (f : Fill
   unfolding layoutLength
   filling-room =
       let c = limits-size s i in
-      let r = lines-fit b e 0 (s .capacity) w (omega arith) (f .written .sized ∙ ap (λ (x : ℕ). 31 + s .capacity * x) (sym (f .width-is))) (i .capacity-limits .1) (omega (arith, f .width-is, line-short (cells s) c)) in
+      let r = lines-fit b e 0 (s .capacity) w (omega arith) (f .written .sized ∙ ap (λ (x : ℕ). 31 + s .capacity * x) (sym (f .width-is))) (i .capacity-limits .1) (omega (arith, f .width-is, line-short (gridSize s) c)) in
       let p = f .place in
       record { past-head = omega (arith, p); start-inside = omega (arith, p, r .start-inside); end-inside = omega (arith, p, r .end-inside); small = omega (arith, p, r .small) }
 
-  pub filling-next : (ys : List ℕ) → ys ≡ blankLine (cells s) ++ drop (lineLength (cells s)) (midOf start (length b - start) b) → Filling s w (start + w) (e + 1) (putMid start (length b - start) b ys)
+  pub filling-next : (ys : List ℕ) → ys ≡ blankLine (gridSize s) ++ drop (lineLength (gridSize s)) (midOf start (length b - start) b) → Filling s w (start + w) (e + 1) (putMid start (length b - start) b ys)
   filling-next ys d = record {
     width-is = f .width-is;
     place = omega (arith, f .place);

@@ -20,8 +20,8 @@ use Rattle.grids.specs.Order.{_≼_, _≺_, equal}
 use Rattle.grids.specs.Comparisons.{isEqual, compared}
 use Rattle.grids.proofs.OrderLaws.{equal-eq, eq-equal}
 use Rattle.grids.proofs.ComparisonLaws.{equal-yes, equal-no}
-use Rattle.layout.specs.Layout.{lineLength, decode, Ascends}
-use Rattle.layout.specs.Lines.{lineAt, cellsOf, EntryLine}
+use Rattle.layout.specs.Layout.{lineLength, decode, Ascends, cellsOf}
+use Rattle.layout.specs.Lines.{lineAt, EntryLine}
 use Rattle.layout.proofs.LineLaws.{length-cells}
 use Rattle.machine.specs.Places.{Between}
 use Rattle.machine.specs.Valid.{Valid}

@@ -1,4 +1,4 @@
--- What enter and strike ask first.
+-- What enter and strike ask first. Between functions: no answer of a call is defined here.
 --
 --   Asks b g least r     ==  r has the first no of questions 5, 6 and 7, and where it is 0 the register's numbers; the slice then begins with the least grid of the class of g
 use mathlib.Core.Path.{_≡_}

@@ -1,4 +1,4 @@
--- A step of the search for a place.
+-- A step of the search for a place. Between functions: no answer of a call is defined here.
 --
 --   Halved l r span next  ==  the place of r in l is still in the span, and the span is shorter
 use mathlib.Core.List.{List}

@@ -8,8 +8,8 @@ use lines::numbers;
 ghost use mathlib.Core.Path.{_≡_};
 ghost use lib.ListN.{length};
 ghost use Rattle.layout.specs.Layout.{decodeShape};
-ghost use Rattle.machine.specs.Calls.{entered};
-ghost use Rattle.machine.specs.Valid.{placed, Valid, enteredLeast};
+ghost use Rattle.machine.specs.Calls.{entered, placed};
+ghost use Rattle.machine.specs.Valid.{Valid, enteredLeast};
 
 // Enters a grid that is least in its class into a register that is laid out.
 fn enter_least(register: &mut [u8], capacity: usize, count: usize, least: &[u8]) -> Placed

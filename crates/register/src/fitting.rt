@@ -6,8 +6,8 @@ use lines::head;
 use validation::question5;
 ghost use mathlib.Core.Path.{_≡_};
 ghost use lib.ListN.{length};
-ghost use Rattle.machine.specs.Calls.{fitted};
-ghost use Rattle.machine.specs.Valid.{placed, PrunesCopies};
+ghost use Rattle.machine.specs.Calls.{fitted, placed};
+ghost use Rattle.machine.specs.Valid.{PrunesCopies};
 
 // Copies bounds of one size and prunes the copies. Returns prune's number.
 fn prune_copies(

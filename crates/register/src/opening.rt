@@ -9,8 +9,8 @@ ghost use mathlib.Core.Path.{_≡_};
 ghost use mathlib.Core.List.{[]};
 ghost use lib.ListN.{length};
 ghost use Rattle.layout.specs.Layout.{layout, layoutLength, InLimits};
-ghost use Rattle.machine.specs.Calls.{opened};
-ghost use Rattle.machine.specs.Valid.{placed, numbersNo, openNo, shape};
+ghost use Rattle.machine.specs.Calls.{opened, placed, shape};
+ghost use Rattle.machine.specs.Valid.{numbersNo, openNo};
 
 // Questions 1 to 4: the number of the first that gets a no, or 0.
 pub fn numbers_no(m: usize, n: usize, top: usize, capacity: usize) -> u32

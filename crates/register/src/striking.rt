@@ -7,8 +7,8 @@ use lines::entries;
 use lines::numbers;
 ghost use mathlib.Core.Path.{_≡_};
 ghost use lib.ListN.{length};
-ghost use Rattle.machine.specs.Calls.{struck};
-ghost use Rattle.machine.specs.Valid.{placed, Valid, struckLeast};
+ghost use Rattle.machine.specs.Calls.{struck, placed};
+ghost use Rattle.machine.specs.Valid.{Valid, struckLeast};
 
 // Strikes a grid that is least in its class from a register that is laid out.
 fn strike_least(register: &mut [u8], count: usize, least: &[u8]) -> Placed

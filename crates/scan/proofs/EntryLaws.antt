@@ -62,8 +62,8 @@ module _ (size top : ℕ) (b : List ℕ) (at length : ℕ) (e : length ≡ lineL
       (k : ℕ) (r : Bool) → 1 ≤ at → k ≤ size → CellsLaid top b at k → getD b (at + length - 1) 0 ≡ 10 →
       r ≡ allFit (3 * (size - k)) b (at + 3 * k - 1) base teen span (39 + top) → (r ≡ true) ↔ LineLaid size top b at
   line-decides base teen span t tables low k r h l front feed f = (
-    λ y. record { feed = rw e at feed; cells = cells-join size top b at k front (others .0 (sym f ∙ y)) l },
-    λ w. f ∙ others .1 (cells-part size top b at k (w .cells) l),
+    λ y. record { feed = rw e at feed; cells-laid = cells-join size top b at k front (others .0 (sym f ∙ y)) l },
+    λ w. f ∙ others .1 (cells-part size top b at k (w .cells-laid) l),
   )
     where
       others : (allFit (3 * (size - k)) b (at + 3 * k - 1) base teen span (39 + top) ≡ true) ↔ CellsLaid top b (at + 3 * k) (size - k)

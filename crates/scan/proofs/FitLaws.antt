@@ -1,6 +1,6 @@
 -- Laws of bytes that fit.
 --
---   lesser-first, lesser-second  ==  the lesser of two numbers
+--   smaller-first, smaller-second  ==  the smaller of two numbers
 --   rest-teen, rest-other   ==  what is left of a distance
 --   fits-not, fits-all      ==  the ways out of the test of a byte
 --   all-none, all-next      ==  no byte, and a byte more
@@ -14,16 +14,16 @@ use native.Mathlib.Numerals.{add-one}
 use borrow.Author.Tests.{eq-eqb, ne-eqb, le-leb, lt-leb, lt-ltb, le-ltb}
 use lib.ListN.{getD}
 use Rattle.lines.specs.Bytes.{above}
-use Rattle.scan.specs.Fits.{rest, lesser, fits, allFit}
+use Rattle.scan.specs.Fits.{rest, smaller, fits, allFit}
 use Rattle.scan.specs.Tables.{teenOf, spanOf}
 
-pub lesser-first : (a b : ℕ) → a < b → a ≡ lesser a b
-unfolding lesser
-lesser-first a b l = rw (lt-ltb a b l, lesser) refl
+pub smaller-first : (a b : ℕ) → a < b → a ≡ smaller a b
+unfolding smaller
+smaller-first a b l = rw (lt-ltb a b l, smaller) refl
 
-pub lesser-second : (a b : ℕ) → b ≤ a → b ≡ lesser a b
-unfolding lesser
-lesser-second a b l = rw (le-ltb a b l, lesser) refl
+pub smaller-second : (a b : ℕ) → b ≤ a → b ≡ smaller a b
+unfolding smaller
+smaller-second a b l = rw (le-ltb a b l, smaller) refl
 
 pub rest-teen : (x teen : ℕ) → x ≡ teen → 0 ≡ rest x teen
 unfolding rest
@@ -33,13 +33,13 @@ pub rest-other : (x teen : ℕ) → (x ≡ teen → ⊥) → x ≡ rest x teen
 unfolding rest
 rest-other x teen n = rw (ne-eqb x teen n, rest) refl
 
-pub fits-not : (laid : Bool) (byte before base teen span cap x y : ℕ) → x ≡ rest (above byte base) teen → y ≡ lesser span (above cap before) → y < x → false ≡ (laid && fits byte before base teen span cap)
+pub fits-not : (laid : Bool) (byte before base teen span cap x y : ℕ) → x ≡ rest (above byte base) teen → y ≡ smaller span (above cap before) → y < x → false ≡ (laid && fits byte before base teen span cap)
 unfolding fits
-fits-not laid byte before base teen span cap x y a b h = rw (lt-leb (rest (above byte base) teen) (lesser span (above cap before)) (omega (arith, a, b, h))) (sym (and-false laid))
+fits-not laid byte before base teen span cap x y a b h = rw (lt-leb (rest (above byte base) teen) (smaller span (above cap before)) (omega (arith, a, b, h))) (sym (and-false laid))
 
-pub fits-all : (laid : Bool) (byte before base teen span cap x y : ℕ) → x ≡ rest (above byte base) teen → y ≡ lesser span (above cap before) → x ≤ y → laid ≡ (laid && fits byte before base teen span cap)
+pub fits-all : (laid : Bool) (byte before base teen span cap x y : ℕ) → x ≡ rest (above byte base) teen → y ≡ smaller span (above cap before) → x ≤ y → laid ≡ (laid && fits byte before base teen span cap)
 unfolding fits
-fits-all laid byte before base teen span cap x y a b h = rw (le-leb (rest (above byte base) teen) (lesser span (above cap before)) (omega (arith, a, b, h))) (sym (and-true laid))
+fits-all laid byte before base teen span cap x y a b h = rw (le-leb (rest (above byte base) teen) (smaller span (above cap before)) (omega (arith, a, b, h))) (sym (and-true laid))
 
 pub all-none : (b : List ℕ) (before : ℕ) (base teen span : List ℕ) (cap : ℕ) → true ≡ allFit 0 b before base teen span cap
 unfolding allFit
@@ -59,6 +59,6 @@ pub teen-high : (top : ℕ) → 10 ≤ top → 17 ≡ teenOf top
 unfolding teenOf
 teen-high top l = rw (le-ltb top 10 l, teenOf) refl
 
-pub span-is : (top r : ℕ) → r ≡ lesser top 9 → r ≡ spanOf top
+pub span-is : (top r : ℕ) → r ≡ smaller top 9 → r ≡ spanOf top
 unfolding spanOf
 span-is top r e = e

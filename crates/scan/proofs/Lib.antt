@@ -1,3 +1,4 @@
+pub mod ThreeBytes
 pub mod CellLaws
 pub mod EntryLaws
 pub mod FitLaws

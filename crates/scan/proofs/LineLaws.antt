@@ -14,8 +14,8 @@ use lib.Seq.{drop-cons, take-add, drop-drop, getD-at, getD-take, getD-drop, drop
 use Rattle.permutations.specs.Lists.{tabulate}
 use Rattle.grids.proofs.QuestionLaws.{capped-at, at-capped}
 use Rattle.layout.specs.Decimal.{field, value}
-use Rattle.layout.specs.Layout.{fields, headLength, entryWidth, lineLength, entryLine, numberAt, entryAt}
-use Rattle.layout.specs.Lines.{lineStart, lineAt, cellsOf, EntryLine, EntriesLaid}
+use Rattle.layout.specs.Layout.{fields, headLength, entryWidth, lineLength, entryLine, numberAt, entryAt, cellsOf}
+use Rattle.layout.specs.Lines.{lineStart, lineAt, EntryLine, EntriesLaid}
 use Rattle.layout.proofs.LayoutLaws.{length-fields, field-at}
 use Rattle.layout.proofs.LineLaws.{next-start, length-line, cells-inside, length-cells, cell-at, entry-cells}
 use Rattle.scan.specs.Cells.{CellsLaid}
@@ -81,13 +81,13 @@ module _ (size top : ℕ) (b : List ℕ) (at : ℕ) (l : List ℕ) (t : top ≤ 
   unfolding CellsLaid CellField number entryLine cellsOf
   laid-entry h = record {
     bytes = sym (take-append-drop (3 * size) l) ∙ ap₂ _++_ (fields-of size 0 (λ k. numberAt 3 (3 * k) l) l pieces) (ends ∙ ap (λ (x : ℕ). x ∷ []) (sym feed-at ∙ h .feed));
-    at-most = at-capped top (cellsOf size l) (λ k c. let d : k < size = omega (arith, cells-long) in rw (cells-at k d) (bytes-field top _ _ _ t (h .cells k d) .1));
+    at-most = at-capped top (cellsOf size l) (λ k c. let d : k < size = omega (arith, cells-long) in rw (cells-at k d) (bytes-field top _ _ _ t (h .cells-laid k d) .1));
   }
     where
       pieces : (k : ℕ) → k < size → take 3 (drop (3 * k) l) ≡ field 3 (numberAt 3 (3 * (0 + k)) l)
       pieces k c =
           let z : k ≡ 0 + k = omega arith in
-          cell-bytes k c ∙ bytes-field top _ _ _ t (h .cells k c) .0 ∙ ap (field 3) (sym (cell-number k c) ∙ ap (λ (x : ℕ). numberAt 3 (3 * x) l) z)
+          cell-bytes k c ∙ bytes-field top _ _ _ t (h .cells-laid k c) .0 ∙ ap (field 3) (sym (cell-number k c) ∙ ap (λ (x : ℕ). numberAt 3 (3 * x) l) z)
 
   pub entry-laid : EntryLine size top l → LineLaid size top b at
   unfolding CellsLaid CellField number entryLine
@@ -97,7 +97,7 @@ module _ (size top : ℕ) (b : List ℕ) (at : ℕ) (l : List ℕ) (t : top ≤ 
         ∙ sym (same (3 * size) (cells-inside size))
         ∙ ap (λ (x : List ℕ). getD x (3 * size) 0) (e .bytes)
         ∙ getD-at (fields 3 (cellsOf size l)) 10 [] 0 (3 * size) (length-fields 3 (cellsOf size l) ∙ omega (arith, cells-long));
-    cells = λ k c. field-bytes top _ _ _ t (
+    cells-laid = λ k c. field-bytes top _ _ _ t (
       sym (cell-bytes k c)
           ∙ ap (λ (x : List ℕ). take 3 (drop (3 * k) x)) (e .bytes)
           ∙ ap (λ (i : ℕ). take 3 (drop i (fields 3 (cellsOf size l) ++ (10 ∷ [])))) (mul-comm 3 k)

@@ -28,8 +28,7 @@ use Rattle.permutations.proofs.ListLaws.{tabulate-ext}
 use Rattle.grids.specs.Order.{rank, _≼_, _≺_}
 use Rattle.grids.proofs.OrderLaws.{≼-refl, tabulate-at, tabulate-by-index}
 use Rattle.layout.specs.Decimal.{value}
-use Rattle.layout.specs.Layout.{numberAt}
-use Rattle.layout.specs.Lines.{cellsOf}
+use Rattle.layout.specs.Layout.{numberAt, cellsOf}
 use Rattle.scan.specs.Cells.{Same, sameFrom}
 use Rattle.scan.specs.Lines.{Precedes}
 use Rattle.scan.proofs.CellLaws.{three}

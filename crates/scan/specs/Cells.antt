@@ -1,4 +1,4 @@
--- The cells of a register's lines, by their bytes.
+-- The cells of a register's lines, by their bytes. Between functions: no answer of a call is defined here.
 --
 --   One top b c, Two top b c  ==  the bytes b and c, after a space, are a number of one digit, of two digits, of at most top (top at most 15)
 --   CellBytes top a b c     ==  three bytes are the field of a number of at most top

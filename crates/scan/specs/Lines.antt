@@ -1,4 +1,4 @@
--- The lines of entries, by their bytes: what layout's EntryLine and EntriesLaid come to.
+-- The lines of entries, by their bytes: what layout's EntryLine and EntriesLaid come to. Between functions: no answer of a call is defined here.
 --
 --   LineLaid size top b at    ==  the cells of the line at `at` are laid out, and its last byte is a line feed
 --   Precedes size b p q       ==  the cells of the line at p come before those of the line at q
@@ -9,13 +9,13 @@ use mathlib.Core.List.{List}
 use Prim.Native.Nat.{ℕ, _+_, _-_, _<_}
 use lib.ListN.{getD, drop}
 use Rattle.grids.specs.Order.{_≺_}
-use Rattle.layout.specs.Layout.{lineLength}
-use Rattle.layout.specs.Lines.{lineStart, cellsOf}
+use Rattle.layout.specs.Layout.{lineLength, cellsOf}
+use Rattle.layout.specs.Lines.{lineStart}
 use Rattle.scan.specs.Cells.{CellsLaid}
 
 pub record LineLaid (size top : ℕ) (b : List ℕ) (at : ℕ) : Type 0 where
   pub feed : getD b (at + lineLength size - 1) 0 ≡ 10
-  pub cells : CellsLaid top b at size
+  pub cells-laid : CellsLaid top b at size
 
 unfoldable pub Precedes : ℕ → List ℕ → ℕ → ℕ → Type 0
 Precedes size b p q = cellsOf size (drop p b) ≺ cellsOf size (drop q b)

@@ -4,12 +4,12 @@ ghost use mathlib.Core.Path.{_≡_};
 ghost use mathlib.Core.Bool.{_&&_};
 ghost use Prim.Native.Nat.{_+_, _≤_, _<_};
 ghost use lib.ListN.{length};
-ghost use Rattle.scan.specs.Fits.{rest, lesser, fits, allFit};
+ghost use Rattle.scan.specs.Fits.{rest, smaller, fits, allFit};
 ghost use Rattle.scan.specs.Tables.{teenOf, spanOf};
 
-// The lesser of two numbers.
-fn lesser(a: u8, b: u8) -> u8
-    ensures { λ r. ⌜ r ≡ lesser a b ⌝ }
+// The smaller of two numbers.
+fn smaller(a: u8, b: u8) -> u8
+    ensures { λ r. ⌜ r ≡ smaller a b ⌝ }
 {
     if a < b { a } else { b }
 }
@@ -26,7 +26,7 @@ fn stays_laid(laid: bool, byte: u8, before: u8, base: u8, teen: u8, span: u8, ca
     ensures { λ r. ⌜ r ≡ (laid && fits byte before base teen span cap) ⌝ }
 {
     let x = rest(above(byte, base), teen);
-    if lesser(span, above(cap, before)) < x {
+    if smaller(span, above(cap, before)) < x {
         return false;
     }
     laid
@@ -73,5 +73,5 @@ pub fn teen_of(top: u8) -> u8
 pub fn span_of(top: u8) -> u8
     ensures { λ r. ⌜ r ≡ spanOf top ⌝ }
 {
-    lesser(top, 9)
+    smaller(top, 9)
 }

@@ -14,7 +14,7 @@ use native.Mathlib.Omega.{arith}
 use lib.ListN.{length, take, drop, length-append, length-drop, drop-of-length-le}
 use lib.Seq.{take-at, drop-at, drop-drop}
 use borrow.Rule.Slice.PartMut.{midOf, putMid}
-use Rattle.layout.specs.Layout.{Shape, cells}
+use Rattle.layout.specs.Layout.{Shape, gridSize}
 use Rattle.machine.specs.Calls.{Outcome}
 use Rattle.machine.specs.Machine.{shown, step, outcome}
 use Rattle.machine.proofs.MachineLaws.{Good, empty-good, step-good}
@@ -23,10 +23,11 @@ use Rattle.machine.proofs.ValidMoves.{tail-part, put-tail}
 use Rattle.lines.proofs.FillLaws.{Filled, fill-none}
 use Rattle.register.proofs.OpenSteps.{limits-size}
 use Rattle.protocol.specs.Input.{lines, furtherLines, commandIn, isLaid}
-use Rattle.protocol.specs.Commands.{callIn, report, Answer, answerCall, malformed, answer}
+use Rattle.protocol.specs.Commands.{callIn, report, LineAnswer, answerCall, malformed, answer}
 use Rattle.protocol.specs.Transcript.{shapeIn, reports, setAfter}
 use Rattle.protocol.proofs.ReportLaws.{length-report, call-answer, malformed-answer}
-use Rattle.protocol.proofs.RunLaws.{start-pass, length-shown}
+use Rattle.protocol.proofs.StartLaws.{start-pass}
+use Rattle.protocol.proofs.RunLaws.{length-shown}
 use Rattle.transcript.specs.declared.reports.Report.{Report}
 use Rattle.transcript.specs.Lines.{NextLine}
 use Rattle.transcript.specs.Answers.{Answers, Runs, Answered}
@@ -34,23 +35,23 @@ use Rattle.transcript.proofs.StartSteps.{rest-lines}
 
 -- ---- one line
 
-module _ (s : Shape) (l : List (List ℕ)) (g : Good s l) (line : List ℕ) {b b′ : List ℕ} {r : Report} (e : b ≡ shown s l) (a : Answers (cells s) line b b′ r) where
+module _ (s : Shape) (l : List (List ℕ)) (g : Good s l) (line : List ℕ) {b b′ : List ℕ} {r : Report} (e : b ≡ shown s l) (a : Answers (gridSize s) line b b′ r) where
   -- the report's bytes, what is left of the register, and that the next set is good
-  record Line (x : Answer) : Type 0 where
+  record Line (x : LineAnswer) : Type 0 where
     printed : report (r .command) (r .number) (r .place) ≡ x .printed
     left : b′ ≡ shown s (x .next)
     stays : Good s (x .next)
 
-  line-malformed : isLaid (cells s) line ≡ false → Line (malformed l)
+  line-malformed : isLaid (gridSize s) line ≡ false → Line (malformed l)
   unfolding malformed
   line-malformed f =
       let m = a .malformed f in
       record { printed = rw (m .0, m .1, m .2) refl; left = m .3 ∙ e; stays = g }
 
-  line-called : isLaid (cells s) line ≡ true → Line (answerCall (commandIn line) (step s l (callIn (cells s) line)))
+  line-called : isLaid (gridSize s) line ≡ true → Line (answerCall (commandIn line) (step s l (callIn (gridSize s) line)))
   unfolding answerCall outcome
   line-called t =
-      let c = callIn (cells s) line in
+      let c = callIn (gridSize s) line in
       let d = rw e at (a .calls t) ∙ call-same s l g c in
       record {
         printed = rw (a .command-is t, ap (λ (o : Outcome). o .number) d, ap (λ (o : Outcome). o .place) d) refl;
@@ -59,9 +60,9 @@ module _ (s : Shape) (l : List (List ℕ)) (g : Good s l) (line : List ℕ) {b b
       }
 
   line-answered : Line (answer s l line)
-  line-answered = go (isLaid (cells s) line) refl
+  line-answered = go (isLaid (gridSize s) line) refl
     where
-      go : (t : Bool) → isLaid (cells s) line ≡ t → Line (answer s l line)
+      go : (t : Bool) → isLaid (gridSize s) line ≡ t → Line (answer s l line)
       go true t = rw (call-answer s l line t) (line-called t)
       go false t = rw (malformed-answer s l line t) (line-malformed t)
 

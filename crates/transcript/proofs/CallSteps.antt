@@ -12,7 +12,7 @@ use native.Mathlib.Omega.{arith}
 use lib.ListN.{length, take}
 use Rattle.permutations.proofs.ListLaws.{length-tabulate, part-is, part-length}
 use Rattle.machine.specs.CallLists.{enter, strike, fit, registerCalls, called}
-use Rattle.machine.specs.Valid.{placed}
+use Rattle.machine.specs.Calls.{placed}
 use Rattle.protocol.specs.Input.{cellCount, cellsIn}
 use Rattle.protocol.specs.Commands.{lows, highs, callOf, callIn}
 use Rattle.transcript.specs.Commands.{ReadsCommand, Parts}

@@ -21,13 +21,12 @@ use Rattle.permutations.proofs.BoolLaws.{refuted}
 use Rattle.permutations.proofs.ListLaws.{tabulate-ext, part-length}
 use Rattle.grids.specs.Grids.{capped}
 use Rattle.layout.specs.Decimal.{field, value}
-use Rattle.layout.specs.Layout.{fields, numberAt}
-use Rattle.layout.specs.Lines.{cellsOf}
+use Rattle.layout.specs.Layout.{fields, numberAt, cellsOf}
 use Rattle.layout.proofs.DecimalLaws.{length-field}
 use Rattle.layout.proofs.LayoutLaws.{length-fields}
 use Rattle.layout.proofs.LineLaws.{drop-take, length-cells}
 use Rattle.protocol.specs.Input.{commandLine, cellCount, commandIn, cellsIn, isLaid}
-use Rattle.protocol.proofs.InputLaws.{CommandLaid, laid-exactly, laid-command, laid-length}
+use Rattle.protocol.proofs.CommandLaws.{CommandLaid, laid-exactly, laid-command, laid-length}
 use Rattle.transcript.specs.Fields.{ReadsCells}
 use Rattle.transcript.specs.Commands.{ReadsCommand}
 

@@ -19,8 +19,7 @@ use lib.Seq.{take-all, length-take-le}
 use Rattle.permutations.proofs.ListLaws.{part-is, part-length, at-map}
 use Rattle.grids.proofs.QuestionLaws.{capped-at, at-capped}
 use Rattle.layout.specs.Decimal.{field}
-use Rattle.layout.specs.Layout.{fields, numberAt}
-use Rattle.layout.specs.Lines.{cellsOf}
+use Rattle.layout.specs.Layout.{fields, numberAt, cellsOf}
 use Rattle.layout.proofs.DecimalLaws.{length-field}
 use Rattle.layout.proofs.LayoutLaws.{field-at}
 use Rattle.layout.proofs.LineLaws.{of-parts, length-cells, cell-at}

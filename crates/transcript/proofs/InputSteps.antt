@@ -14,7 +14,7 @@ use lib.Dec.{eqb}
 use borrow.Author.Tests.{eqb-true, eqb-false}
 use Rattle.bytes.specs.Bytes.{slice, indexAfter, indexOf}
 use Rattle.protocol.specs.Input.{onto, lines}
-use Rattle.protocol.proofs.InputLaws.{lines-feed, lines-other}
+use Rattle.protocol.proofs.LineLaws.{lines-feed, lines-other}
 use Rattle.transcript.specs.Lines.{NextLine}
 
 -- ---- by the first byte

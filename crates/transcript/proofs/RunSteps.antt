@@ -18,10 +18,9 @@ use lib.Seq.{take-at, drop-at, take-length, drop-drop}
 use borrow.Author.Tests.{le-leb, lt-leb}
 use borrow.Rule.Slice.PartMut.{midOf, putMid}
 use Rattle.permutations.proofs.ListLaws.{part-length}
-use Rattle.layout.specs.Layout.{Shape, cells, layoutLength, InLimits}
-use Rattle.machine.specs.Calls.{Outcome, opened}
+use Rattle.layout.specs.Layout.{Shape, gridSize, layoutLength, InLimits}
+use Rattle.machine.specs.Calls.{Outcome, opened, placed, shape}
 use Rattle.machine.specs.Machine.{shown}
-use Rattle.machine.specs.Valid.{placed, shape}
 use Rattle.machine.proofs.Demand3Laws.{open-answers}
 use Rattle.machine.proofs.ValidMoves.{tail-part, put-tail}
 use Rattle.register.proofs.OpenSteps.{limits-size}
@@ -30,7 +29,9 @@ use Rattle.protocol.specs.Commands.{report}
 use Rattle.protocol.specs.Transcript.{byteLimit, shapeIn, startNo, reports, printedRegister, transcript}
 use Rattle.protocol.specs.Programs.{outputLimit, over, transcribing, hasRoom, transcribed}
 use Rattle.protocol.proofs.ReportLaws.{length-report}
-use Rattle.protocol.proofs.RunLaws.{start-pass, start-refused, register-shown, length-register, transcript-ends, transcript-fits, has-room}
+use Rattle.protocol.proofs.StartLaws.{start-pass}
+use Rattle.protocol.proofs.RunLaws.{start-refused, register-shown, length-register, transcript-ends, transcript-fits}
+use Rattle.protocol.proofs.SliceLaws.{has-room}
 use Rattle.transcript.specs.declared.starts.Start.{Start}
 use Rattle.transcript.specs.Answers.{Runs, Answered}
 use Rattle.transcript.specs.Starts.{Starts}
@@ -48,7 +49,7 @@ module _ {input : List ℕ} {start : Start} {b out : List ℕ} (k : Ready input 
   pub ready-runs : {number place : ℕ} {b′ : List ℕ} → placed number place b′ ≡ opened (shape (start .rows) (start .columns) (start .top) (start .capacity)) b → Runs input (start .rows * start .columns) b′ out
   ready-runs e = record {
     passes = k .passes;
-    sized = ap cells (k .shape-is);
+    sized = ap gridSize (k .shape-is);
     opened = ap (λ (o : Outcome). o .bytes) (e ∙ open-answers _ b ready-limits (k .sized ∙ ap layoutLength (sym (k .shape-is)))) ∙ ap (λ (s : Shape). shown s []) (k .shape-is);
     room = k .room;
   }

@@ -32,12 +32,14 @@ use Rattle.layout.specs.Layout.{Shape, headLength, lineLength, fields, layoutLe
 use Rattle.layout.proofs.LineLaws.{drop-take}
 use Rattle.lines.specs.Head.{withField}
 use Rattle.lines.proofs.HeadLaws.{fields-whole}
-use Rattle.machine.specs.Valid.{shape, numbersNo}
+use Rattle.machine.specs.Calls.{shape}
+use Rattle.machine.specs.Valid.{numbersNo}
 use Rattle.register.proofs.OpenSteps.{numbers-limits, length-is}
 use Rattle.protocol.specs.Input.{onto, lines, firstLine, furtherLines, shapeLine}
 use Rattle.protocol.specs.Transcript.{shapeIn, question12, startNo}
-use Rattle.protocol.proofs.InputLaws.{lines-other, lines-joined, length-shape, shape-length}
-use Rattle.protocol.proofs.RunLaws.{over-limit, start-line, start-numbers, start-length, start-pass}
+use Rattle.protocol.proofs.LineLaws.{lines-other, lines-joined}
+use Rattle.protocol.proofs.ShapeLaws.{length-shape, shape-length}
+use Rattle.protocol.proofs.StartLaws.{over-limit, start-line, start-numbers, start-length, start-pass}
 use Rattle.transcript.specs.declared.starts.Start.{Start}
 use Rattle.transcript.specs.Starts.{Starts}
 

@@ -1,4 +1,4 @@
--- What is printed for command lines, and what it leaves in the register.
+-- What is printed for command lines, and what it leaves in the register. Between functions: no answer of a call is defined here.
 --
 --   Answers size line b b′ r  ==  r are the numbers printed for a command line on the register b, which it leaves as b′
 --   Runs input size b out     ==  every check of the input gets a yes, b is the register opened by it, and the output slice is large enough
@@ -8,10 +8,10 @@ use mathlib.Core.List.{List, [], _++_}
 use mathlib.Core.Bool.{true, false}
 use Prim.Native.Nat.{ℕ, _≤_}
 use lib.ListN.{length, drop}
-use Rattle.layout.specs.Layout.{cells}
+use Rattle.layout.specs.Layout.{gridSize}
 use Rattle.machine.specs.CallLists.{registerCalls, called}
 use Rattle.machine.specs.Machine.{shown}
-use Rattle.machine.specs.Valid.{placed}
+use Rattle.machine.specs.Calls.{placed}
 use Rattle.protocol.specs.Input.{furtherLines, commandIn, isLaid}
 use Rattle.protocol.specs.Commands.{callIn}
 use Rattle.protocol.specs.Transcript.{shapeIn, startNo, reports, setAfter}
@@ -25,7 +25,7 @@ pub record Answers (size : ℕ) (line b b′ : List ℕ) (r : Report) : Type 0 w
 
 pub record Runs (input : List ℕ) (size : ℕ) (b out : List ℕ) : Type 0 where
   pub passes : startNo input ≡ 0
-  pub sized : size ≡ cells (shapeIn input)
+  pub sized : size ≡ gridSize (shapeIn input)
   pub opened : b ≡ shown (shapeIn input) []
   pub room : outputLimit ≤ length out
 

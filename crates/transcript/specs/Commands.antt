@@ -1,4 +1,4 @@
--- Command lines as the code reads them.
+-- Command lines as the code reads them. Between functions: no answer of a call is defined here.
 --
 --   ReadsCommand size line cells r  ==  r is the command of a line that is laid as it should be, and its cells are in front; 0 for another line
 --   Parts c size low high  ==  the bounds that the cells c hold in turn

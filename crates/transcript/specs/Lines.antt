@@ -1,4 +1,4 @@
--- The lines of the input, by their places.
+-- The lines of the input, by their places. Between functions: no answer of a call is defined here.
 --
 --   NextLine input at end  ==  the line that begins at a place ends at another, and the further lines follow it there
 use mathlib.Core.Path.{_≡_}

@@ -1,4 +1,4 @@
--- A run whose checks all get a yes.
+-- A run whose checks all get a yes. Between functions: no answer of a call is defined here.
 --
 --   Ready input start b out    ==  they do, start has the numbers of line 1, the register's slice has its exact length, and the output slice room enough
 --   Ran input b out out′ r     ==  the first r bytes of the output slice are what planbook prints, and b is the register that it prints last
@@ -6,8 +6,8 @@ use mathlib.Core.Path.{_≡_}
 use mathlib.Core.List.{List}
 use Prim.Native.Nat.{ℕ, _≤_}
 use lib.ListN.{length}
+use Rattle.machine.specs.Calls.{shape}
 use Rattle.layout.specs.Layout.{layoutLength}
-use Rattle.machine.specs.Valid.{shape}
 use Rattle.protocol.specs.Transcript.{shapeIn, startNo, printedRegister, transcript}
 use Rattle.protocol.specs.Programs.{outputLimit, over}
 use Rattle.transcript.specs.declared.starts.Start.{Start}

@@ -9,7 +9,7 @@ ghost use mathlib.Core.Path.{_≡_};
 ghost use Prim.Native.Nat.{_*_, _≤_};
 ghost use lib.ListN.{length};
 ghost use Rattle.machine.specs.CallLists.{registerCalls, called};
-ghost use Rattle.machine.specs.Valid.{placed};
+ghost use Rattle.machine.specs.Calls.{placed};
 ghost use Rattle.protocol.specs.Input.{cellCount};
 ghost use Rattle.protocol.specs.Commands.{callOf};
 ghost use Rattle.transcript.specs.Commands.{ReadsCommand, Parts};

@@ -22,7 +22,7 @@ use Rattle.bounds.specs.Kept.{obeyed, keeps, keptValues, lowestFrom, lowest, hi
 use Rattle.bounds.specs.Allperm.{allperm}
 use Rattle.bounds.specs.Prune.{question8, boundsQuestions, prunedYes, pruned}
 use Rattle.layout.specs.Decimal.{lead, field, digit, valueFrom, value}
-use Rattle.layout.specs.Layout.{Shape, cells, fields, entryWidth, lineLength, entryLine, blankLine, headLine, layout, numberAt, count, entryAt, decodeShape, decode, inLimits, ascending, isRegister, laidOut}
+use Rattle.layout.specs.Layout.{Shape, gridSize, fields, entryWidth, lineLength, entryLine, blankLine, headLine, layout, numberAt, count, entryAt, decodeShape, decode, inLimits, ascending, isRegister, laidOut}
 use Rattle.machine.specs.Calls.{Outcome, answered, question5, fitQuestions, fitPruned, fitRegister, fitted}
 use Rattle.machine.specs.CallLists.{Meets}
 use Rattle.machine.specs.FitSlices.{Fitting, MeetsFit}
@@ -46,7 +46,7 @@ high = 2 ∷ 1 ∷ []
 record Computed : Type 0 where
   fits : fitted book low high .number ≡ 0
   none : fitted book low high .place ≡ 0
-  one-as-sent : length (select (inBounds (cells (decodeShape book)) (decodeShape book .top) low high) (decode book .entries)) ≡ 1
+  one-as-sent : length (select (inBounds (gridSize (decodeShape book)) (decodeShape book .top) low high) (decode book .entries)) ≡ 1
   raised : equal low (prunedBy book low high .low) ≡ false
   lowered : equal high (prunedBy book low high .high) ≡ false
 
@@ -63,7 +63,7 @@ fits-as-sent = record {
     strikes = plain 0 0 .strikes;
     fits = λ b low high. record {
       number = 0;
-      place = length (select (inBounds (cells (decodeShape b)) (decodeShape b .top) low high) (decode b .entries));
+      place = length (select (inBounds (gridSize (decodeShape b)) (decodeShape b .top) low high) (decode b .entries));
       bytes = b;
     };
   };

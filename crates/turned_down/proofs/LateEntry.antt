@@ -22,7 +22,7 @@ use Rattle.permutations.proofs.ListLaws.{length-tabulate, at-tabulate}
 use Rattle.grids.specs.Grids.{IsGrid}
 use Rattle.grids.specs.Questions.{firstNo}
 use Rattle.grids.proofs.LeastLaws.{least-grid}
-use Rattle.layout.specs.Layout.{Register, Shape, cells, layout, count, entryAt, decodeShape, decode, IsRegister, isRegister, laidOut}
+use Rattle.layout.specs.Layout.{Register, Shape, gridSize, layout, count, entryAt, decodeShape, decode, IsRegister, isRegister, laidOut}
 use Rattle.layout.proofs.LayoutLaws.{Printable, decode-layout, count-layout}
 use Rattle.layout.proofs.RegisterLaws.{register-decides, register-printable}
 use Rattle.machine.specs.Calls.{Outcome, answered, leastIn, holds, placeIn, enterQuestions}
@@ -61,14 +61,14 @@ of-insert P (suc p) r (x ∷ l) h all y m =
 
 -- ---- reading
 
-line-read : (x : Register) → Printable x → (e : ℕ) → e < length (x .entries) → entryAt (cells (x .shape)) (layout x) e ≡ getD (x .entries) e []
+line-read : (x : Register) → Printable x → (e : ℕ) → e < length (x .entries) → entryAt (gridSize (x .shape)) (layout x) e ≡ getD (x .entries) e []
 unfolding decode
 line-read x p e h =
     let d = decode-layout x p in
     let s = ap (λ (y : Register). y .shape) d in
     let l = ap (λ (y : Register). y .entries) d in
-    ap (λ (y : Shape). entryAt (cells y) (layout x) e) (sym s)
-    ∙ sym (at-tabulate (count (layout x)) (entryAt (cells (decodeShape (layout x))) (layout x)) e [] (omega (arith, count-layout x p)))
+    ap (λ (y : Shape). entryAt (gridSize y) (layout x) e) (sym s)
+    ∙ sym (at-tabulate (count (layout x)) (entryAt (gridSize (decodeShape (layout x))) (layout x)) e [] (omega (arith, count-layout x p)))
     ∙ ap (λ (y : Grids). getD y e []) l
 
 -- ---- the program
@@ -95,12 +95,12 @@ late-printable x r o i =
       top-small = p .top-small;
       capacity-small = p .capacity-small;
       count-small = omega (arith, length-insert (placeIn (x .entries) r) r (x .entries), o .count-fits, o .limits .capacity-limits);
-      entries-sized = of-insert (λ y. length y ≡ cells (x .shape)) _ r (x .entries) (i .cells) (p .entries-sized);
-      entries-small = of-insert (λ y. (k : ℕ) → k < length y → getD y k 0 < 1000) _ r (x .entries) (λ k h. omega (arith, i .capped k (omega (arith, i .cells)))) (p .entries-small);
+      entries-sized = of-insert (λ y. length y ≡ gridSize (x .shape)) _ r (x .entries) (i .sized) (p .entries-sized);
+      entries-small = of-insert (λ y. (k : ℕ) → k < length y → getD y k 0 < 1000) _ r (x .entries) (λ k h. omega (arith, i .capped k (omega (arith, i .sized)))) (p .entries-small);
     }
 
 into-line : (b : List ℕ) (x : Register) (r : List ℕ) (h : Bool) → IsRegister x → IsGrid (x .shape .rows) (x .shape .columns) (x .shape .top) r →
-    lateInto b x r h .number ≡ 0 → lateInto b x r h .place ≤ length (x .entries) → entryAt (cells (x .shape)) (lateInto b x r h .bytes) (lateInto b x r h .place) ≡ r
+    lateInto b x r h .number ≡ 0 → lateInto b x r h .place ≤ length (x .entries) → entryAt (gridSize (x .shape)) (lateInto b x r h .bytes) (lateInto b x r h .place) ≡ r
 into-line b x r true o i z p = absurd (omega arith)
 into-line b x r false o i z p =
     line-read (lateRegister x r) (late-printable x r o i) (placeIn (x .entries) r) (omega (arith, length-insert (placeIn (x .entries) r) r (x .entries)))
@@ -112,7 +112,7 @@ answered-zero zero b o z = (refl, refl)
 answered-zero (suc k) b o z = absurd (omega arith)
 
 pub late-line : (b g : List ℕ) → enteredLate b g .number ≡ 0 → enteredLate b g .place ≤ count b →
-    entryAt (cells (decodeShape b)) (enteredLate b g .bytes) (enteredLate b g .place) ≡ leastIn (decodeShape b) g
+    entryAt (gridSize (decodeShape b)) (enteredLate b g .bytes) (enteredLate b g .place) ≡ leastIn (decodeShape b) g
 unfolding enteredLate decode laidOut
 late-line b g z p =
     let x = decode b in
@@ -122,5 +122,5 @@ late-line b g z p =
     let q = enter-pass b x g r .0 (a .0) in
     let o = register-decides x .0 (and-yes (isRegister x) _ (q .0) .0) in
     let i = least-grid (x .shape .rows) (x .shape .columns) (x .shape .top) g (q .1) in
-    subst (λ (w : Outcome). w .number ≡ 0 → w .place ≤ length (x .entries) → entryAt (cells (x .shape)) (w .bytes) (w .place) ≡ r) (sym (a .1)) (into-line b x r h o i) z
-    (omega (arith, p, length-tabulate 0 (count b) (entryAt (cells (decodeShape b)) b)))
+    subst (λ (w : Outcome). w .number ≡ 0 → w .place ≤ length (x .entries) → entryAt (gridSize (x .shape)) (w .bytes) (w .place) ≡ r) (sym (a .1)) (into-line b x r h o i) z
+    (omega (arith, p, length-tabulate 0 (count b) (entryAt (gridSize (decodeShape b)) b)))

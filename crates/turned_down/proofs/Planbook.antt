@@ -22,8 +22,7 @@ use Rattle.grids.specs.Order.{equal}
 use Rattle.grids.specs.Grids.{capped}
 use Rattle.grids.specs.Questions.{firstNo, inRange, question1, question2, question3, question6, question7}
 use Rattle.layout.specs.Decimal.{lead, field, digit, valueFrom, value}
-use Rattle.layout.specs.Layout.{Shape, fields, entryWidth, lineLength, headLine, layout, layoutLength, numberAt, decodeShape, laidOut}
-use Rattle.layout.specs.Lines.{cellsOf}
+use Rattle.layout.specs.Layout.{Shape, fields, entryWidth, lineLength, headLine, layout, layoutLength, numberAt, decodeShape, laidOut, cellsOf}
 use Rattle.machine.specs.Calls.{question4, gridQuestions}
 use Rattle.machine.specs.CallLists.{accepted}
 use Rattle.machine.specs.Machine.{shown, stepUnless, step}
@@ -31,7 +30,9 @@ use Rattle.protocol.specs.Input.{onto, lines, firstLine, furtherLines, shapeLin
 use Rattle.protocol.specs.Commands.{callOf, callIn, report, answerCall, malformed, answer}
 use Rattle.protocol.specs.Transcript.{shapeIn, question11, question12, question13, startQuestions, startNo, reports, setAfter, registerFrom, printedFrom, transcript}
 use Rattle.protocol.specs.Programs.{Prints, Transcribed, hasRoom, transcribed, MeetsTranscribe}
-use Rattle.protocol.proofs.RunLaws.{over-limit, start-refused, has-room, transcribed-rest}
+use Rattle.protocol.proofs.StartLaws.{over-limit}
+use Rattle.protocol.proofs.RunLaws.{start-refused}
+use Rattle.protocol.proofs.SliceLaws.{has-room, transcribed-rest}
 use Rattle.turned_down.specs.PlanbookFaults.{laidIn, cellsOn, firstStep, GoesOnAfter13, PrintsRegisterAfter11, EndsAtMalformed, PrintsUnderZero, MalformedReaches, RefusesCellsAsMalformed, AsksLengthFirst, SilentWithoutCommands, TakesUnended, CountsWithoutRoom, ClearsRest}
 use Rattle.turned_down.specs.TurnedDown.{fault, Turned}
 use Rattle.turned_down.proofs.Differences.{unequal}

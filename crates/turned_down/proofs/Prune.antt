@@ -19,7 +19,7 @@ use Rattle.grids.specs.Questions.{firstNo, inRange, question1, question2, quest
 use Rattle.bounds.specs.Bounds.{ranksWithin, between, fillings, gridsWithin}
 use Rattle.bounds.specs.Kept.{Obeyed, Kept, obeyed, keeps, keptValues, lowestFrom, lowest, keptLow, removedValues, removed}
 use Rattle.bounds.specs.Allperm.{Allperm, allperm}
-use Rattle.bounds.specs.Prune.{Pruned, outcome, question8, boundsQuestions, pruneQuestions}
+use Rattle.bounds.specs.Prune.{Pruned, prunedTo, question8, boundsQuestions, pruneQuestions}
 use Rattle.bounds.specs.Demand2.{Exact, Pruning, PruneExact, MeetsPrune}
 use Rattle.bounds.proofs.KeptLaws.{obeyed-decides, keeps-decides}
 use Rattle.bounds.proofs.AllpermLaws.{allperm-decides}
@@ -116,7 +116,7 @@ module _ (f : Pruning) (c : PruneExact f) where
 pub never-prunes : Turned (fault PruneExact NeverPrunes)
 unfolding NeverPrunes
 never-prunes = record {
-  example = λ m n top low high. outcome 102 0 low high;
+  example = λ m n top low high. prunedTo 102 0 low high;
   done = λ m n top low high z. omega arith;
   refused = λ f d c. d 2 2 3 low9 high9 (zero9 f c);
 }
@@ -124,7 +124,7 @@ never-prunes = record {
 pub never-empty : Turned (fault PruneExact NeverEmpty)
 unfolding NeverEmpty
 never-empty = record {
-  example = λ m n top low high. outcome 0 0 low high;
+  example = λ m n top low high. prunedTo 0 0 low high;
   done = λ m n top low high z. omega arith;
   refused = λ f d c. d 2 1 3 low10 high10 (empty10 f c .0);
 }
@@ -132,7 +132,7 @@ never-empty = record {
 pub removes-nothing : Turned (fault PruneExact RemovesNothing)
 unfolding RemovesNothing
 removes-nothing = record {
-  example = λ m n top low high. outcome 0 0 low high;
+  example = λ m n top low high. prunedTo 0 0 low high;
   done = λ m n top low high z. (refl, refl);
   refused = λ f d c. unraised f c (d 2 2 3 low9 high9 (zero9 f c) .0);
 }
@@ -140,7 +140,7 @@ removes-nothing = record {
 pub raises-no-low : Turned (fault PruneExact RaisesNoLow)
 unfolding RaisesNoLow
 raises-no-low = record {
-  example = λ m n top low high. outcome 0 0 low high;
+  example = λ m n top low high. prunedTo 0 0 low high;
   done = λ m n top low high z. refl;
   refused = λ f d c. unraised f c (d 2 2 3 low9 high9 (zero9 f c));
 }
@@ -148,7 +148,7 @@ raises-no-low = record {
 pub lowers-no-high : Turned (fault PruneExact LowersNoHigh)
 unfolding LowersNoHigh rank
 lowers-no-high = record {
-  example = λ m n top low high. outcome 0 0 low high;
+  example = λ m n top low high. prunedTo 0 0 low high;
   done = λ m n top low high z. refl;
   refused = λ f d c.
       let h = ap (λ (x : List ℕ). getD x 0 0) (d 2 2 3 low9 high9 (zero9 f c)) in
@@ -161,7 +161,7 @@ lowers-no-high = record {
 pub prunes-unsorted : Turned (fault PruneExact PrunesUnsorted)
 unfolding PrunesUnsorted rank
 prunes-unsorted = record {
-  example = λ m n top low high. outcome 0 0 (keptLow (unsorted m n) (m * n) top low high) high;
+  example = λ m n top low high. prunedTo 0 0 (keptLow (unsorted m n) (m * n) top low high) high;
   done = λ m n top low high z. refl;
   refused = λ f d c.
       let l = ap (λ (x : List ℕ). getD x 3 0) (d 2 2 3 low9 high9 (zero9 f c) ∙ computed .m9-unsorted) in
@@ -171,7 +171,7 @@ prunes-unsorted = record {
 pub invents-removed : Turned (fault PruneExact InventsRemoved)
 unfolding InventsRemoved
 invents-removed = record {
-  example = λ m n top low high. outcome 0 0 low high;
+  example = λ m n top low high. prunedTo 0 0 low high;
   done = λ m n top low high low′ high′ z z′. refl;
   refused = λ f d c.
       let e = d 2 2 3 low9 high9 zeros zeros (zero9 f c) (at-zeros f c .answers obeyed0) in
@@ -183,7 +183,7 @@ invents-removed = record {
 pub writes-empty : Turned (fault PruneExact WritesEmpty)
 unfolding WritesEmpty equal
 writes-empty = record {
-  example = λ m n top low high. outcome 102 0 [] high;
+  example = λ m n top low high. prunedTo 102 0 [] high;
   done = λ m n top x low high z. unequal [] (x ∷ low) refl;
   refused = λ f d c. d 2 1 3 2 (0 ∷ []) high10 (empty10 f c .0) (empty10 f c .2);
 }
@@ -191,7 +191,7 @@ writes-empty = record {
 pub shortens-bounds : Turned (fault PruneExact ShortensBounds)
 unfolding ShortensBounds
 shortens-bounds = record {
-  example = λ m n top low high. outcome 0 0 low (drop 1 high);
+  example = λ m n top low high. prunedTo 0 0 low (drop 1 high);
   done = λ m n top x low high. refl;
   refused = λ f d c.
       let s = d 2 2 3 3 low9 (3 ∷ 1 ∷ 2 ∷ []) in
@@ -202,7 +202,7 @@ shortens-bounds = record {
 pub leaves-above-top : Turned (fault PruneExact LeavesAboveTop)
 unfolding LeavesAboveTop
 leaves-above-top = record {
-  example = λ m n top low high. outcome 0 0 low (suc top ∷ []);
+  example = λ m n top low high. prunedTo 0 0 low (suc top ∷ []);
   done = λ m n top low high z. omega arith;
   refused = λ f d c.
       let above = d 2 2 3 low9 high9 (zero9 f c) in
@@ -214,7 +214,7 @@ leaves-above-top = record {
 pub ignores-order : Turned (fault MeetsPrune IgnoresOrder)
 unfolding IgnoresOrder MeetsPrune
 ignores-order = record {
-  example = λ m n top low high. outcome 0 0 low high;
+  example = λ m n top low high. prunedTo 0 0 low high;
   done = λ m n top low high z. omega arith;
   refused = λ f d c. d 1 1 1 (1 ∷ []) (0 ∷ []) (ap (λ (x : Pruned). x .number) (prunes-refused 1 1 1 (1 ∷ []) (0 ∷ []) _ (c 1 1 1 (1 ∷ []) (0 ∷ [])) 7 (computed .order-asked)));
 }
@@ -222,7 +222,7 @@ ignores-order = record {
 pub prune-writes-refusing : Turned (fault MeetsPrune PruneWritesRefusing)
 unfolding PruneWritesRefusing MeetsPrune equal
 prune-writes-refusing = record {
-  example = λ m n top low high. outcome 1 0 [] high;
+  example = λ m n top low high. prunedTo 1 0 [] high;
   done = λ m n top x low high z z′. unequal [] (x ∷ low) refl;
   refused = λ f d c.
       let e = prunes-refused 0 0 0 (0 ∷ []) [] _ (c 0 0 0 (0 ∷ []) []) 0 (computed .rows-asked) in

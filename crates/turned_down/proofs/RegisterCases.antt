@@ -1,6 +1,6 @@
 -- Small cases of the register: a shape of one cell, what the machine does with its two grids, and an implementation that follows the machine.
 --
---   cell                ==  a shape of 1 row, 1 column, top 1 and capacity 2
+--   cell, limits        ==  a shape of 1 row, 1 column, top 1 and capacity 2; it is within the limits
 --   zero, one           ==  its two grids
 --   rowless, roomless   ==  shapes outside the limits: 0 rows, and capacity 0
 --   Computed, computed  ==  what the definitions give
@@ -27,7 +27,7 @@ use Rattle.bounds.specs.Kept.{obeyed}
 use Rattle.bounds.specs.Allperm.{allperm}
 use Rattle.bounds.specs.Prune.{question8, boundsQuestions}
 use Rattle.layout.specs.Decimal.{lead, field, digit, valueFrom, value}
-use Rattle.layout.specs.Layout.{Shape, cells, fields, entryWidth, lineLength, entryLine, blankLine, headLine, layout, layoutLength, numberAt, count, entryAt, decodeShape, decode, InLimits, inLimits, ascending, isRegister, laidOut}
+use Rattle.layout.specs.Layout.{Shape, gridSize, fields, entryWidth, lineLength, entryLine, blankLine, headLine, layout, layoutLength, numberAt, count, entryAt, decodeShape, decode, InLimits, inLimits, ascending, isRegister, laidOut}
 use Rattle.machine.specs.Calls.{Outcome, question4, question5, gridQuestions, leastIn, holds, question9, placeIn, insert, without, openQuestions, enterQuestions, fitQuestions}
 use Rattle.machine.specs.CallLists.{Call, enter, strike, fit, Implementation, called, questionsOf}
 use Rattle.machine.specs.Machine.{sorted, shown, Step, stepUnless, enterClass, strikeClass, fitClasses, step, outcome}
@@ -77,12 +77,12 @@ pub record Computed : Type 0 where
   pub one-absent : holds (leastIn cell one) (afterwards cell [] (enter zero ∷ [])) ≡ false
   pub one-lives : holds (leastIn cell one) (afterwards cell [] (enter zero ∷ enter one ∷ [])) ≡ true
   pub line-left : equal (drop (lastEntry (shown cell (zero ∷ []))) (shown cell [])) (drop (lastEntry (shown cell (zero ∷ []))) (shown cell (zero ∷ []))) ≡ false
-  pub line-early : equal (entryAt (cells (decodeShape (shown cell (one ∷ [])))) (shown cell (zero ∷ one ∷ [])) 1) (leastIn (decodeShape (shown cell (one ∷ []))) zero) ≡ false
+  pub line-early : equal (entryAt (gridSize (decodeShape (shown cell (one ∷ [])))) (shown cell (zero ∷ one ∷ [])) 1) (leastIn (decodeShape (shown cell (one ∷ []))) zero) ≡ false
   pub none-length : length (shown cell []) ≡ 39
   pub none-laid : laidOut (shown cell []) ≡ true
   pub above-top : capped (decodeShape (shown cell []) .top) (2 ∷ 2 ∷ []) ≡ false
   pub length-asked : firstNo (questionsOf (shown cell []) (enter (2 ∷ 2 ∷ []))) ≡ 6
-  pub length-differs : eqb (length zero) (cells (decodeShape [])) ≡ false
+  pub length-differs : eqb (length zero) (gridSize (decodeShape [])) ≡ false
   pub register-asked : firstNo (questionsOf [] (fit zero zero)) ≡ 5
   pub nothing-unlaid : laidOut [] ≡ false
   pub nothing-asked : firstNo (questionsOf [] (enter zero)) ≡ 5

@@ -79,7 +79,7 @@ module _ (f : Representing) (c : RepresentLeast f) (m n top : ℕ) (g out : List
   unfolding RepresentLeast
   writes =
       let p = represent-pass m n top g out .0 e in
-      least-unique m n g _ _ (c m n top g out (p .0) (p .1) (p .2) .1) (least-is m n g (p .1 .cells))
+      least-unique m n g _ _ (c m n top g out (p .0) (p .1) (p .2) .1) (least-is m n g (p .1 .sized))
 
   produces : Produces m n g (f m n top g out .out) (f m n top g out .rows) (f m n top g out .columns)
   unfolding RepresentLeast

@@ -22,22 +22,22 @@ use Prim.Native.Nat.{ℕ, _≤_, _<_}
 use lib.ListN.{length, take, drop}
 use Rattle.grids.specs.Grids.{capped}
 use Rattle.layout.specs.Decimal.{field}
-use Rattle.layout.specs.Layout.{cells, layoutLength, laidOut}
+use Rattle.layout.specs.Layout.{gridSize, layoutLength, laidOut}
 use Rattle.machine.specs.CallLists.{accepted}
 use Rattle.machine.specs.Machine.{Step, step, shown}
-use Rattle.protocol.specs.Input.{furtherLines, commandIn, cellsIn, isLaid}
+use Rattle.protocol.specs.Input.{furtherLines, cellsIn, isLaid}
 use Rattle.protocol.specs.Commands.{callIn, report}
 use Rattle.protocol.specs.Transcript.{byteLimit, shapeIn, question12, startNo, transcript}
 use Rattle.protocol.specs.Programs.{Printing, Transcribing, hasRoom}
 
 abbrev pub laidIn : List ℕ → List ℕ → Bool
-laidIn input l = isLaid (cells (shapeIn input)) l
+laidIn input l = isLaid (gridSize (shapeIn input)) l
 
 abbrev pub cellsOn : List ℕ → List ℕ → List ℕ
-cellsOn input l = cellsIn (cells (shapeIn input)) l
+cellsOn input l = cellsIn (gridSize (shapeIn input)) l
 
 abbrev pub firstStep : List ℕ → List ℕ → Step
-firstStep input l = step (shapeIn input) [] (callIn (cells (shapeIn input)) l)
+firstStep input l = step (shapeIn input) [] (callIn (gridSize (shapeIn input)) l)
 
 unfoldable pub GoesOnAfter13 : Printing → Type 0
 GoesOnAfter13 p = (input : List ℕ) → startNo input ≡ 13 → 19 < length (p input)

@@ -39,7 +39,7 @@ use Rattle.grids.specs.Grids.{capped}
 use Rattle.grids.specs.Questions.{Limits}
 use Rattle.bounds.specs.Bounds.{inBounds}
 use Rattle.bounds.specs.Prune.{Pruned, pruned}
-use Rattle.layout.specs.Layout.{Shape, cells, headLength, lineLength, layoutLength, count, entryAt, decodeShape, decode, InLimits, laidOut}
+use Rattle.layout.specs.Layout.{Shape, gridSize, headLength, lineLength, layoutLength, count, entryAt, decodeShape, decode, InLimits, laidOut}
 use Rattle.machine.specs.Calls.{leastIn}
 use Rattle.machine.specs.CallLists.{Implementation, accepted}
 use Rattle.machine.specs.FitSlices.{Fitting}
@@ -62,7 +62,7 @@ InventsFit i =
     (b b′ low high : List ℕ) → i .fits b low high .number ≡ 0 → i .fits b′ low high .number ≡ 0 → i .fits b low high .place ≡ i .fits b′ low high .place
 
 unfoldable pub lastEntry : List ℕ → ℕ
-lastEntry b = headLength + (count b - 1) * lineLength (cells (decodeShape b))
+lastEntry b = headLength + (count b - 1) * lineLength (gridSize (decodeShape b))
 
 unfoldable pub LeavesLastLine : Implementation → Type 0
 LeavesLastLine i = (b g : List ℕ) → i .strikes b g .number ≡ 0 → drop (lastEntry b) (i .strikes b g .bytes) ≡ drop (lastEntry b) b
@@ -76,7 +76,7 @@ PlacesFromZero i = (b g : List ℕ) → i .enters b g .number ≡ 0 → count b 
 unfoldable pub InsertsLate : Implementation → Type 0
 InsertsLate i =
     (b g : List ℕ) → i .enters b g .number ≡ 0 → 1 ≤ count b → i .enters b g .place ≤ count b →
-    entryAt (cells (decodeShape b)) (i .enters b g .bytes) (i .enters b g .place) ≡ leastIn (decodeShape b) g
+    entryAt (gridSize (decodeShape b)) (i .enters b g .bytes) (i .enters b g .place) ≡ leastIn (decodeShape b) g
 
 unfoldable pub OpensNothing : Implementation → Type 0
 OpensNothing i = (s : Shape) (b : List ℕ) → i .opens s b .number ≡ 0 → ⊥
@@ -101,7 +101,7 @@ unfoldable pub AsksCellsFirst : Implementation → Type 0
 AsksCellsFirst i = (b g : List ℕ) → laidOut b ≡ true → capped (decodeShape b .top) g ≡ false → i .enters b g .number ≡ 7
 
 unfoldable pub AsksRegisterLast : Implementation → Type 0
-AsksRegisterLast i = (b low high : List ℕ) → eqb (length low) (cells (decodeShape b)) ≡ false → i .fits b low high .number ≡ 6
+AsksRegisterLast i = (b low high : List ℕ) → eqb (length low) (gridSize (decodeShape b)) ≡ false → i .fits b low high .number ≡ 6
 
 unfoldable pub TrustsBytes : Implementation → Type 0
 TrustsBytes i = (b g : List ℕ) → laidOut b ≡ false → i .enters b g .number ≡ 5 → ⊥
@@ -124,7 +124,7 @@ pub record HeldWrites (i : Implementation) : Type 0 where
 unfoldable pub FitsAsSent : Implementation → Type 0
 FitsAsSent i =
     (b low high : List ℕ) → i .fits b low high .number ≡ 0 →
-    i .fits b low high .place ≡ length (select (inBounds (cells (decodeShape b)) (decodeShape b .top) low high) (decode b .entries))
+    i .fits b low high .place ≡ length (select (inBounds (gridSize (decodeShape b)) (decodeShape b .top) low high) (decode b .entries))
 
 abbrev pub prunedBy : List ℕ → List ℕ → List ℕ → Pruned
 prunedBy b low high = pruned (decodeShape b .rows) (decodeShape b .columns) (decodeShape b .top) low high

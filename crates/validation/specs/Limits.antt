@@ -1,4 +1,4 @@
--- The limits of the numbers of line 1.
+-- The limits of the numbers of line 1. Between functions: no answer of a call is defined here.
 --
 --   WithinLimits rows columns top capacity count  ==  each number is within its limits, and the count is at most the capacity
 use Prim.Native.Nat.{ℕ, _≤_}

@@ -26,7 +26,7 @@ use Rattle.layout.specs.Layout.{fields, entryWidth, lineLength, entryLine, blan
 use Rattle.machine.specs.Calls.{Outcome, answered, question4, question5, gridQuestions, holds, question9, question10, placeIn, insert, without, openQuestions, opened, enterInto, strikeFrom, enterQuestions, strikeQuestions, fitQuestions, enterRegister, strikeRegister, entered, struck, fitPruned, fitRegister, fitted}
 use Rattle.machine.specs.CallLists.{registerCalls, called, run, left}
 use Rattle.worked_cases.specs.Text.{bytes, text}
-use Rattle.worked_cases.specs.Books.{Opening, Opens, openings, Book, Kept, books, Books}
+use Rattle.worked_cases.specs.Books.{Opening, Opens, openings, Book, KeptBook, books, BooksKept}
 
 -- ---- the tests
 
@@ -49,7 +49,7 @@ keptSo k =
     equal (map (λ (o : Outcome). o .number) os) (k .numbers)
     && (equal (map (λ (o : Outcome). o .place) os) (k .places) && equal (left registerCalls (text (k .before)) (k .calls)) (text (k .leaves)))
 
-kept-so : (k : Book) → keptSo k ≡ true → Kept k
+kept-so : (k : Book) → keptSo k ≡ true → KeptBook k
 unfolding keptSo
 kept-so k t =
     let os = run registerCalls (text (k .before)) (k .calls) in
@@ -59,6 +59,6 @@ kept-so k t =
 
 -- ---- the statement
 
-pub books-kept : Books
-unfolding opensSo keptSo bytes text flatten flatMap tabulate numbers select every some occurrences isPermutation words permutations rank leq less equal capped isGrid gridOf row permutedRow arrangement arrangements lesser leastOf least firstNo inRange question1 question2 question3 question6 question7 ranksWithin between inBounds fillings gridsWithin obeyed keeps keptValues lowestFrom lowest highestFrom highest keptLow keptHigh removedValues removed allperm question8 boundsQuestions prunedYes pruned lead field digit valueFrom value fields entryWidth lineLength entryLine blankLine headLine layout layoutLength numberAt count entryAt decodeShape decode inLimits ascending isRegister laidOut answered question4 question5 gridQuestions holds question9 question10 placeIn insert without openQuestions opened enterInto strikeFrom enterQuestions strikeQuestions fitQuestions enterRegister strikeRegister entered struck fitPruned fitRegister fitted registerCalls called run left openings books Books
-books-kept = (every-all Opens opensSo opens-so openings refl, every-all Kept keptSo kept-so books refl)
+pub books-kept : BooksKept
+unfolding opensSo keptSo bytes text flatten flatMap tabulate numbers select every some occurrences isPermutation words permutations rank leq less equal capped isGrid gridOf row permutedRow arrangement arrangements lesser leastOf least firstNo inRange question1 question2 question3 question6 question7 ranksWithin between inBounds fillings gridsWithin obeyed keeps keptValues lowestFrom lowest highestFrom highest keptLow keptHigh removedValues removed allperm question8 boundsQuestions prunedYes pruned lead field digit valueFrom value fields entryWidth lineLength entryLine blankLine headLine layout layoutLength numberAt count entryAt decodeShape decode inLimits ascending isRegister laidOut answered question4 question5 gridQuestions holds question9 question10 placeIn insert without openQuestions opened enterInto strikeFrom enterQuestions strikeQuestions fitQuestions enterRegister strikeRegister entered struck fitPruned fitRegister fitted registerCalls called run left openings books BooksKept
+books-kept = (every-all Opens opensSo opens-so openings refl, every-all KeptBook keptSo kept-so books refl)

@@ -21,10 +21,10 @@ use Rattle.layout.specs.Layout.{fields, entryWidth, lineLength, entryLine, blan
 use Rattle.machine.specs.Calls.{question4, question5, gridQuestions, holds, question9, question10, openQuestions, enterQuestions, strikeQuestions, fitQuestions}
 use Rattle.machine.specs.CallLists.{questionsOf, accepted}
 use Rattle.worked_cases.specs.Text.{bytes, text}
-use Rattle.worked_cases.specs.Edges.{Edge, fresh, short, full, edges, Edges, Accepted}
+use Rattle.worked_cases.specs.Edges.{Edge, fresh, short, full, edges, EdgesHold, Accepted}
 
-pub edges-hold : Edges
-unfolding Edges edges fresh short full bytes text flatten flatMap tabulate numbers select every some occurrences isPermutation words permutations rank less leq equal capped isGrid gridOf arrangement arrangements lesser leastOf least firstNo inRange question1 question2 question3 question6 question7 representQuestions sameQuestions question8 boundsQuestions lead field digit valueFrom value fields entryWidth lineLength entryLine blankLine headLine layout layoutLength numberAt count entryAt decodeShape decode inLimits ascending isRegister laidOut question4 question5 gridQuestions holds question9 question10 openQuestions enterQuestions strikeQuestions fitQuestions questionsOf
+pub edges-hold : EdgesHold
+unfolding EdgesHold edges fresh short full bytes text flatten flatMap tabulate numbers select every some occurrences isPermutation words permutations rank less leq equal capped isGrid gridOf arrangement arrangements lesser leastOf least firstNo inRange question1 question2 question3 question6 question7 representQuestions sameQuestions question8 boundsQuestions lead field digit valueFrom value fields entryWidth lineLength entryLine blankLine headLine layout layoutLength numberAt count entryAt decodeShape decode inLimits ascending isRegister laidOut question4 question5 gridQuestions holds question9 question10 openQuestions enterQuestions strikeQuestions fitQuestions questionsOf
 edges-hold = every-all (λ (e : Edge). firstNo (e .asked) ≡ e .number) (λ (e : Edge). eqb (firstNo (e .asked)) (e .number)) (λ e t. eqb-true _ _ t) edges refl
 
 pub accepted-hold : Accepted

@@ -8,8 +8,8 @@ use Rattle.permutations.specs.Padded.{padded, isSound, composedPadded, inverseP
 use Rattle.permutations.proofs.ListLaws.{every-all}
 use Rattle.grids.specs.Order.{equal}
 use Rattle.grids.proofs.OrderLaws.{equal-eq}
-use Rattle.worked_cases.specs.Orders.{Case, orders, Orders}
+use Rattle.worked_cases.specs.Orders.{OrderCase, orders, OrdersHold}
 
-pub orders-hold : Orders
-unfolding Orders orders tabulate numbers select every occurrences isPermutation identity composed position inverse padded isSound composedPadded inversePadded equal
-orders-hold = every-all (λ (c : Case). c .gives ≡ c .numbers) (λ (c : Case). equal (c .gives) (c .numbers)) (λ c t. equal-eq _ _ t) orders refl
+pub orders-hold : OrdersHold
+unfolding OrdersHold orders tabulate numbers select every occurrences isPermutation identity composed position inverse padded isSound composedPadded inversePadded equal
+orders-hold = every-all (λ (c : OrderCase). c .gives ≡ c .numbers) (λ (c : OrderCase). equal (c .gives) (c .numbers)) (λ c t. equal-eq _ _ t) orders refl

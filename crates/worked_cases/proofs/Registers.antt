@@ -12,7 +12,7 @@ use Rattle.grids.specs.Questions.{inRange}
 use Rattle.layout.specs.Decimal.{lead, field, digit, valueFrom, value}
 use Rattle.layout.specs.Layout.{fields, entryWidth, lineLength, entryLine, blankLine, headLine, layout, layoutLength, numberAt, count, entryAt, decodeShape, decode, inLimits, ascending, isRegister, laidOut}
 use Rattle.worked_cases.specs.Text.{bytes, text}
-use Rattle.worked_cases.specs.Registers.{Case, registers, Registers}
+use Rattle.worked_cases.specs.Registers.{RegisterCase, registers, RegistersHold}
 
 agree : Bool → Bool → Bool
 agree x true = x
@@ -25,6 +25,6 @@ agree-equal true false e = absurd (true≢false (sym e))
 agree-equal false true e = absurd (true≢false (sym e))
 agree-equal false false e = refl
 
-pub registers-hold : Registers
-unfolding agree Registers registers bytes text flatten tabulate numbers every rank less leq equal capped isGrid inRange lead field digit valueFrom value fields entryWidth lineLength entryLine blankLine headLine layout layoutLength numberAt count entryAt decodeShape decode inLimits ascending isRegister laidOut
-registers-hold = every-all (λ (c : Case). laidOut (text (c .lines)) ≡ c .answer) (λ (c : Case). agree (laidOut (text (c .lines))) (c .answer)) (λ c t. agree-equal _ _ t) registers refl
+pub registers-hold : RegistersHold
+unfolding agree RegistersHold registers bytes text flatten tabulate numbers every rank less leq equal capped isGrid inRange lead field digit valueFrom value fields entryWidth lineLength entryLine blankLine headLine layout layoutLength numberAt count entryAt decodeShape decode inLimits ascending isRegister laidOut
+registers-hold = every-all (λ (c : RegisterCase). laidOut (text (c .lines)) ≡ c .answer) (λ (c : RegisterCase). agree (laidOut (text (c .lines))) (c .answer)) (λ c t. agree-equal _ _ t) registers refl

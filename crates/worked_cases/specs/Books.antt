@@ -4,9 +4,9 @@
 --   Opens o   ==  what the definitions say of it
 --   openings  ==  the table of opens
 --   Book      ==  a register's bytes, calls on it, their numbers, their places or counts, and the bytes that they leave
---   Kept k    ==  what the definitions say of it
+--   KeptBook k    ==  what the definitions say of it
 --   books     ==  the table of books
---   Books     ==  the statement: every open and every book is kept so
+--   BooksKept ==  the statement: every open and every book is kept so
 use mathlib.Core.Path.{_≡_}
 use mathlib.Core.List.{List, [], _∷_, map}
 use Prim.Native.Nat.{ℕ}
@@ -34,7 +34,7 @@ pub record Book : Type 0 where
   pub places : List ℕ
   pub leaves : List String
 
-pub record Kept (k : Book) : Type 0 where
+pub record KeptBook (k : Book) : Type 0 where
   pub numbers : map (λ (o : Outcome). o .number) (run registerCalls (text (k .before)) (k .calls)) ≡ k .numbers
   pub places : map (λ (o : Outcome). o .place) (run registerCalls (text (k .before)) (k .calls)) ≡ k .places
   pub leaves : left registerCalls (text (k .before)) (k .calls) ≡ text (k .leaves)
@@ -134,5 +134,5 @@ books =
     }
     ∷ []
 
-unfoldable pub Books : Type 0
-Books = All Opens openings × All Kept books
+unfoldable pub BooksKept : Type 0
+BooksKept = All Opens openings × All KeptBook books

@@ -3,10 +3,9 @@
 --
 --   Edge      ==  the questions asked, and the number that they give
 --   zeros k   ==  k cells of 0
---   shape m n top capacity  ==  the four numbers of an open
 --   fresh, short, full  ==  the bytes of an open register of 1 row, 1 column, top 1 and capacity 1; the same less the last byte; and with the entry 0
 --   edges     ==  the table
---   Edges     ==  the statement: every edge gives its number
+--   EdgesHold ==  the statement: every edge gives its number
 --   Accepted  ==  of the numbers up to 103, those that are no refusals
 use mathlib.Core.Path.{_≡_}
 use mathlib.Core.List.{List, [], _∷_}
@@ -17,8 +16,7 @@ use Rattle.grids.specs.Questions.{Question, firstNo}
 use Rattle.canonical.specs.Represent.{representQuestions}
 use Rattle.canonical.specs.Same.{sameQuestions}
 use Rattle.bounds.specs.Prune.{pruneQuestions}
-use Rattle.layout.specs.Layout.{Shape}
-use Rattle.machine.specs.Calls.{question4, openQuestions}
+use Rattle.machine.specs.Calls.{shape, openQuestions}
 use Rattle.machine.specs.CallLists.{enter, strike, fit, questionsOf, accepted}
 use Rattle.worked_cases.specs.Text.{text}
 
@@ -28,9 +26,6 @@ pub record Edge : Type 0 where
 
 abbrev pub zeros : ℕ → List ℕ
 zeros k = replicate k 0
-
-abbrev pub shape : ℕ → ℕ → ℕ → ℕ → Shape
-shape m n top capacity = record { rows = m; columns = n; top = top; capacity = capacity }
 
 unfoldable pub fresh : List ℕ
 fresh = text ("     1     1     1     1     0\n" ∷ "   \n" ∷ [])
@@ -47,7 +42,8 @@ edges =
     record { asked = representQuestions 0 0 0 [] []; number = 1 }
     -- rows 8, columns 16, top 15, capacity 500 pass
     ∷ record { asked = representQuestions 8 16 15 (zeros 128) (zeros 128); number = 0 }
-    ∷ record { asked = question4 500 ∷ []; number = 0 }
+    ∷ record { asked = openQuestions (shape 8 16 15 500) []; number = 6 }
+    ∷ record { asked = openQuestions (shape 1 1 15 500) (zeros 2031); number = 0 }
     -- one more gives 1, 2, 3, 4
     ∷ record { asked = representQuestions 9 16 15 (zeros 144) (zeros 144); number = 1 }
     ∷ record { asked = representQuestions 8 17 15 (zeros 136) (zeros 136); number = 2 }
@@ -115,8 +111,8 @@ edges =
     ∷ record { asked = questionsOf fresh (fit (0 ∷ []) (0 ∷ [])); number = 0 }
     ∷ []
 
-unfoldable pub Edges : Type 0
-Edges = All (λ e. firstNo (e .asked) ≡ e .number) edges
+unfoldable pub EdgesHold : Type 0
+EdgesHold = All (λ e. firstNo (e .asked) ≡ e .number) edges
 
 unfoldable pub Accepted : Type 0
 Accepted = select accepted (numbers 104) ≡ 0 ∷ 101 ∷ 102 ∷ []

@@ -1,9 +1,9 @@
 -- Orders that follow each other, their reverses and the starting one, as one table: what the definitions give, and the numbers listed.
 --
---   Case        ==  a list that a definition gives, and its numbers
+--   OrderCase        ==  a list that a definition gives, and its numbers
 --   starting8   ==  8 positions, each holding its own number
 --   orders      ==  the table
---   Orders      ==  the statement: every list has these numbers
+--   OrdersHold  ==  the statement: every list has these numbers
 use mathlib.Core.Path.{_≡_}
 use mathlib.Core.List.{List, [], _∷_}
 use Prim.Native.Nat.{ℕ}
@@ -11,14 +11,14 @@ use Rattle.permutations.specs.Lists.{All}
 use Rattle.permutations.specs.Permutations.{identity, composed, inverse}
 use Rattle.permutations.specs.Padded.{composedPadded, inversePadded}
 
-pub record Case : Type 0 where
+pub record OrderCase : Type 0 where
   pub gives : List ℕ
   pub numbers : List ℕ
 
 abbrev pub starting8 : List ℕ
 starting8 = 0 ∷ 1 ∷ 2 ∷ 3 ∷ 4 ∷ 5 ∷ 6 ∷ 7 ∷ []
 
-unfoldable pub orders : List Case
+unfoldable pub orders : List OrderCase
 orders =
     record { gives = identity 3; numbers = 0 ∷ 1 ∷ 2 ∷ [] }
     -- P followed by R sends i to P(R(i))
@@ -40,5 +40,5 @@ orders =
     ∷ record { gives = inversePadded 8 9 (1 ∷ 0 ∷ 2 ∷ 3 ∷ 4 ∷ 5 ∷ 6 ∷ 7 ∷ 8 ∷ []); numbers = starting8 }
     ∷ []
 
-unfoldable pub Orders : Type 0
-Orders = All (λ c. c .gives ≡ c .numbers) orders
+unfoldable pub OrdersHold : Type 0
+OrdersHold = All (λ c. c .gives ≡ c .numbers) orders

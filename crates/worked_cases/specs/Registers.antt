@@ -1,8 +1,8 @@
 -- Question 5 of some byte strings, as one table: which are registers.
 --
---   Case       ==  bytes, as text, and the answer
+--   RegisterCase       ==  bytes, as text, and the answer
 --   registers  ==  the table
---   Registers  ==  the statement: question 5 answers so
+--   RegistersHold  ==  the statement: question 5 answers so
 use mathlib.Core.Path.{_≡_}
 use mathlib.Core.List.{List, [], _∷_}
 use mathlib.Core.Bool.{Bool, true, false}
@@ -12,11 +12,11 @@ use Rattle.permutations.specs.Lists.{All}
 use Rattle.layout.specs.Layout.{laidOut}
 use Rattle.worked_cases.specs.Text.{text}
 
-pub record Case : Type 0 where
+pub record RegisterCase : Type 0 where
   pub lines : List String
   pub answer : Bool
 
-unfoldable pub registers : List Case
+unfoldable pub registers : List RegisterCase
 registers =
     -- entries and a blank line; none; as many as the capacity
     record { lines = "     1     1     1     3     2\n" ∷ "  0\n" ∷ "  1\n" ∷ "   \n" ∷ []; answer = true }
@@ -75,5 +75,5 @@ registers =
     ∷ record { lines = "     1     1     0     0     0\n" ∷ []; answer = false }
     ∷ []
 
-unfoldable pub Registers : Type 0
-Registers = All (λ c. laidOut (text (c .lines)) ≡ c .answer) registers
+unfoldable pub RegistersHold : Type 0
+RegistersHold = All (λ c. laidOut (text (c .lines)) ≡ c .answer) registers

@@ -2,7 +2,7 @@
 --
 --   Run          ==  the lines of an input, and the lines printed for it
 --   runs         ==  the table
---   Transcripts  ==  the statement: planbook prints so
+--   TranscriptsHold  ==  the statement: planbook prints so
 --   lineFeeds n  ==  n line feeds
 --   InputLimit   ==  the statement: an input of 65,536 bytes is read, and one byte more is too many
 use mathlib.Core.Path.{_≡_}
@@ -167,22 +167,22 @@ runs =
           ∷ "            \n"
           ∷ [];
     }
-    -- 0, 101 in a full register, 9, 10, 102, and 10 again after a strike
+    -- 102, 101 in a full register, 9, 10, 0, and 10 again after a strike
     ∷ record {
       input = "     2     2     1     1\n"
           ∷ "     1  1  0  0  1\n"
+          ∷ "     3  1  1  1  1  0  0  0  0\n"
           ∷ "     1  0  1  1  0\n"
           ∷ "     1  0  0  0  0\n"
           ∷ "     2  1  1  1  1\n"
-          ∷ "     3  1  1  1  1  0  0  0  0\n"
           ∷ "     2  0  1  1  0\n"
           ∷ "     2  0  1  1  0\n"
           ∷ [];
       output = "     1     0     1\n"
+          ∷ "     3   102     0\n"
           ∷ "     1   101     1\n"
           ∷ "     1     9     0\n"
           ∷ "     2    10     0\n"
-          ∷ "     3   102     0\n"
           ∷ "     2     0     1\n"
           ∷ "     2    10     0\n"
           ∷ "     2     2     1     1     0\n"
@@ -218,8 +218,8 @@ runs =
     }
     ∷ []
 
-unfoldable pub Transcripts : Type 0
-Transcripts = All (λ r. transcript (text (r .input)) ≡ text (r .output)) runs
+unfoldable pub TranscriptsHold : Type 0
+TranscriptsHold = All (λ r. transcript (text (r .input)) ≡ text (r .output)) runs
 
 unfoldable pub lineFeeds : ℕ → List ℕ
 lineFeeds n = replicate n 10

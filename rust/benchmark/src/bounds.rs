@@ -2,7 +2,8 @@
 
 use crate::call::Prune;
 use crate::inputs::{check_equal, Input};
-use plan_register::Pruned;
+use plan_register::numbers::{DONE, NO_GRID};
+use plan_register::Counted;
 use reference::bounds::some_grid;
 use reference::forms::{around, close, grid_with_allperm, wide, Form};
 use reference::random::Random;
@@ -40,12 +41,12 @@ const FORMS: usize = 20;
 /// All inputs, the same in every run.
 pub fn inputs() -> Vec<Bounds> {
     vec![
-        Bounds::drawn("wide", LARGEST, 0, wide_form),
-        Bounds::drawn("wide, row 0 near the others", LARGEST, 0, close_form),
-        Bounds::drawn("one or two values", LARGEST, 0, tight_form),
-        Bounds::drawn("one value", LARGEST, 0, single_form),
-        Bounds::drawn("no grid, by the last row", LARGEST, 102, low_last_row),
-        Bounds::drawn("row 0 near the others", SMALL, 0, close_form),
+        Bounds::drawn("wide", LARGEST, DONE, wide_form),
+        Bounds::drawn("wide, row 0 near the others", LARGEST, DONE, close_form),
+        Bounds::drawn("one or two values", LARGEST, DONE, tight_form),
+        Bounds::drawn("one value", LARGEST, DONE, single_form),
+        Bounds::drawn("no grid, by the last row", LARGEST, NO_GRID, low_last_row),
+        Bounds::drawn("row 0 near the others", SMALL, DONE, close_form),
     ]
 }
 
@@ -90,9 +91,9 @@ impl Bounds {
         let Shape { m, n, top } = shape;
         let mut random = Random::new(1);
         let forms = repeat_with(|| draw(&mut random, shape));
-        let answered = |(low, high): &Form| some_grid(m, n, top, low, high) == (number == 0);
+        let answered = |(low, high): &Form| some_grid(m, n, top, low, high) == (number == DONE);
         Bounds {
-            name: format!("{name} {m}x{n}, top {top}"),
+            name: format!("prune: {name} {m}x{n}, top {top}"),
             shape,
             number,
             forms: forms.filter(answered).take(FORMS).collect(),
@@ -105,6 +106,10 @@ impl Input for Bounds {
 
     fn name(&self) -> &str {
         &self.name
+    }
+
+    fn calls(&self) -> u32 {
+        self.forms.len() as u32
     }
 
     /// The answer is this input's number, a count and bounds.
@@ -127,7 +132,7 @@ impl Input for Bounds {
             let (lows, highs) = (&mut lows[..low.len()], &mut highs[..high.len()]);
             lows.copy_from_slice(low);
             highs.copy_from_slice(high);
-            black_box(call(
+            let _ = black_box(call(
                 prune,
                 black_box(self.shape),
                 black_box(lows),
@@ -137,6 +142,6 @@ impl Input for Bounds {
     }
 }
 
-fn call(prune: Prune, shape: Shape, low: &mut [u8], high: &mut [u8]) -> Pruned {
+fn call(prune: Prune, shape: Shape, low: &mut [u8], high: &mut [u8]) -> Counted {
     prune(shape.m, shape.n, shape.top.into(), low, high)
 }

@@ -11,13 +11,14 @@
 
 use crate::bitonic;
 use crate::call::{first_no, starting};
-use plan_register::Orders;
+use plan_register::numbers::DONE;
+use plan_register::Arranged;
 use std::cmp::Ordering;
 
 /// Represent by branch and bound.
-pub fn represent(m: usize, n: usize, top: usize, grid: &[u8], out: &mut [u8]) -> Orders {
+pub fn represent(m: usize, n: usize, top: usize, grid: &[u8], out: &mut [u8]) -> Arranged {
     let number = first_no(m, n, top, grid, out);
-    if number != 0 {
+    if number != DONE {
         return starting(number);
     }
     match n {
@@ -55,19 +56,19 @@ impl Partial {
         }
         Partial {
             unplaced: (0xFF_u16 >> (8 - m)) as u8,
-            rows: starting(0).rows,
+            rows: starting(DONE).rows,
             blocks: ByColumn::from_le_bytes(blocks),
         }
     }
 
     /// Orders that begin with the rows placed, `depth` many, and have the columns sorted by them.
-    fn orders(&self, depth: usize, n: usize) -> Orders {
-        let mut orders = starting(0);
+    fn orders(&self, depth: usize, n: usize) -> Arranged {
+        let mut orders = starting(DONE);
         for (row, k) in members(self.unplaced).zip(depth..) {
             orders.rows[k] = row as u8;
         }
         orders.rows[..depth].copy_from_slice(&self.rows[..depth]);
-        let mut next_places = starting(0).columns;
+        let mut next_places = starting(DONE).columns;
         for (column, block) in self.blocks.to_le_bytes().into_iter().enumerate().take(n) {
             let next_place = &mut next_places[usize::from(block / 16)];
             orders.columns[usize::from(*next_place)] = column as u8;
@@ -79,7 +80,7 @@ impl Partial {
 
 /// The best arrangement known.
 struct Best {
-    orders: Orders,
+    orders: Arranged,
     /// Its rows; those past the first `arranged` are not written yet.
     rows: [ByPlace; 8],
     arranged: usize,
@@ -87,7 +88,7 @@ struct Best {
 
 impl Best {
     /// The arrangement by these orders is less, for this row of it is.
-    fn lower(&mut self, depth: usize, row: ByPlace, orders: Orders) {
+    fn lower(&mut self, depth: usize, row: ByPlace, orders: Arranged) {
         self.orders = orders;
         self.rows[depth] = row;
         self.arranged = depth + 1;
@@ -124,7 +125,7 @@ impl<const WIDTH: usize> Search<WIDTH> {
             rows,
             earlier_equal,
             best: Best {
-                orders: starting(0),
+                orders: starting(DONE),
                 rows: [0; 8],
                 arranged: 0,
             },
@@ -132,7 +133,7 @@ impl<const WIDTH: usize> Search<WIDTH> {
         }
     }
 
-    fn run(mut self, out: &mut [u8]) -> Orders {
+    fn run(mut self, out: &mut [u8]) -> Arranged {
         self.extend(0, &Partial::none_placed(self.m, self.n, WIDTH));
         for (depth, row) in out.chunks_exact_mut(self.n).enumerate() {
             row.copy_from_slice(&places::<WIDTH>(self.best_row(depth))[..self.n]);

@@ -1,24 +1,39 @@
 //! What the compared implementations have in common: the calls and their questions.
 
-use plan_register::{Fitted, Orders, Placed, Pruned};
+use plan_register::numbers::{BOUNDS, CELL, COLUMNS, DONE, LENGTH, ROWS, TOP};
+use plan_register::{Arranged, Counted, Placed};
 use reference::grid::rank;
 
 /// The call represent: m, n, top, the grid, the output.
-pub type Represent = fn(usize, usize, usize, &[u8], &mut [u8]) -> Orders;
+pub type Represent = fn(usize, usize, usize, &[u8], &mut [u8]) -> Arranged;
+
+/// The call same: m, n, top, the two grids.
+pub type Same = fn(usize, usize, usize, &[u8], &[u8]) -> Arranged;
 
 /// The call prune: m, n, top, the lows, the highs.
-pub type Prune = fn(usize, usize, usize, &mut [u8], &mut [u8]) -> Pruned;
+pub type Prune = fn(usize, usize, usize, &mut [u8], &mut [u8]) -> Counted;
+
+/// The call open: m, n, top, the capacity, the register.
+pub type Open = fn(usize, usize, usize, usize, &mut [u8]) -> Placed;
 
 /// The calls enter and strike: the register, the grid.
 pub type Change = fn(&mut [u8], &[u8]) -> Placed;
 
 /// The call fit: the register, the lows, the highs.
-pub type Fit = fn(&[u8], &[u8], &[u8]) -> Fitted;
+pub type Fit = fn(&[u8], &[u8], &[u8]) -> Counted;
 
 /// The number of the first of represent's questions, 1, 2, 3, 6, 7, that gets a no, or 0.
 pub fn first_no(m: usize, n: usize, top: usize, grid: &[u8], out: &[u8]) -> u32 {
     match first_no_of_shape(m, n, top, [grid, out]) {
-        0 if greatest(grid) > top as u8 => 7,
+        DONE if greatest(grid) > top as u8 => CELL,
+        number => number,
+    }
+}
+
+/// The number of the first of same's questions, 1, 2, 3, 6, 7, that gets a no, or 0.
+pub fn first_no_of_two(m: usize, n: usize, top: usize, a: &[u8], b: &[u8]) -> u32 {
+    match first_no_of_shape(m, n, top, [a, b]) {
+        DONE if greatest(a).max(greatest(b)) > top as u8 => CELL,
         number => number,
     }
 }
@@ -26,8 +41,8 @@ pub fn first_no(m: usize, n: usize, top: usize, grid: &[u8], out: &[u8]) -> u32 
 /// The number of the first of prune's questions, 1, 2, 3, 6, 7, 8, that gets a no, or 0.
 pub fn first_no_of_bounds(m: usize, n: usize, top: usize, low: &[u8], high: &[u8]) -> u32 {
     match first_no_of_shape(m, n, top, [low, high]) {
-        0 if greatest(low).max(greatest(high)) > top as u8 => 7,
-        0 if !all_at_most(low, high) => 8,
+        DONE if greatest(low).max(greatest(high)) > top as u8 => CELL,
+        DONE if !all_at_most(low, high) => BOUNDS,
         number => number,
     }
 }
@@ -35,15 +50,15 @@ pub fn first_no_of_bounds(m: usize, n: usize, top: usize, low: &[u8], high: &[u8
 /// The number of the first of questions 1, 2, 3, 6 that gets a no, or 0.
 fn first_no_of_shape(m: usize, n: usize, top: usize, slices: [&[u8]; 2]) -> u32 {
     if !(1..=8).contains(&m) {
-        1
+        ROWS
     } else if !(1..=16).contains(&n) {
-        2
+        COLUMNS
     } else if top > 15 {
-        3
+        TOP
     } else if slices.iter().any(|slice| slice.len() != m * n) {
-        6
+        LENGTH
     } else {
-        0
+        DONE
     }
 }
 
@@ -58,8 +73,8 @@ fn all_at_most(low: &[u8], high: &[u8]) -> bool {
 }
 
 /// This number with the starting orders.
-pub fn starting(number: u32) -> Orders {
-    Orders {
+pub fn starting(number: u32) -> Arranged {
+    Arranged {
         number,
         rows: [0, 1, 2, 3, 4, 5, 6, 7],
         columns: [0, 1, 2, 3, 4, 5, 6, 7, 8, 9, 10, 11, 12, 13, 14, 15],
@@ -67,6 +82,6 @@ pub fn starting(number: u32) -> Orders {
 }
 
 /// This number with no value removed.
-pub fn unpruned(number: u32) -> Pruned {
-    Pruned { number, count: 0 }
+pub fn unpruned(number: u32) -> Counted {
+    Counted { number, count: 0 }
 }

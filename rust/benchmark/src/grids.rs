@@ -2,6 +2,7 @@
 
 use crate::call::Represent;
 use crate::inputs::{check_equal, Input};
+use plan_register::numbers::DONE;
 use reference::designs::{
     cyclic_latin, efpa, fano, half_hadamard, identity, near_identity, two_rows, zero, Design,
 };
@@ -35,7 +36,7 @@ pub fn inputs() -> Vec<Grids> {
         efpa(),
     ];
     inputs.extend(designs.map(|design| Grids {
-        name: design.name.clone(),
+        name: format!("represent: {}", design.name),
         grids: vec![design],
     }));
     inputs
@@ -43,7 +44,7 @@ pub fn inputs() -> Vec<Grids> {
 
 fn random_grids(seed: u64, m: usize, n: usize, top: u8) -> Grids {
     let mut random = Random::new(seed);
-    let name = format!("random {m}x{n}, top {top}");
+    let name = format!("represent: random {m}x{n}, top {top}");
     let grid = |_| Design {
         name: name.clone(),
         m,
@@ -64,13 +65,17 @@ impl Input for Grids {
         &self.name
     }
 
+    fn calls(&self) -> u32 {
+        self.grids.len() as u32
+    }
+
     /// The answer is number 0 and a grid.
     fn check_equal_outputs(&self, calls: &[Represent]) {
         for grid in &self.grids {
             let outputs = calls.iter().map(|represent| {
                 let mut out = vec![255; grid.m * grid.n];
-                let orders = represent(grid.m, grid.n, grid.top.into(), &grid.cells, &mut out);
-                assert_eq!(orders.number, 0, "{}", grid.name);
+                let arranged = represent(grid.m, grid.n, grid.top.into(), &grid.cells, &mut out);
+                assert_eq!(arranged.number, DONE, "{}", grid.name);
                 out
             });
             check_equal(&grid.name, outputs);
@@ -82,7 +87,7 @@ impl Input for Grids {
         for grid in &self.grids {
             let (m, n, top) = black_box((grid.m, grid.n, grid.top.into()));
             let out = &mut out[..grid.cells.len()];
-            black_box(represent(m, n, top, black_box(&grid.cells), out));
+            let _ = black_box(represent(m, n, top, black_box(&grid.cells), out));
             black_box(out);
         }
     }

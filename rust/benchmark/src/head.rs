@@ -1,7 +1,10 @@
 //! Line 1 of a register in plain Rust.
 
+use plan_register::numbers::{CAPACITY, COLUMNS, DONE, ROWS, TOP};
+
 /// The length of line 1: five numbers, each 6 wide, and a line feed.
 const FIRST_LINE: usize = 31;
+const FIELD: usize = 6;
 
 /// What line 1 states.
 #[derive(Clone, Copy)]
@@ -27,6 +30,16 @@ impl Head {
         head.within_limits().then_some(head)
     }
 
+    /// Writes line 1.
+    pub fn write(&self, register: &mut [u8]) {
+        let numbers = [self.m, self.n, self.top, self.capacity, self.count];
+        let fields = register[..FIRST_LINE - 1].chunks_exact_mut(FIELD);
+        for (field, number) in fields.zip(numbers) {
+            write_number(field, number);
+        }
+        register[FIRST_LINE - 1] = b'\n';
+    }
+
     /// The length of an entry's line.
     pub fn width(&self) -> usize {
         3 * self.m * self.n + 1
@@ -38,11 +51,35 @@ impl Head {
     }
 
     fn within_limits(&self) -> bool {
-        (1..=8).contains(&self.m)
-            && (1..=16).contains(&self.n)
-            && self.top <= 15
-            && (1..=500).contains(&self.capacity)
-            && self.count <= self.capacity
+        self.first_no() == DONE && self.count <= self.capacity
+    }
+
+    /// The number of the first of questions 1 to 4 that gets a no, or 0.
+    pub fn first_no(&self) -> u32 {
+        if !(1..=8).contains(&self.m) {
+            ROWS
+        } else if !(1..=16).contains(&self.n) {
+            COLUMNS
+        } else if self.top > 15 {
+            TOP
+        } else if !(1..=500).contains(&self.capacity) {
+            CAPACITY
+        } else {
+            DONE
+        }
+    }
+}
+
+/// Writes the number to the field: right-justified, padded by spaces.
+pub fn write_number(field: &mut [u8], number: usize) {
+    field.fill(b' ');
+    let mut rest = number;
+    for byte in field.iter_mut().rev() {
+        *byte = b'0' + (rest % 10) as u8;
+        rest /= 10;
+        if rest == 0 {
+            break;
+        }
     }
 }
 

@@ -1,8 +1,8 @@
 //! The implementations that are compared, and the ratios of their times.
 
-use crate::call::{Change, Fit, Prune, Represent};
+use crate::call::{Change, Fit, Open, Prune, Represent, Same};
 use crate::register_calls::Pass;
-use crate::table::Table;
+use crate::table::{self, Table};
 use crate::{branch_and_bound, packed_theorem_1, same_search, theorem_1};
 use crate::{plain_register, same_pruning, value_by_value};
 
@@ -11,21 +11,39 @@ pub const REPRESENT: Table<Represent, 5> = Table {
     implementations: [
         ("Theorem 1", theorem_1::represent),
         ("Theorem 1, packed", packed_theorem_1::represent),
-        ("plan_register", plan_register::represent),
+        (table::LIBRARY, plan_register::represent),
         ("same search in plain Rust", same_search::represent),
         ("vectorised search", branch_and_bound::represent),
     ],
     ratios: &[(0, 2), (1, 2), (2, 3), (2, 4)],
 };
 
+/// Same.
+pub const SAME: Table<Same, 2> = Table {
+    implementations: [
+        (table::LIBRARY, plan_register::same),
+        ("same search in plain Rust", same_search::same),
+    ],
+    ratios: &[(0, 1)],
+};
+
 /// Prune: in the first ratio the library's time is the divisor.
 pub const PRUNE: Table<Prune, 3> = Table {
     implementations: [
         ("value by value", value_by_value::prune),
-        ("plan_register", plan_register::prune),
+        (table::LIBRARY, plan_register::prune),
         ("same method in plain Rust", same_pruning::prune),
     ],
     ratios: &[(0, 1), (1, 2)],
+};
+
+/// Open.
+pub const OPEN: Table<Open, 2> = Table {
+    implementations: [
+        (table::LIBRARY, plan_register::open),
+        ("plain Rust", plain_register::open),
+    ],
+    ratios: &[(0, 1)],
 };
 
 /// The calls on a register by one implementation, and represent, which enter and strike rest on.
@@ -55,7 +73,7 @@ pub const PLAIN: RegisterCalls = RegisterCalls {
 pub const READING: Table<Pass, 3> = Table {
     implementations: [
         ("memcpy", Pass::Copy),
-        ("plan_register", Pass::Call(LIBRARY)),
+        (table::LIBRARY, Pass::Call(LIBRARY)),
         ("plain Rust", Pass::Call(PLAIN)),
     ],
     ratios: &[(1, 0), (2, 0), (1, 2)],
@@ -65,7 +83,7 @@ pub const READING: Table<Pass, 3> = Table {
 pub const WRITING: Table<Pass, 5> = Table {
     implementations: [
         ("memcpy", Pass::Copy),
-        ("plan_register", Pass::Call(LIBRARY)),
+        (table::LIBRARY, Pass::Call(LIBRARY)),
         ("plain Rust", Pass::Call(PLAIN)),
         ("plan_register besides represent", Pass::Besides(LIBRARY)),
         ("plain Rust besides represent", Pass::Besides(PLAIN)),

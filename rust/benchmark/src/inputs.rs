@@ -5,7 +5,11 @@ pub trait Input {
     /// The call, as each implementation answers it.
     type Call: Copy;
 
+    /// The line's name, which begins with the call's.
     fn name(&self) -> &str;
+
+    /// How many calls a pass makes.
+    fn calls(&self) -> u32;
 
     /// Panics unless all implementations give the same answer on each case.
     fn check_equal_outputs(&self, calls: &[Self::Call]);

@@ -1,5 +1,4 @@
-//! How fast represent, prune and the calls on a register are: the verified library beside
-//! unverified implementations in Rust.
+//! How fast the calls are: the verified library beside unverified implementations in Rust.
 //!
 //! | module             | what                                                         |
 //! |--------------------|--------------------------------------------------------------|
@@ -11,7 +10,7 @@
 //! | `value_by_value`   | prune by trying each value                                   |
 //! | `same_pruning`     | the library's own pruning, written in plain Rust             |
 //! | `values`           | what these two share: values and rows by rank                |
-//! | `plain_register`   | enter, strike and fit in plain Rust                          |
+//! | `plain_register`   | open, enter, strike and fit in plain Rust                    |
 //! | `scan`             | question 5 in these                                          |
 //! | `head`             | line 1 of a register in these                                |
 //! | `line`             | an entry's line in these, compared and written               |
@@ -20,24 +19,34 @@
 //! | `implementations`  | what is compared                                             |
 //! | `inputs`           | what the timing needs of inputs                              |
 //! | `grids`            | the grids that are timed                                     |
+//! | `pairs`            | the pairs of grids that are timed                            |
 //! | `bounds`           | the bounds that are timed                                    |
+//! | `openings`         | the registers that are opened                                |
 //! | `registers`        | the registers on which calls are timed                       |
 //! | `register_calls`   | the calls on them that are timed                             |
 //! | `timing`           | medians over interleaved rounds                              |
 //! | `low_times`        | low percentiles over interleaved rounds                      |
 //! | `table`            | the printed tables                                           |
+//! | `digits`           | the numbers in them                                          |
+//! | `lines`            | the lines of all tables, and those chosen                    |
+//! | `options`          | what the command line asks for                               |
 
 mod bitonic;
 pub mod bounds;
 pub mod branch_and_bound;
 pub mod call;
+mod digits;
 pub mod grids;
 mod head;
 pub mod implementations;
 pub mod inputs;
 mod line;
+pub mod lines;
 pub mod low_times;
+pub mod openings;
+pub mod options;
 pub mod packed_theorem_1;
+pub mod pairs;
 pub mod plain_register;
 pub mod register_calls;
 pub mod registers;

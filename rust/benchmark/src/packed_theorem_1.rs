@@ -2,16 +2,17 @@
 //! row permutations that begin with the same rows share the columns of these rows.
 
 use crate::call::{first_no, starting};
-use plan_register::Orders;
+use plan_register::numbers::DONE;
+use plan_register::Arranged;
 
 /// A column of an arrangement: 4 bits for each cell, the top cell the highest, so that
 /// columns compare as numbers.
 type PackedColumn = u32;
 
 /// Represent by Theorem 1 over packed columns.
-pub fn represent(m: usize, n: usize, top: usize, grid: &[u8], out: &mut [u8]) -> Orders {
+pub fn represent(m: usize, n: usize, top: usize, grid: &[u8], out: &mut [u8]) -> Arranged {
     let number = first_no(m, n, top, grid, out);
-    if number != 0 {
+    if number != DONE {
         return starting(number);
     }
     let mut every = EveryRowOrder {
@@ -19,14 +20,14 @@ pub fn represent(m: usize, n: usize, top: usize, grid: &[u8], out: &mut [u8]) ->
         n,
         grid,
         least: [PackedColumn::MAX; 16],
-        least_rows: starting(0).rows,
+        least_rows: starting(DONE).rows,
     };
-    every.place(0, starting(0).rows, [0; 16]);
+    every.place(0, starting(DONE).rows, [0; 16]);
     for (k, cell) in out.iter_mut().enumerate() {
         *cell = every.cell(&every.least, k / n, k % n);
     }
-    Orders {
-        number: 0,
+    Arranged {
+        number: DONE,
         rows: every.least_rows,
         columns: every.sorting_columns(),
     }
@@ -96,7 +97,7 @@ impl EveryRowOrder<'_> {
         for &row in &self.least_rows[..self.m] {
             packed = self.lengthened(packed, row);
         }
-        let mut columns = starting(0).columns;
+        let mut columns = starting(DONE).columns;
         columns[..self.n].sort_unstable_by_key(|&column| packed[usize::from(column)]);
         columns
     }

@@ -1,21 +1,45 @@
-//! Enter, strike and fit in plain Rust, unverified, written with care for speed: question 5 is one
+//! Open, enter, strike and fit in plain Rust, unverified, written with care for speed: question 5 is one
 //! scan, a class is looked for by halving, lines are moved as one block, and the entries within
 //! bounds are counted on their lines.
 
-use crate::head::Head;
+use crate::head::{write_number, Head};
 use crate::line::{compare, written, LONGEST};
 use crate::scan::laid_out;
 use crate::within::Bounds;
 use crate::{same_pruning, same_search};
-use plan_register::{Fitted, Placed};
+use plan_register::numbers::{DONE, FULL, HELD, LAYOUT, LENGTH, NOT_HELD};
+use plan_register::{Counted, Placed};
 use std::cmp::Ordering;
+
+/// Open in plain Rust.
+pub fn open(m: usize, n: usize, top: usize, capacity: usize, register: &mut [u8]) -> Placed {
+    let head = Head {
+        m,
+        n,
+        top,
+        capacity,
+        count: 0,
+    };
+    match head.first_no() {
+        DONE if register.len() != head.start(capacity) => placeless(LENGTH),
+        DONE => {
+            head.write(register);
+            for line in register[head.start(0)..].chunks_exact_mut(head.width()) {
+                line.fill(b' ');
+                line[head.width() - 1] = b'\n';
+            }
+            placeless(DONE)
+        }
+        number => placeless(number),
+    }
+}
 
 /// Enter in plain Rust.
 pub fn enter(register: &mut [u8], grid: &[u8]) -> Placed {
     match Sought::new(register, grid) {
-        Err(number) => refused(number),
-        Ok(Sought { place: Ok(k), .. }) => placed(101, k),
-        Ok(Sought { head, .. }) if head.count == head.capacity => refused(9),
+        Err(number) => placeless(number),
+        Ok(Sought { place: Ok(k), .. }) => placed(HELD, k),
+        Ok(Sought { head, .. }) if head.count == head.capacity => placeless(FULL),
         Ok(Sought {
             head,
             line,
@@ -25,7 +49,7 @@ pub fn enter(register: &mut [u8], grid: &[u8]) -> Placed {
             register.copy_within(start..end, next);
             register[start..next].copy_from_slice(&line[..head.width()]);
             write_count(register, head.count + 1);
-            placed(0, k)
+            placed(DONE, k)
         }
     }
 }
@@ -33,8 +57,8 @@ pub fn enter(register: &mut [u8], grid: &[u8]) -> Placed {
 /// Strike in plain Rust.
 pub fn strike(register: &mut [u8], grid: &[u8]) -> Placed {
     match Sought::new(register, grid) {
-        Err(number) => refused(number),
-        Ok(Sought { place: Err(_), .. }) => refused(10),
+        Err(number) => placeless(number),
+        Ok(Sought { place: Err(_), .. }) => placeless(NOT_HELD),
         Ok(Sought {
             head, place: Ok(k), ..
         }) => {
@@ -42,17 +66,17 @@ pub fn strike(register: &mut [u8], grid: &[u8]) -> Placed {
             register.copy_within(next..end, start);
             register[end - head.width()..end - 1].fill(b' ');
             write_count(register, head.count - 1);
-            placed(0, k)
+            placed(DONE, k)
         }
     }
 }
 
 /// Fit in plain Rust.
-pub fn fit(register: &[u8], low: &[u8], high: &[u8]) -> Fitted {
+pub fn fit(register: &[u8], low: &[u8], high: &[u8]) -> Counted {
     match pruned(register, low, high) {
-        Err(number) => Fitted { number, count: 0 },
-        Ok((head, bounds)) => Fitted {
-            number: 0,
+        Err(number) => Counted { number, count: 0 },
+        Ok((head, bounds)) => Counted {
+            number: DONE,
             count: bounds.count(register, head),
         },
     }
@@ -70,11 +94,11 @@ struct Sought {
 impl Sought {
     /// `Err` is the number of the first of questions 5, 6 and 7 that gets a no.
     fn new(register: &[u8], grid: &[u8]) -> Result<Sought, u32> {
-        let head = laid_out(register).ok_or(5_u32)?;
+        let head = laid_out(register).ok_or(LAYOUT)?;
         let mut class = [0; 128];
         let class = &mut class[..head.m * head.n];
         match same_search::represent(head.m, head.n, head.top, grid, class).number {
-            0 => {}
+            DONE => {}
             number => return Err(number),
         }
         let line = written(class);
@@ -101,33 +125,24 @@ fn place(register: &[u8], head: Head, line: &[u8]) -> Result<usize, usize> {
 /// What line 1 states, and the pruned bounds. `Err` is the number of the first of questions 5, 6,
 /// 7 and 8 that gets a no, or 102.
 fn pruned(register: &[u8], low: &[u8], high: &[u8]) -> Result<(Head, Bounds), u32> {
-    let head = laid_out(register).ok_or(5_u32)?;
+    let head = laid_out(register).ok_or(LAYOUT)?;
     let cells = head.m * head.n;
     if low.len() != cells || high.len() != cells {
-        return Err(6);
+        return Err(LENGTH);
     }
     let (mut lows, mut highs) = ([0; 128], [0; 128]);
     let (lows, highs) = (&mut lows[..cells], &mut highs[..cells]);
     lows.copy_from_slice(low);
     highs.copy_from_slice(high);
     match same_pruning::prune(head.m, head.n, head.top, lows, highs).number {
-        0 => Ok((head, Bounds::new(lows, highs))),
+        DONE => Ok((head, Bounds::new(lows, highs))),
         number => Err(number),
     }
 }
 
-/// Writes the count on line 1: 6 wide, right-justified, padded by spaces.
+/// Writes the count on line 1.
 fn write_count(register: &mut [u8], count: usize) {
-    let field = &mut register[24..30];
-    field.fill(b' ');
-    let mut rest = count;
-    for byte in field.iter_mut().rev() {
-        *byte = b'0' + (rest % 10) as u8;
-        rest /= 10;
-        if rest == 0 {
-            break;
-        }
-    }
+    write_number(&mut register[24..30], count);
 }
 
 /// This number with the place of entry `k`.
@@ -138,6 +153,7 @@ fn placed(number: u32, k: usize) -> Placed {
     }
 }
 
-fn refused(number: u32) -> Placed {
+/// This number with no place.
+fn placeless(number: u32) -> Placed {
     Placed { number, place: 0 }
 }

@@ -4,9 +4,10 @@ use crate::implementations::RegisterCalls;
 use crate::inputs::check_equal;
 use crate::low_times::low_times;
 use crate::registers::{Entries, M, N};
+use plan_register::numbers::{DONE, HELD, LENGTH};
 use reference::bounds::some_grid;
 use reference::calls::Call;
-use reference::forms::Form;
+use reference::forms::{drawn, Form};
 use reference::grid::arrangement;
 use reference::random::Random;
 use std::hint::black_box;
@@ -39,9 +40,9 @@ pub fn reading(entries: &Entries) -> Vec<RegisterCall> {
     let top = entries.top;
     let all = (vec![0; M * N], vec![top; M * N]);
     let calls = [
-        ("question 5", (vec![], vec![]), (6, 0)),
-        ("fit, all entries", all, (0, entries.count())),
-        ("fit, random bounds", random_form(top), (0, 0)),
+        ("question 5", (vec![], vec![]), (LENGTH, 0)),
+        ("fit, all entries", all, (DONE, entries.count())),
+        ("fit, random bounds", random_form(top), (DONE, 0)),
     ];
     let call = |(name, form, answer)| RegisterCall {
         name: format!("{}: {name}", entries.name),
@@ -59,9 +60,9 @@ pub fn writing(entries: &Entries) -> Vec<RegisterCall> {
     let (first, held) = (shuffled(&entries.first), shuffled(entries.held()));
     let (new, old) = (Call::Enter(first.clone()), Call::Enter(held));
     let calls = [
-        ("enter, new at place 1", without.clone(), new, (0, 1)),
-        ("enter, held", without, old, (101, entries.place)),
-        ("strike at place 1", with, Call::Strike(first), (0, 1)),
+        ("enter, new at place 1", without.clone(), new, (DONE, 1)),
+        ("enter, held", without, old, (HELD, entries.place)),
+        ("strike at place 1", with, Call::Strike(first), (DONE, 1)),
     ];
     let call = |(name, register, call, answer)| RegisterCall {
         name: format!("{}: {name}", entries.name),
@@ -76,7 +77,7 @@ pub fn writing(entries: &Entries) -> Vec<RegisterCall> {
 /// Random bounds within which some grid has allperm.
 fn random_form(top: u8) -> Form {
     let mut random = Random::new(1);
-    let mut forms = repeat_with(|| random.form(M * N, top));
+    let mut forms = repeat_with(|| drawn(&mut random, M * N, top));
     let form = forms.find(|(low, high)| some_grid(M, N, top, low, high));
     form.expect("there is no end of forms")
 }
@@ -93,7 +94,10 @@ pub fn times<const PASSES: usize>(
     calls: &[RegisterCall],
     passes: [Pass; PASSES],
 ) -> Vec<[Duration; PASSES]> {
-    let mut lent = calls[0].register.clone();
+    let Some(first) = calls.first() else {
+        return Vec::new();
+    };
+    let mut lent = first.register.clone();
     let times = low_times(calls.len() * PASSES, |k| {
         calls[k / PASSES].time(&passes[k % PASSES], &mut lent)
     });

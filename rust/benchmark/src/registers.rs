@@ -1,5 +1,6 @@
 //! The registers on which the calls are timed: 8 x 16, capacity 500, 499 entries.
 
+use plan_register::numbers::DONE;
 use plan_register::represent;
 use reference::grid::compare;
 use reference::layout::Contents;
@@ -108,7 +109,7 @@ fn representatives(random: &mut Random, top: u8, count: usize) -> Vec<Vec<u8>> {
     while found.len() < count {
         let mut out = vec![0; M * N];
         let grid = random.cells(M * N, top);
-        assert_eq!(represent(M, N, top.into(), &grid, &mut out).number, 0);
+        assert_eq!(represent(M, N, top.into(), &grid, &mut out).number, DONE);
         found.insert(out);
     }
     sorted(found)

@@ -7,19 +7,20 @@
 
 use crate::call::{first_no_of_bounds, unpruned};
 use crate::values::{at_most, higher, leading_equal, lower, next_above, next_below, sorted};
-use plan_register::Pruned;
+use plan_register::numbers::{DONE, NO_GRID};
+use plan_register::Counted;
 use reference::grid::rank;
 
 /// Prune by the library's steps.
-pub fn prune(m: usize, n: usize, top: usize, low: &mut [u8], high: &mut [u8]) -> Pruned {
+pub fn prune(m: usize, n: usize, top: usize, low: &mut [u8], high: &mut [u8]) -> Counted {
     let number = first_no_of_bounds(m, n, top, low, high);
-    if number != 0 {
+    if number != DONE {
         return unpruned(number);
     }
     match Narrowed::of(m, n, low, high) {
-        None => unpruned(102),
-        Some(narrowed) => Pruned {
-            number: 0,
+        None => unpruned(NO_GRID),
+        Some(narrowed) => Counted {
+            number: DONE,
             count: narrowed.write(n, low, high),
         },
     }

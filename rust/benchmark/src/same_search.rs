@@ -6,20 +6,43 @@
 //! least candidate. Of equal rows only the first is placed. Where an arrangement equals the best,
 //! the two row orders show a symmetry of the grid, and the search goes back to where they part.
 
-use crate::call::{first_no, starting};
-use plan_register::Orders;
+use crate::call::{first_no, first_no_of_two, starting};
+use plan_register::numbers::{DONE, TWO_CLASSES};
+use plan_register::Arranged;
 use std::cmp::Ordering;
 
 /// Represent by the library's search.
-pub fn represent(m: usize, n: usize, top: usize, grid: &[u8], out: &mut [u8]) -> Orders {
+pub fn represent(m: usize, n: usize, top: usize, grid: &[u8], out: &mut [u8]) -> Arranged {
     let number = first_no(m, n, top, grid, out);
-    if number != 0 {
+    if number != DONE {
         return starting(number);
     }
     let mut search = Search::new(m, n, grid);
-    search.place(0, &starting(0), &[false; 16]);
+    search.place(0, &starting(DONE), &[false; 16]);
     search.write_best(out);
     search.best
+}
+
+/// Same by two represents.
+pub fn same(m: usize, n: usize, top: usize, a: &[u8], b: &[u8]) -> Arranged {
+    let number = first_no_of_two(m, n, top, a, b);
+    if number != DONE {
+        return starting(number);
+    }
+    let (mut least_a, mut least_b) = ([0; 128], [0; 128]);
+    let from_a = represent(m, n, top, a, &mut least_a[..m * n]);
+    let from_b = represent(m, n, top, b, &mut least_b[..m * n]);
+    if least_a != least_b {
+        return starting(TWO_CLASSES);
+    }
+    let mut carried = starting(DONE);
+    for (&row, &of_a) in from_b.rows.iter().zip(&from_a.rows) {
+        carried.rows[usize::from(row)] = of_a;
+    }
+    for (&column, &of_a) in from_b.columns.iter().zip(&from_a.columns) {
+        carried.columns[usize::from(column)] = of_a;
+    }
+    carried
 }
 
 /// The search, and the orders of the best arrangement known.
@@ -27,7 +50,7 @@ struct Search {
     m: usize,
     n: usize,
     rows: [[u8; 16]; 8],
-    best: Orders,
+    best: Arranged,
 }
 
 impl Search {
@@ -40,14 +63,14 @@ impl Search {
             m,
             n,
             rows,
-            best: starting(0),
+            best: starting(DONE),
         }
     }
 
     /// Takes up the row orders that begin with the first k rows of `placed`. A break is a
     /// position whose column these rows tell apart from the one before it. Returns the position
     /// to go back to: m, unless an arrangement equals the best.
-    fn place(&mut self, k: usize, placed: &Orders, breaks: &[bool; 16]) -> usize {
+    fn place(&mut self, k: usize, placed: &Arranged, breaks: &[bool; 16]) -> usize {
         if k + 1 == self.m {
             let next = self.candidate(k, k, placed, breaks);
             return match self.lower_best(k, &next) {
@@ -72,7 +95,7 @@ impl Search {
     }
 
     /// How many rows these orders and the best begin with in common.
-    fn rows_in_common(&self, orders: &Orders) -> usize {
+    fn rows_in_common(&self, orders: &Arranged) -> usize {
         let pairs = orders.rows.iter().zip(&self.best.rows).take(self.m);
         pairs.take_while(|(row, best_row)| row == best_row).count()
     }
@@ -80,7 +103,7 @@ impl Search {
     /// If no other row was tried at position k, lowers the best to the least candidate; not so
     /// with four rows or fewer, where it does not pay. Returns the first position that can
     /// attain the best, and the positions known to be above it.
-    fn bounded(&mut self, k: usize, placed: &Orders, breaks: &[bool; 16]) -> (usize, [bool; 8]) {
+    fn bounded(&mut self, k: usize, placed: &Arranged, breaks: &[bool; 16]) -> (usize, [bool; 8]) {
         let mut from = k;
         let mut above = [false; 8];
         if self.m <= 4 || self.best.rows[..=k] != placed.rows[..=k] {
@@ -98,14 +121,14 @@ impl Search {
     }
 
     /// Does the row at position t equal one at a position from k up to t?
-    fn is_repeated(&self, k: usize, t: usize, placed: &Orders) -> bool {
+    fn is_repeated(&self, k: usize, t: usize, placed: &Arranged) -> bool {
         let row = self.row(t, placed);
         (k..t).any(|s| self.row(s, placed) == row)
     }
 
     /// The orders with the row at position t placed at k, and the columns between two breaks
     /// sorted by it.
-    fn candidate(&self, k: usize, t: usize, placed: &Orders, breaks: &[bool; 16]) -> Orders {
+    fn candidate(&self, k: usize, t: usize, placed: &Arranged, breaks: &[bool; 16]) -> Arranged {
         let mut next = *placed;
         next.rows.swap(k, t);
         let row = self.row(k, &next);
@@ -124,7 +147,7 @@ impl Search {
     }
 
     /// Row k of the arrangement by these orders beside row k of the best.
-    fn compare_with_best(&self, k: usize, orders: &Orders) -> Ordering {
+    fn compare_with_best(&self, k: usize, orders: &Arranged) -> Ordering {
         let (row, best_row) = (self.row(k, orders), self.row(k, &self.best));
         for j in 0..self.n {
             let cell = row[usize::from(orders.columns[j])];
@@ -137,7 +160,7 @@ impl Search {
     }
 
     /// Row k beside the best's, as above. If it is less, these orders become the best.
-    fn lower_best(&mut self, k: usize, orders: &Orders) -> Ordering {
+    fn lower_best(&mut self, k: usize, orders: &Arranged) -> Ordering {
         let found = self.compare_with_best(k, orders);
         if found == Ordering::Less {
             self.best = *orders;
@@ -146,7 +169,7 @@ impl Search {
     }
 
     /// The breaks, and those by the row at position k.
-    fn split(&self, k: usize, orders: &Orders, breaks: &[bool; 16]) -> [bool; 16] {
+    fn split(&self, k: usize, orders: &Arranged, breaks: &[bool; 16]) -> [bool; 16] {
         let row = self.row(k, orders);
         let mut breaks = *breaks;
         for (j, pair) in orders.columns[..self.n].windows(2).enumerate() {
@@ -158,7 +181,7 @@ impl Search {
     }
 
     /// The row at this position of the row order.
-    fn row(&self, position: usize, orders: &Orders) -> &[u8; 16] {
+    fn row(&self, position: usize, orders: &Arranged) -> &[u8; 16] {
         &self.rows[usize::from(orders.rows[position])]
     }
 

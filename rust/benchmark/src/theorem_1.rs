@@ -2,18 +2,19 @@
 //! and the least of these arrangements is the least arrangement.
 
 use crate::call::{first_no, starting};
-use plan_register::Orders;
+use plan_register::numbers::DONE;
+use plan_register::Arranged;
 
 /// A column of an arrangement, the top cell first; the cells past the last row are 0.
 type Column = [u8; 8];
 
 /// Represent by Theorem 1.
-pub fn represent(m: usize, n: usize, top: usize, grid: &[u8], out: &mut [u8]) -> Orders {
+pub fn represent(m: usize, n: usize, top: usize, grid: &[u8], out: &mut [u8]) -> Arranged {
     let number = first_no(m, n, top, grid, out);
-    if number != 0 {
+    if number != DONE {
         return starting(number);
     }
-    let mut rows = starting(0).rows;
+    let mut rows = starting(DONE).rows;
     let mut least_rows = rows;
     let mut least = sorted_columns(m, n, grid, &rows);
     while next_permutation(&mut rows[..m]) {
@@ -26,8 +27,8 @@ pub fn represent(m: usize, n: usize, top: usize, grid: &[u8], out: &mut [u8]) ->
     for (k, cell) in out.iter_mut().enumerate() {
         *cell = least[k % n][k / n];
     }
-    Orders {
-        number: 0,
+    Arranged {
+        number: DONE,
         rows: least_rows,
         columns: sorting_columns(m, n, grid, &least_rows),
     }
@@ -83,7 +84,7 @@ fn is_less(m: usize, n: usize, columns: &[Column; 16], others: &[Column; 16]) ->
 /// The column order that goes with this row order.
 fn sorting_columns(m: usize, n: usize, grid: &[u8], rows: &[u8; 8]) -> [u8; 16] {
     let columns = columns(m, n, grid, rows);
-    let mut order = starting(0).columns;
+    let mut order = starting(DONE).columns;
     order[..n].sort_unstable_by_key(|&column| columns[usize::from(column)]);
     order
 }

@@ -6,26 +6,30 @@
 
 use crate::call::{first_no_of_bounds, unpruned};
 use crate::values::{at_most, sorted, within};
-use plan_register::Pruned;
+use plan_register::numbers::{DONE, NO_GRID};
+use plan_register::Counted;
 
 /// Prune value by value.
-pub fn prune(m: usize, n: usize, top: usize, low: &mut [u8], high: &mut [u8]) -> Pruned {
+pub fn prune(m: usize, n: usize, top: usize, low: &mut [u8], high: &mut [u8]) -> Counted {
     let number = first_no_of_bounds(m, n, top, low, high);
-    if number != 0 {
+    if number != DONE {
         return unpruned(number);
     }
     let extremal = Extremal::new(m, n, low, high);
     let (mut lows, mut highs, mut count) = ([0; 128], [0; 128], 0);
     for k in 0..m * n {
         let Some(kept) = extremal.kept(k, low[k], high[k]) else {
-            return unpruned(102);
+            return unpruned(NO_GRID);
         };
         (lows[k], highs[k]) = (kept.low, kept.high);
         count += kept.removed;
     }
     low.copy_from_slice(&lows[..m * n]);
     high.copy_from_slice(&highs[..m * n]);
-    Pruned { number: 0, count }
+    Counted {
+        number: DONE,
+        count,
+    }
 }
 
 /// The extremal grid, and its rows past row 0 sorted.

@@ -6,7 +6,9 @@ use benchmark::implementations::PRUNE;
 use benchmark::inputs::Input;
 use benchmark::{same_pruning, value_by_value};
 use reference::examples::shapes_up_to;
-use reference::forms::{around, close, every_form, grid_with_allperm, wide, without_allperm, Form};
+use reference::forms::{
+    around, close, drawn, every_form, grid_with_allperm, wide, without_allperm, Form,
+};
 use reference::random::Random;
 
 const WRITTEN_HERE: [Prune; 2] = [same_pruning::prune, value_by_value::prune];
@@ -53,7 +55,7 @@ fn random_forms_of_every_shape() {
         for top in [1, 3, 15] {
             let grid = grid_with_allperm(&mut random, m, n, top);
             let mut forms = vec![
-                random.form(m * n, top),
+                drawn(&mut random, m * n, top),
                 wide(&mut random, m * n, top),
                 around(&mut random, top, &grid),
                 (grid.clone(), grid),

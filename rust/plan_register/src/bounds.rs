@@ -1,8 +1,9 @@
 //! The call on bounds. The bounds of a grid of m rows and n columns are a low and a high for
 //! each cell, m times n of each, row after row.
+#![allow(unsafe_code)]
 
-use crate::sys;
-use crate::Pruned;
+use crate::sys::plan_register_prune;
+use crate::Counted;
 
 /// Prune: keeps the values that allperm allows.
 ///
@@ -16,12 +17,17 @@ use crate::Pruned;
 /// number but 0 both slices keep their bytes.
 ///
 /// ```
+/// use plan_register::numbers::{DONE, NO_GRID};
+///
 /// let (mut low, mut high) = ([1, 0, 0, 0], [3, 3, 1, 2]);
 /// let pruned = plan_register::prune(2, 2, 3, &mut low, &mut high);
-/// assert_eq!((pruned.number, pruned.count), (0, 5));
+/// assert_eq!((pruned.number, pruned.count), (DONE, 5));
 /// assert_eq!((low, high), ([1, 0, 1, 1], [1, 2, 1, 2]));
-/// assert_eq!(plan_register::prune(2, 1, 3, &mut [2, 0], &mut [3, 1]).number, 102);
+/// let none = plan_register::prune(2, 1, 3, &mut [2, 0], &mut [3, 1]);
+/// assert_eq!(none.number, NO_GRID);
 /// ```
-pub fn prune(m: usize, n: usize, top: usize, low: &mut [u8], high: &mut [u8]) -> Pruned {
-    sys::prune(m, n, top, low, high)
+pub fn prune(m: usize, n: usize, top: usize, low: &mut [u8], high: &mut [u8]) -> Counted {
+    let (lows, highs) = (low.as_mut_ptr(), high.as_mut_ptr());
+    // SAFETY: as `sys` says of every call.
+    unsafe { plan_register_prune(m, n, top, lows, low.len(), highs, high.len()) }
 }

@@ -1,9 +1,12 @@
 //! The calls on a register's bytes. A register of m rows, n columns and a capacity is
 //! 31 + capacity * (3 * m * n + 1) bytes of plain text: line 1 states rows, columns, top,
 //! capacity and count, the next lines hold an entry each, ascending, and the others are blank.
+#![allow(unsafe_code)]
 
-use crate::sys;
-use crate::{Fitted, Placed};
+use crate::sys::{
+    plan_register_enter, plan_register_fit, plan_register_open, plan_register_strike,
+};
+use crate::{Counted, Placed};
 
 /// Open: writes an empty register, with count 0 and blank lines.
 ///
@@ -12,14 +15,18 @@ use crate::{Fitted, Placed};
 /// refusal, 1, 2, 3, 4 or 6, and `register` keeps its bytes. The place is 0.
 ///
 /// ```
+/// use plan_register::numbers::{CAPACITY, DONE};
+///
 /// let mut register = [0; 31 + 2 * 13];
-/// assert_eq!(plan_register::open(2, 2, 1, 2, &mut register).number, 0);
+/// assert_eq!(plan_register::open(2, 2, 1, 2, &mut register).number, DONE);
 /// assert_eq!(&register[..31], b"     2     2     1     2     0\n");
 /// assert_eq!(&register[31..], b"            \n            \n");
-/// assert_eq!(plan_register::open(2, 2, 1, 501, &mut register).number, 4);
+/// assert_eq!(plan_register::open(2, 2, 1, 501, &mut register).number, CAPACITY);
 /// ```
 pub fn open(m: usize, n: usize, top: usize, capacity: usize, register: &mut [u8]) -> Placed {
-    sys::open(m, n, top, capacity, register)
+    let lines = register.as_mut_ptr();
+    // SAFETY: as `sys` says of every call.
+    unsafe { plan_register_open(m, n, top, capacity, lines, register.len()) }
 }
 
 /// Enter: the grid's class is held from then on.
@@ -30,16 +37,19 @@ pub fn open(m: usize, n: usize, top: usize, capacity: usize, register: &mut [u8]
 /// 5, 6, 7 or 9, with place 0, and `register` keeps its bytes.
 ///
 /// ```
-/// let mut register = [0; 31 + 2 * 13];
-/// plan_register::open(2, 2, 1, 2, &mut register);
+/// use plan_register::numbers::{DONE, HELD};
+///
+/// let mut register = *b"     2     2     1     2     0\n            \n            \n";
 /// let entered = plan_register::enter(&mut register, &[1, 0, 0, 1]);
-/// assert_eq!((entered.number, entered.place), (0, 1));
+/// assert_eq!((entered.number, entered.place), (DONE, 1));
 /// assert_eq!(&register[31..], b"  0  1  1  0\n            \n");
 /// let again = plan_register::enter(&mut register, &[0, 1, 1, 0]);
-/// assert_eq!((again.number, again.place), (101, 1));
+/// assert_eq!((again.number, again.place), (HELD, 1));
 /// ```
 pub fn enter(register: &mut [u8], grid: &[u8]) -> Placed {
-    sys::enter(register, grid)
+    let lines = register.as_mut_ptr();
+    // SAFETY: as `sys` says of every call.
+    unsafe { plan_register_enter(lines, register.len(), grid.as_ptr(), grid.len()) }
 }
 
 /// Strike: the entry of the grid's class goes, and the later ones move up.
@@ -48,14 +58,18 @@ pub fn enter(register: &mut [u8], grid: &[u8]) -> Placed {
 /// 5, 6, 7 or 10, with place 0, and `register` keeps its bytes.
 ///
 /// ```
+/// use plan_register::numbers::{DONE, NOT_HELD};
+///
 /// let mut register = *b"     1     2     3     2     1\n  0  3\n      \n";
 /// let struck = plan_register::strike(&mut register, &[3, 0]);
-/// assert_eq!((struck.number, struck.place), (0, 1));
+/// assert_eq!((struck.number, struck.place), (DONE, 1));
 /// assert_eq!(&register, b"     1     2     3     2     0\n      \n      \n");
-/// assert_eq!(plan_register::strike(&mut register, &[3, 0]).number, 10);
+/// assert_eq!(plan_register::strike(&mut register, &[3, 0]).number, NOT_HELD);
 /// ```
 pub fn strike(register: &mut [u8], grid: &[u8]) -> Placed {
-    sys::strike(register, grid)
+    let lines = register.as_mut_ptr();
+    // SAFETY: as `sys` says of every call.
+    unsafe { plan_register_strike(lines, register.len(), grid.as_ptr(), grid.len()) }
 }
 
 /// Fit: counts the entries within the bounds, once these are pruned as [`prune`] does.
@@ -65,13 +79,17 @@ pub fn strike(register: &mut [u8], grid: &[u8]) -> Placed {
 /// refusal, 5, 6, 7 or 8. No byte changes.
 ///
 /// ```
+/// use plan_register::numbers::{BOUNDS, DONE};
+///
 /// let register = *b"     1     2     3     2     2\n  0  3\n  1  1\n";
 /// let fitted = plan_register::fit(&register, &[0, 1], &[0, 3]);
-/// assert_eq!((fitted.number, fitted.count), (0, 1));
-/// assert_eq!(plan_register::fit(&register, &[0, 3], &[0, 1]).number, 8);
+/// assert_eq!((fitted.number, fitted.count), (DONE, 1));
+/// assert_eq!(plan_register::fit(&register, &[0, 3], &[0, 1]).number, BOUNDS);
 /// ```
 ///
 /// [`prune`]: crate::prune
-pub fn fit(register: &[u8], low: &[u8], high: &[u8]) -> Fitted {
-    sys::fit(register, low, high)
+pub fn fit(register: &[u8], low: &[u8], high: &[u8]) -> Counted {
+    let (lines, lows, highs) = (register.as_ptr(), low.as_ptr(), high.as_ptr());
+    // SAFETY: as `sys` says of every call.
+    unsafe { plan_register_fit(lines, register.len(), lows, low.len(), highs, high.len()) }
 }

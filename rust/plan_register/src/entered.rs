@@ -1,6 +1,7 @@
 //! What entering a class into a `Register` comes to.
 
 /// Was the class new? With its place: the line of its entry, the first entry's being 1.
+#[must_use]
 #[derive(Clone, Copy, Debug, PartialEq, Eq)]
 pub enum Entered {
     /// The class was new, and is now held.
@@ -18,6 +19,7 @@ impl Entered {
     /// assert_eq!(Entered::New { place: 3 }.place(), 3);
     /// assert_eq!(Entered::Held { place: 3 }.place(), 3);
     /// ```
+    #[must_use]
     pub fn place(self) -> usize {
         match self {
             Entered::New { place } | Entered::Held { place } => place,

@@ -1,7 +1,8 @@
 //! The calls on grids. A grid of m rows and n columns is m times n cells, row after row.
+#![allow(unsafe_code)]
 
-use crate::sys;
-use crate::Orders;
+use crate::sys::{plan_register_represent, plan_register_same};
+use crate::Arranged;
 
 /// Represent: writes the least arrangement of the grid's class to `out`.
 ///
@@ -11,15 +12,19 @@ use crate::Orders;
 /// 1, 2, 3, 6 or 7, and `out` keeps its bytes.
 ///
 /// ```
+/// use plan_register::numbers::DONE;
+///
 /// let mut out = [0; 6];
-/// let orders = plan_register::represent(2, 3, 3, &[2, 2, 3, 2, 3, 1], &mut out);
-/// assert_eq!(orders.number, 0);
+/// let arranged = plan_register::represent(2, 3, 3, &[2, 2, 3, 2, 3, 1], &mut out);
+/// assert_eq!(arranged.number, DONE);
 /// assert_eq!(out, [1, 2, 3, 3, 2, 2]);
-/// assert_eq!(orders.rows[..2], [1, 0]);
-/// assert_eq!(orders.columns[..3], [2, 0, 1]);
+/// assert_eq!(arranged.rows[..2], [1, 0]);
+/// assert_eq!(arranged.columns[..3], [2, 0, 1]);
 /// ```
-pub fn represent(m: usize, n: usize, top: usize, grid: &[u8], out: &mut [u8]) -> Orders {
-    sys::represent(m, n, top, grid, out)
+pub fn represent(m: usize, n: usize, top: usize, grid: &[u8], out: &mut [u8]) -> Arranged {
+    let (from, to) = (grid.as_ptr(), out.as_mut_ptr());
+    // SAFETY: as `sys` says of every call.
+    unsafe { plan_register_represent(m, n, top, from, grid.len(), to, out.len()) }
 }
 
 /// Same: are the grids `a` and `b` in one class?
@@ -29,11 +34,15 @@ pub fn represent(m: usize, n: usize, top: usize, grid: &[u8], out: &mut [u8]) ->
 /// a refusal, 1, 2, 3, 6 or 7.
 ///
 /// ```
-/// let orders = plan_register::same(1, 3, 3, &[3, 0, 2], &[0, 2, 3]);
-/// assert_eq!(orders.number, 0);
-/// assert_eq!(orders.columns[..3], [1, 2, 0]);
-/// assert_eq!(plan_register::same(2, 2, 1, &[0, 0, 1, 1], &[0, 1, 0, 1]).number, 103);
+/// use plan_register::numbers::{DONE, TWO_CLASSES};
+///
+/// let arranged = plan_register::same(1, 3, 3, &[3, 0, 2], &[0, 2, 3]);
+/// assert_eq!(arranged.number, DONE);
+/// assert_eq!(arranged.columns[..3], [1, 2, 0]);
+/// let two = plan_register::same(2, 2, 1, &[0, 0, 1, 1], &[0, 1, 0, 1]);
+/// assert_eq!(two.number, TWO_CLASSES);
 /// ```
-pub fn same(m: usize, n: usize, top: usize, a: &[u8], b: &[u8]) -> Orders {
-    sys::same(m, n, top, a, b)
+pub fn same(m: usize, n: usize, top: usize, a: &[u8], b: &[u8]) -> Arranged {
+    // SAFETY: as `sys` says of every call.
+    unsafe { plan_register_same(m, n, top, a.as_ptr(), a.len(), b.as_ptr(), b.len()) }
 }

@@ -19,6 +19,7 @@
 /// Of several refusals the first in this list is returned. With any number but 0 the register
 /// is unchanged.
 #[repr(C)]
+#[must_use]
 #[derive(Clone, Copy, Debug, PartialEq, Eq)]
 pub struct Placed {
     /// 0, or what kept the call from being done.

@@ -1,5 +1,6 @@
 //! Why a call is refused.
 
+use crate::numbers;
 use std::error::Error;
 use std::fmt;
 
@@ -17,25 +18,25 @@ use std::fmt;
 #[repr(u32)]
 pub enum Refusal {
     /// 1: the rows are not 1 to 8.
-    Rows = 1,
+    Rows = numbers::ROWS,
     /// 2: the columns are not 1 to 16.
-    Columns = 2,
+    Columns = numbers::COLUMNS,
     /// 3: top is not 0 to 15.
-    Top = 3,
+    Top = numbers::TOP,
     /// 4: the capacity is not 1 to 500.
-    Capacity = 4,
+    Capacity = numbers::CAPACITY,
     /// 5: the bytes are not laid out as a register.
-    Layout = 5,
+    Layout = numbers::LAYOUT,
     /// 6: a slice has not its exact length.
-    Length = 6,
+    Length = numbers::LENGTH,
     /// 7: a cell or a bound is above top.
-    Cell = 7,
+    Cell = numbers::CELL,
     /// 8: a low is above its high.
-    Bounds = 8,
+    Bounds = numbers::BOUNDS,
     /// 9: the class is not held, and the register is full.
-    Full = 9,
+    Full = numbers::FULL,
     /// 10: the class is not held.
-    NotHeld = 10,
+    NotHeld = numbers::NOT_HELD,
 }
 
 impl Refusal {
@@ -54,6 +55,7 @@ impl Refusal {
     ];
 
     /// The question's number, 1 to 10.
+    #[must_use]
     pub fn number(self) -> u32 {
         self as u32
     }
@@ -63,10 +65,11 @@ impl Refusal {
     /// ```
     /// use plan_register::Refusal;
     ///
-    /// let orders = plan_register::represent(2, 2, 1, &[0, 0, 2, 1], &mut [0; 4]);
-    /// assert_eq!(Refusal::numbered(orders.number), Some(Refusal::Cell));
+    /// let arranged = plan_register::represent(2, 2, 1, &[0, 0, 2, 1], &mut [0; 4]);
+    /// assert_eq!(Refusal::numbered(arranged.number), Some(Refusal::Cell));
     /// assert_eq!(Refusal::numbered(0), None);
     /// ```
+    #[must_use]
     pub fn numbered(number: u32) -> Option<Refusal> {
         Refusal::ALL.into_iter().find(|r| r.number() == number)
     }

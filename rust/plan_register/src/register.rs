@@ -1,6 +1,7 @@
 //! A register that owns its bytes.
 
 use crate::fields::{cells, number};
+use crate::numbers::{DONE, HELD, NO_GRID};
 use crate::{enter, fit, open, strike};
 use crate::{Entered, Refusal};
 use std::fmt;
@@ -56,7 +57,7 @@ impl Register {
         }
         let mut bytes = vec![0; FIRST_LINE + capacity * (3 * m * n + 1)];
         match open(m, n, top, capacity, &mut bytes).number {
-            0 => Ok(Register { bytes }),
+            DONE => Ok(Register { bytes }),
             number => Err(Refusal::answered(number)),
         }
     }
@@ -85,6 +86,7 @@ impl Register {
     /// let register = plan_register::Register::open(1, 1, 9, 2).unwrap();
     /// assert_eq!(register.bytes(), b"     1     1     9     2     0\n   \n   \n");
     /// ```
+    #[must_use]
     pub fn bytes(&self) -> &[u8] {
         &self.bytes
     }
@@ -98,6 +100,7 @@ impl Register {
     /// let kept = register.clone().into_bytes();
     /// assert_eq!(Register::from_bytes(kept), Ok(register));
     /// ```
+    #[must_use]
     pub fn into_bytes(self) -> Vec<u8> {
         self.bytes
     }
@@ -110,26 +113,31 @@ impl Register {
     /// assert_eq!((register.top(), register.capacity()), (15, 500));
     /// assert_eq!(register.count(), 0);
     /// ```
+    #[must_use]
     pub fn rows(&self) -> usize {
         self.stated(0)
     }
 
     /// The columns of a grid, 1 to 16.
+    #[must_use]
     pub fn columns(&self) -> usize {
         self.stated(1)
     }
 
     /// The greatest cell, 0 to 15.
+    #[must_use]
     pub fn top(&self) -> usize {
         self.stated(2)
     }
 
     /// The most entries, 1 to 500.
+    #[must_use]
     pub fn capacity(&self) -> usize {
         self.stated(3)
     }
 
     /// The number of entries, 0 to the capacity.
+    #[must_use]
     pub fn count(&self) -> usize {
         self.stated(4)
     }
@@ -144,10 +152,11 @@ impl Register {
     /// ```
     /// let mut register = plan_register::Register::open(1, 2, 3, 5).unwrap();
     /// for grid in [[2, 1], [3, 0], [0, 0]] {
-    ///     register.enter(&grid).unwrap();
+    ///     assert!(register.enter(&grid).is_ok());
     /// }
     /// assert!(register.entries().eq([[0, 0], [0, 3], [1, 2]]));
     /// ```
+    #[must_use]
     pub fn entries(&self) -> impl DoubleEndedIterator<Item = Vec<u8>> + ExactSizeIterator + '_ {
         let line = 3 * self.rows() * self.columns() + 1;
         let lines = self.bytes[FIRST_LINE..].chunks_exact(line);
@@ -162,6 +171,7 @@ impl Register {
     /// assert_eq!(register.entry(entered.place()), Some(vec![0, 3]));
     /// assert_eq!(register.entry(2), None);
     /// ```
+    #[must_use]
     pub fn entry(&self, place: usize) -> Option<Vec<u8>> {
         self.entries().nth(place.checked_sub(1)?)
     }
@@ -181,8 +191,8 @@ impl Register {
         let entered = enter(&mut self.bytes, grid);
         let place = entered.place as usize;
         match entered.number {
-            0 => Ok(Entered::New { place }),
-            101 => Ok(Entered::Held { place }),
+            DONE => Ok(Entered::New { place }),
+            HELD => Ok(Entered::Held { place }),
             number => Err(Refusal::answered(number)),
         }
     }
@@ -194,14 +204,14 @@ impl Register {
     /// use plan_register::{Refusal, Register};
     ///
     /// let mut register = Register::open(1, 2, 3, 1).unwrap();
-    /// register.enter(&[0, 3]).unwrap();
+    /// assert!(register.enter(&[0, 3]).is_ok());
     /// assert_eq!(register.strike(&[3, 0]), Ok(1));
     /// assert_eq!(register.strike(&[3, 0]), Err(Refusal::NotHeld));
     /// ```
     pub fn strike(&mut self, grid: &[u8]) -> Result<usize, Refusal> {
         let struck = strike(&mut self.bytes, grid);
         match struck.number {
-            0 => Ok(struck.place as usize),
+            DONE => Ok(struck.place as usize),
             number => Err(Refusal::answered(number)),
         }
     }
@@ -213,7 +223,7 @@ impl Register {
     /// use plan_register::{Refusal, Register};
     ///
     /// let mut register = Register::open(2, 1, 3, 5).unwrap();
-    /// register.enter(&[0, 3]).unwrap();
+    /// assert!(register.enter(&[0, 3]).is_ok());
     /// assert_eq!(register.fit(&[0, 0], &[3, 3]), Ok(Some(1)));
     /// assert_eq!(register.fit(&[0, 0], &[3, 2]), Ok(Some(0)));
     /// assert_eq!(register.fit(&[2, 0], &[3, 1]), Ok(None));
@@ -222,8 +232,8 @@ impl Register {
     pub fn fit(&self, low: &[u8], high: &[u8]) -> Result<Option<usize>, Refusal> {
         let fitted = fit(&self.bytes, low, high);
         match fitted.number {
-            0 => Ok(Some(fitted.count as usize)),
-            102 => Ok(None),
+            DONE => Ok(Some(fitted.count as usize)),
+            NO_GRID => Ok(None),
             number => Err(Refusal::answered(number)),
         }
     }

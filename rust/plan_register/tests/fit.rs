@@ -8,7 +8,7 @@ use common::represented;
 use reference::bounds::some_grid;
 use reference::calls::Call;
 use reference::examples::{every_grid, shapes_up_to};
-use reference::forms::{around, close, every_form, wide, without_allperm, Form};
+use reference::forms::{around, close, drawn, every_form, wide, without_allperm, Form};
 use reference::grid::rank;
 use reference::random::Random;
 use std::collections::BTreeMap;
@@ -68,19 +68,19 @@ fn all_bounds_of_tiny_shapes() {
 
 /// Bounds of one kind or another for a register with these entries.
 fn form(random: &mut Random, m: usize, n: usize, top: u8, entries: &[Vec<u8>]) -> Form {
-    let drawn = |random: &mut Random| &entries[random.below(entries.len() as u64) as usize];
+    let entry = |random: &mut Random| &entries[random.below(entries.len() as u64) as usize];
     match random.below(7) {
         0 => (vec![0; m * n], vec![top; m * n]),
-        1 => random.form(m * n, top),
+        1 => drawn(random, m * n, top),
         2 => wide(random, m * n, top),
         3 => close(random, m, n, top),
         4 if m > 1 && top > 0 => without_allperm(random, m, n, top),
         5 => {
-            let entry = drawn(random);
+            let entry = entry(random);
             around(random, top, entry)
         }
         _ => {
-            let few: Vec<&Vec<u8>> = (0..3).map(|_| drawn(random)).collect();
+            let few: Vec<&Vec<u8>> = (0..3).map(|_| entry(random)).collect();
             hull(&few)
         }
     }

@@ -3,10 +3,12 @@
 mod common;
 
 use common::check_prune;
-use plan_register::{prune, Pruned};
+use plan_register::{prune, Counted};
 use reference::bounds::allperm;
 use reference::examples::{every_grid, shapes_up_to};
-use reference::forms::{around, close, every_form, grid_with_allperm, wide, without_allperm, Form};
+use reference::forms::{
+    around, close, drawn, every_form, grid_with_allperm, wide, without_allperm, Form,
+};
 use reference::random::Random;
 use std::collections::BTreeSet;
 
@@ -28,7 +30,8 @@ fn all_bounds_of_tiny_shapes() {
         (2, 4, 1),
     ] {
         for (low, high) in every_form(m * n, top) {
-            check_prune(m, n, top, &low, &high);
+            let number = check_prune(m, n, top, &low, &high).number;
+            assert!(number == 0 || number == 102);
         }
     }
 }
@@ -43,7 +46,7 @@ enum Found {
 use Found::{NoGrid, NothingToRemove, ValuesToRemove};
 
 impl Found {
-    fn by(pruned: Pruned) -> Found {
+    fn by(pruned: Counted) -> Found {
         match (pruned.number, pruned.count) {
             (102, _) => NoGrid,
             (_, 0) => NothingToRemove,
@@ -73,7 +76,7 @@ fn check_every_shape(seed: u64, tops: &[u8], tries: usize, draw: Draw) -> BTreeS
 
 #[test]
 fn random_bounds_of_every_shape() {
-    let draw: Draw = |random, m, n, top| random.form(m * n, top);
+    let draw: Draw = |random, m, n, top| drawn(random, m * n, top);
     let found = check_every_shape(61, &[0, 1, 2, 7, 15], 2, draw);
     assert_eq!(found, [NoGrid, NothingToRemove, ValuesToRemove].into());
 }
@@ -123,7 +126,7 @@ fn no_grid_with_allperm_in_every_shape() {
 fn a_single_grid_keeps_its_values_if_it_has_allperm() {
     for (m, n) in shapes_up_to(8) {
         for grid in every_grid(m * n, 2) {
-            let expected = Pruned {
+            let expected = Counted {
                 number: if allperm(m, n, &grid) { 0 } else { 102 },
                 count: 0,
             };
@@ -137,7 +140,7 @@ fn with_one_row_nothing_is_removed() {
     let mut random = Random::new(67);
     for n in 1..=16 {
         for top in 0..=15 {
-            let (low, high) = random.form(n, top);
+            let (low, high) = drawn(&mut random, n, top);
             let pruned = check_prune(1, n, top, &low, &high);
             assert_eq!(Found::by(pruned), NothingToRemove);
         }

@@ -5,7 +5,7 @@ mod common;
 
 use common::limits::{BIT_32, BIT_63, COLUMNS, ROWS, TOPS};
 use common::{check_one_class, check_prune, check_pruned, represented, starting, Lent};
-use plan_register::{represent, same, Pruned};
+use plan_register::{represent, same, Counted};
 use reference::questions::{self, Asked};
 use std::collections::BTreeSet;
 
@@ -132,10 +132,11 @@ fn check_prune_refusal(numbers: Numbers, low: &[u8], high: &[u8]) -> Vec<u32> {
     nos.extend(questions::bounds(low, high).err());
     match nos.first() {
         None => {
-            check_prune(m, n, top as u8, low, high);
+            let pruned = check_prune(m, n, top as u8, low, high);
+            assert!([0, 102].contains(&pruned.number));
         }
         Some(&number) => {
-            let refused = Pruned { number, count: 0 };
+            let refused = Counted { number, count: 0 };
             check_pruned(m, n, top, (low, high), refused, (low, high));
         }
     }

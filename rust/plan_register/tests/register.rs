@@ -155,9 +155,9 @@ fn registers_are_compared_by_their_bytes() {
     let open = || Register::open(1, 2, 3, 4).unwrap();
     let (mut one, mut other) = (open(), open());
     assert_eq!(one, other);
-    one.enter(&[3, 0]).unwrap();
+    assert_eq!(one.enter(&[3, 0]), Ok(Entered::New { place: 1 }));
     assert_ne!(one, other);
-    other.enter(&[0, 3]).unwrap();
+    assert_eq!(other.enter(&[0, 3]), Ok(Entered::New { place: 1 }));
     assert_eq!(one, other);
     assert_ne!(open(), Register::open(2, 1, 3, 4).unwrap());
 }
@@ -165,7 +165,7 @@ fn registers_are_compared_by_their_bytes() {
 #[test]
 fn what_is_printed_of_a_register() {
     let mut register = Register::open(1, 2, 15, 4).unwrap();
-    register.enter(&[12, 0]).unwrap();
+    assert_eq!(register.enter(&[12, 0]), Ok(Entered::New { place: 1 }));
     let expected = "Register { rows: 1, columns: 2, top: 15, capacity: 4, entries: [[0, 12]] }";
     assert_eq!(format!("{register:?}"), expected);
 }
@@ -174,7 +174,7 @@ fn what_is_printed_of_a_register() {
 fn registers_may_be_sent_to_other_threads() {
     let mut register = Register::open(1, 2, 15, 4).unwrap();
     let filled = std::thread::spawn(move || {
-        register.enter(&[12, 0]).unwrap();
+        assert_eq!(register.enter(&[12, 0]), Ok(Entered::New { place: 1 }));
         register
     });
     let contents = Contents::read(filled.join().unwrap().bytes());

@@ -4,7 +4,7 @@ mod common;
 
 use common::calls::{answer, check_answer, check_call, opened};
 use common::{check_one_class, check_prune, check_pruned, check_two_classes, represented};
-use plan_register::{represent, same, Pruned};
+use plan_register::{represent, same, Counted};
 use reference::calls::Call;
 use reference::examples::{cells, plan};
 use reference::forms::written;
@@ -19,7 +19,7 @@ fn check_represented(grid: &str, representative: &str) {
 fn check_bounds(top: u8, before: &str, number: u32, after: &str, count: u32) {
     let (m, n, (low, high)) = written(before);
     let (_, _, (new_low, new_high)) = written(after);
-    let pruned = Pruned { number, count };
+    let pruned = Counted { number, count };
     check_pruned(
         m,
         n,
@@ -93,6 +93,12 @@ fn a_strike_leaves_no_last_line_behind() {
 fn the_other_row_is_sorted_for_pruning() {
     // Unsorted, row 0's first cell would be compared with 3 and keep its 2 and 3.
     check_bounds(3, "03 03/33 11", 0, "01 03/33 11", 2);
+}
+
+#[test]
+fn equal_row_sums_do_not_make_a_class() {
+    check_two_classes(1, 2, 2, &[0, 2], &[1, 1]);
+    check_two_classes(2, 4, 1, &cells("0011/0011"), &cells("0011/0101"));
 }
 
 #[test]

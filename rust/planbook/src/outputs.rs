@@ -27,22 +27,22 @@ pub type Met = BTreeMap<(u64, u64), usize>;
 /// An output: the command, the number, and the place or count of each printed line, and the
 /// register, which is empty where the run ended without one.
 #[derive(Clone, Debug, PartialEq, Eq)]
-pub struct Outcome {
+pub struct Output {
     pub printed: Vec<[u64; 3]>,
     pub register: Vec<u8>,
 }
 
-impl Outcome {
+impl Output {
     /// What the output for this input has. An output of one printed line has no register, since a
     /// register is longer.
-    pub fn read(input: &[u8], output: &[u8]) -> Outcome {
+    pub fn read(input: &[u8], output: &[u8]) -> Output {
         let lines = input.split_inclusive(|&byte| byte == b'\n').count();
         let printed = match output.len() {
             PRINTED => 1,
             _ => lines - 1,
         };
         let (printed, register) = output.split_at(PRINTED * printed);
-        Outcome {
+        Output {
             printed: printed.chunks(PRINTED).map(read_printed).collect(),
             register: register.to_vec(),
         }

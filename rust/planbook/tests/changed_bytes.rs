@@ -2,7 +2,7 @@
 
 use planbook::inputs::LIKELY;
 use planbook::lines::{enter, fit, fit_all, line_1, strike};
-use planbook::outputs::{Met, Outcome};
+use planbook::outputs::{Met, Output};
 use planbook::{check, check_each};
 use reference::examples::cells;
 
@@ -23,7 +23,7 @@ fn check_command(before: &[Vec<u8>], line: &[u8], count_all: &[u8]) -> Met {
             input.extend(changed(line, k, byte));
             input.extend(count_all);
         }
-        Outcome::read(&input, &check(&input)).count(&mut met);
+        Output::read(&input, &check(&input)).count(&mut met);
     }
     met
 }

@@ -2,7 +2,7 @@
 
 use planbook::inputs::drawn_command;
 use planbook::lines::{ended, enter, fit, line_1, LIMIT};
-use planbook::outputs::{refusal, Outcome};
+use planbook::outputs::{refusal, Output};
 use planbook::{check, check_both, check_each, run};
 use reference::lists::Pool;
 use reference::random::Random;
@@ -99,7 +99,7 @@ fn inputs_up_to_65536_bytes_pass() {
         let inputs = KINDS.map(|kind| kind(length));
         for (input, output) in inputs.iter().zip(check_each(&inputs)) {
             assert_eq!(input.len(), length);
-            assert_eq!(Outcome::read(input, &output).register.len(), 57);
+            assert_eq!(Output::read(input, &output).register.len(), 57);
         }
     }
 }
@@ -140,10 +140,10 @@ fn without_a_line_1_it_is_12_up_to_65536_bytes_and_11_above() {
 fn the_last_byte_of_the_largest_input_counts() {
     // The last line is an enter. Without its line feed it is 12; a byte further on, all is 11.
     let (all, line) = (good(LIMIT), enter(&[1, 0, 0, 1]));
-    let whole = Outcome::read(&all, &check(&all));
+    let whole = Output::read(&all, &check(&all));
     assert_eq!(whole.printed.last(), Some(&[1, 101, 1]));
     let unended = &all[..LIMIT - 1];
-    let printed = Outcome::read(unended, &check(unended)).printed;
+    let printed = Output::read(unended, &check(unended)).printed;
     assert_eq!(printed.last(), Some(&[0, 12, 0]));
     assert_eq!(printed.len(), whole.printed.len());
     let shorter = &all[..LIMIT - line.len()];
@@ -189,9 +189,9 @@ fn as_many_commands_as_an_input_has() {
     }
     input.push(b'\n');
     assert_eq!(input.len(), LIMIT);
-    let outcome = Outcome::read(&input, &check(&input));
-    assert_eq!(outcome.printed.len(), 6_552);
-    assert_eq!(outcome.printed.last(), Some(&[0, 12, 0]));
+    let output = Output::read(&input, &check(&input));
+    assert_eq!(output.printed.len(), 6_552);
+    assert_eq!(output.printed.last(), Some(&[0, 12, 0]));
 }
 
 #[test]
@@ -207,10 +207,10 @@ fn long_lines() {
             [one.clone(), line.clone(), good[1].clone()].concat(),
             [head(), good.concat(), line.clone()].concat(),
         ] {
-            let outcome = Outcome::read(&input, &check(&input));
-            let malformed = outcome.printed.iter().filter(|line| line[1] == 12);
+            let output = Output::read(&input, &check(&input));
+            let malformed = output.printed.iter().filter(|line| line[1] == 12);
             assert_eq!(malformed.count(), 1);
-            assert_eq!(outcome.register.len() + 19, length_of_one);
+            assert_eq!(output.register.len() + 19, length_of_one);
         }
     }
 }

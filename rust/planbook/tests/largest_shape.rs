@@ -4,7 +4,7 @@
 use planbook::book::Book;
 use planbook::classes::{class_key, drawn_grids, is_least_of_some, shuffled};
 use planbook::lines::{ended, enter, line_1, LIMIT};
-use planbook::outputs::Outcome;
+use planbook::outputs::Output;
 use planbook::run;
 use reference::designs::all;
 use reference::forms::{around, close, ordered};
@@ -28,9 +28,9 @@ const ENTERS: usize = 167;
 fn representatives(top: u8, grids: &[Vec<u8>]) -> Vec<Vec<u8>> {
     let mut input = line_1([M as u64, N as u64, top.into(), CAPACITY]);
     input.extend(grids.iter().flat_map(|grid| enter(grid)));
-    let outcome = Outcome::read(&input, &run(&input));
-    assert!(outcome.printed.iter().all(|line| line[..2] == [1, 0]));
-    let contents = Contents::read(&outcome.register).expect("the register is laid out");
+    let output = Output::read(&input, &run(&input));
+    assert!(output.printed.iter().all(|line| line[..2] == [1, 0]));
+    let contents = Contents::read(&output.register).expect("the register is laid out");
     assert_eq!(contents.entries.len(), grids.len());
     let keys = contents.entries.iter().map(|entry| class_key(M, N, entry));
     let keys: Vec<_> = keys.collect();

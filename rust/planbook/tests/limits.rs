@@ -1,7 +1,7 @@
 //! Numbers at their limits and past them.
 
 use planbook::lines::{command, enter, fit_all, line_1, strike};
-use planbook::outputs::{refusal, Outcome};
+use planbook::outputs::{refusal, Output};
 use planbook::{check, check_both, check_each};
 
 /// Each number at its limits and past them.
@@ -72,7 +72,7 @@ fn every_combination_of_limits() {
             assert_eq!(output, refusal(number), "{numbers:?}");
             continue;
         }
-        let printed = Outcome::read(input, &output).printed;
+        let printed = Output::read(input, &output).printed;
         let [top, capacity] = [numbers[2], numbers[3]];
         let second = match (top, capacity) {
             (0, _) => [1, 101, 1],
@@ -130,7 +130,7 @@ fn with_value(top: u64, value: u64, k: usize) -> Vec<[u64; 3]> {
         command(3, &bounds(value, value)),
     ];
     let input = input.concat();
-    Outcome::read(&input, &check(&input)).printed
+    Output::read(&input, &check(&input)).printed
 }
 
 #[test]

@@ -1,7 +1,7 @@
 //! Lines cut, lengthened, removed, doubled, joined and parted.
 
 use planbook::lines::{enter, fit, fit_all, line_1, strike};
-use planbook::outputs::{refusal, Outcome};
+use planbook::outputs::{refusal, Output};
 use planbook::{check, check_each};
 
 /// Document 01's input.
@@ -50,7 +50,7 @@ fn check_command(head: &[u8], line: &[u8], count_all: &[u8]) {
     for other in &others {
         all.extend([other, &b"\n"[..], count_all].concat());
     }
-    let printed = Outcome::read(&all, &check(&all)).printed;
+    let printed = Output::read(&all, &check(&all)).printed;
     assert_eq!(printed.len(), 2 * others.len());
     assert!(printed.chunks(2).all(|two| two[0] == [0, 12, 0]));
     assert!(printed.chunks(2).all(|two| two[1] == [3, 0, 0]));
@@ -168,7 +168,7 @@ fn carriage_returns_before_line_feeds() {
     let mut all = lines();
     all[1..].iter_mut().for_each(add_carriage_return);
     let input = all.concat();
-    let printed = Outcome::read(&input, &check(&input)).printed;
+    let printed = Output::read(&input, &check(&input)).printed;
     assert_eq!(printed, [[0, 12, 0]; 6]);
 }
 

@@ -4,7 +4,7 @@ use planbook::check_each;
 use planbook::classes::shuffled;
 use planbook::inputs::drawn;
 use planbook::lines::{enter, fit, fit_all, line_1, strike};
-use planbook::outputs::{check_met, Met, Outcome, ANSWERS};
+use planbook::outputs::{check_met, Met, Output, ANSWERS};
 use reference::designs::{all, Design};
 use reference::examples::shapes_up_to;
 use reference::lists::Pool;
@@ -14,7 +14,7 @@ use reference::random::Random;
 fn check_lists(inputs: &[Vec<u8>]) -> Met {
     let mut met = Met::new();
     for (input, output) in inputs.iter().zip(check_each(inputs)) {
-        Outcome::read(input, &output).count(&mut met);
+        Output::read(input, &output).count(&mut met);
     }
     met
 }
@@ -142,7 +142,7 @@ fn grids_with_much_symmetry() {
         .collect();
     assert!(inputs.len() > 30);
     for (input, output) in inputs.iter().zip(check_each(&inputs)) {
-        let printed = Outcome::read(input, &output).printed;
+        let printed = Output::read(input, &output).printed;
         let numbers: Vec<u64> = printed.iter().map(|line| line[1]).collect();
         assert_eq!(numbers[..3], [10, 0, 101]);
         assert_eq!(numbers[4..], [0, 0, 10, 0, 101]);
@@ -166,7 +166,7 @@ fn the_order_of_enters_leaves_no_trace() {
     let registers = inputs
         .iter()
         .zip(&outputs)
-        .map(|(i, o)| Outcome::read(i, o).register);
+        .map(|(i, o)| Output::read(i, o).register);
     let mut registers: Vec<Vec<u8>> = registers.collect();
     registers.dedup();
     assert_eq!(registers.len(), 1);

@@ -3,7 +3,7 @@
 use planbook::inputs::LIKELY;
 use planbook::lines::{command, ended, line_1};
 use planbook::malformed::{with_field, NO_NUMBERS};
-use planbook::outputs::{refusal, Outcome};
+use planbook::outputs::{refusal, Output};
 use planbook::{check, check_each};
 
 /// Every list of so many of the bytes.
@@ -25,7 +25,7 @@ fn check_lines(lines: &[Vec<u8>]) -> Vec<[u64; 3]> {
     let mut printed = Vec::new();
     for some in lines.chunks(3000) {
         let input = [line_1([1, 1, 15, 9]), some.concat()].concat();
-        printed.extend(Outcome::read(&input, &check(&input)).printed);
+        printed.extend(Output::read(&input, &check(&input)).printed);
     }
     assert_eq!(printed.len(), lines.len());
     printed

@@ -3,7 +3,7 @@
 use planbook::check_each;
 use planbook::inputs::{drawn, edited, one_of, LIKELY};
 use planbook::lines::{ended, line_1};
-use planbook::outputs::{refusal, Met, Outcome, ANSWERS};
+use planbook::outputs::{refusal, Met, Output, ANSWERS};
 use reference::lists::Pool;
 use reference::random::Random;
 
@@ -59,7 +59,7 @@ fn likely_bytes_behind_line_1() {
         }
     }
     for (input, output) in inputs.iter().zip(check_each(&inputs)) {
-        assert!(!Outcome::read(input, &output).register.is_empty());
+        assert!(!Output::read(input, &output).register.is_empty());
     }
 }
 
@@ -85,7 +85,7 @@ fn edited_inputs() {
     }
     let mut met = Met::new();
     for (input, output) in inputs.iter().zip(check_each(&inputs)) {
-        Outcome::read(input, &output).count(&mut met);
+        Output::read(input, &output).count(&mut met);
     }
     assert!(met[&(0, 12)] > 4000, "{met:?}");
     for answer in ANSWERS {

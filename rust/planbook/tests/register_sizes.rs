@@ -3,7 +3,7 @@
 use planbook::book::Book;
 use planbook::classes::shuffled;
 use planbook::lines::{enter, line_1, strike, LIMIT};
-use planbook::outputs::{refusal, Outcome};
+use planbook::outputs::{refusal, Output};
 use planbook::{check, check_both};
 use reference::examples::shapes_up_to;
 use reference::layout::Contents;
@@ -122,11 +122,11 @@ fn small_registers_are_filled_and_emptied() {
     for capacity in [1, 15, 16, 17, 500] {
         let head = line_1([1, 1, 15, capacity]);
         let input = [head.clone(), fill.clone()].concat();
-        let outcome = Outcome::read(&input, &check(&input));
-        let contents = Contents::read(&outcome.register).expect("the register is laid out");
+        let output = Output::read(&input, &check(&input));
+        let contents = Contents::read(&output.register).expect("the register is laid out");
         assert_eq!(contents.count(), capacity.min(16));
         let emptied = [input, clear.clone()].concat();
-        let register = Outcome::read(&emptied, &check(&emptied)).register;
+        let register = Output::read(&emptied, &check(&emptied)).register;
         assert!(register == check(&head));
     }
 }

@@ -8,7 +8,7 @@ use std::cmp::Ordering;
 
 /// What prune returns: the number and the count of values removed.
 #[derive(Clone, Copy, Debug, PartialEq, Eq)]
-pub struct Pruned {
+pub struct Counted {
     pub number: u32,
     pub count: u64,
 }
@@ -187,13 +187,13 @@ pub fn pruned_form(m: usize, n: usize, top: u8, low: &[u8], high: &[u8]) -> Opti
 }
 
 /// Prune: writes the pruned form and returns the count of values removed, or 102.
-pub fn prune(m: u64, n: u64, top: u64, low: &mut [u8], high: &mut [u8]) -> Pruned {
+pub fn prune(m: u64, n: u64, top: u64, low: &mut [u8], high: &mut [u8]) -> Counted {
     if let Err(number) = prune_questions(m, n, top, low, high) {
-        return Pruned { number, count: 0 };
+        return Counted { number, count: 0 };
     }
     let top = top as u8;
     let Some(form) = pruned_form(m as usize, n as usize, top, low, high) else {
-        return Pruned {
+        return Counted {
             number: 102,
             count: 0,
         };
@@ -202,7 +202,7 @@ pub fn prune(m: u64, n: u64, top: u64, low: &mut [u8], high: &mut [u8]) -> Prune
     let after = number_of_values(top, &form.low, &form.high);
     low.copy_from_slice(&form.low);
     high.copy_from_slice(&form.high);
-    Pruned {
+    Counted {
         number: 0,
         count: before - after,
     }

@@ -37,6 +37,11 @@ pub fn every_form(count: usize, top: u8) -> Vec<Form> {
     choices.into_iter().map(bounds).collect()
 }
 
+/// A random form: two random bounds for each cell.
+pub fn drawn(random: &mut Random, count: usize, top: u8) -> Form {
+    ordered(random.cells(count, top), random.cells(count, top))
+}
+
 /// A random form of many values: lows up to a quarter of top, highs from half of top on.
 pub fn wide(random: &mut Random, count: usize, top: u8) -> Form {
     let (lows, highs) = (top / 4, top / 2);
@@ -69,7 +74,7 @@ pub fn around(random: &mut Random, top: u8, grid: &[u8]) -> Form {
 /// A random form of two rows or more, with top 1 or more, in which no grid has allperm. Up to
 /// some place row 0's lows are another row's highs, sorted, and there one higher.
 pub fn without_allperm(random: &mut Random, m: usize, n: usize, top: u8) -> Form {
-    let (mut low, mut high) = random.form(m * n, top);
+    let (mut low, mut high) = drawn(random, m * n, top);
     let row = sorted(&random.cells(n, top - 1));
     let place = random.below(n as u64) as usize;
     low[..place].copy_from_slice(&row[..place]);

@@ -1,32 +1,10 @@
-//! Grids, their arrangements and their classes; the calls represent and same.
+//! Grids, their arrangements and their classes.
 //!
 //! A grid of m rows and n columns is a slice of m * n cells, row after row.
 
-use crate::permutation::{ColumnPermutation, RowPermutation};
-use crate::questions::{self, Asked};
 use std::cmp::Ordering;
 
 pub use crate::permutation::{identity, is_permutation, permutations, Permutation};
-
-/// What represent and same return: the number, the row permutation P and the column
-/// permutation Q, document 01's orders. Positions past m or n hold their own number.
-#[derive(Clone, Copy, Debug, PartialEq, Eq)]
-pub struct Orders {
-    pub number: u32,
-    pub rows: [u8; 8],
-    pub columns: [u8; 16],
-}
-
-impl Orders {
-    /// This number with identities, document 01's starting orders.
-    pub fn starting(number: u32) -> Orders {
-        Orders {
-            number,
-            rows: RowPermutation::identity(8).at,
-            columns: ColumnPermutation::identity(16).at,
-        }
-    }
-}
 
 /// The rank by which every two cell values are compared: values go by their number, 0 the lowest.
 pub fn rank(value: u8) -> u8 {
@@ -127,51 +105,4 @@ pub fn arrangements(m: usize, n: usize, grid: &[u8]) -> Vec<Vec<u8>> {
         }
     }
     result
-}
-
-/// Represent: writes the representative to `out` and returns P and Q that produce it.
-pub fn represent(m: u64, n: u64, top: u64, grid: &[u8], out: &mut [u8]) -> Orders {
-    if let Err(number) = grid_questions(m, n, top, &[grid], &[grid, out]) {
-        return Orders::starting(number);
-    }
-    let canonical = canonical(m as usize, n as usize, grid);
-    out.copy_from_slice(&canonical.grid);
-    Orders {
-        number: 0,
-        rows: RowPermutation::listed(&canonical.rows).at,
-        columns: ColumnPermutation::listed(&canonical.columns).at,
-    }
-}
-
-/// Same: P and Q by which `b` is the arrangement of `a`, or 103 where their classes are two.
-/// P is a's row permutation followed by the inverse of b's; so for Q.
-pub fn same(m: u64, n: u64, top: u64, a: &[u8], b: &[u8]) -> Orders {
-    if let Err(number) = grid_questions(m, n, top, &[a, b], &[a, b]) {
-        return Orders::starting(number);
-    }
-    let of_a = canonical(m as usize, n as usize, a);
-    let of_b = canonical(m as usize, n as usize, b);
-    if of_a.grid != of_b.grid {
-        return Orders::starting(103);
-    }
-    let rows_of_b = RowPermutation::listed(&of_b.rows);
-    let columns_of_b = ColumnPermutation::listed(&of_b.columns);
-    Orders {
-        number: 0,
-        rows: RowPermutation::listed(&of_a.rows)
-            .composed(rows_of_b.inverse())
-            .at,
-        columns: ColumnPermutation::listed(&of_a.columns)
-            .composed(columns_of_b.inverse())
-            .at,
-    }
-}
-
-/// Represent and same pass 1, 2, 3, 6, 7.
-fn grid_questions(m: u64, n: u64, top: u64, grids: &[&[u8]], slices: &[&[u8]]) -> Asked {
-    questions::rows(m)?;
-    questions::columns(n)?;
-    questions::top(top)?;
-    questions::lengths(slices, m * n)?;
-    questions::cells(grids, top)
 }

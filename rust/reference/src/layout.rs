@@ -76,6 +76,11 @@ impl Contents {
         bytes
     }
 
+    /// 5. Is the register laid out? A yes gives what it holds.
+    pub fn asked(register: &[u8]) -> Result<Contents, u32> {
+        Contents::read(register).ok_or(5)
+    }
+
     /// What the bytes hold, or `None` where question 5 gets a no.
     pub fn read(register: &[u8]) -> Option<Contents> {
         let head = read_first_line(register.get(..FIRST_LINE)?)?;

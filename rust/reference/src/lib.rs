@@ -5,24 +5,27 @@
 //! grid in them, and by the extremal grid where these are too many; the machine
 //! is a set of least grids.
 //!
+//! A module uses only modules above it in this table:
+//!
 //! | module         | part of document 01                                  |
 //! |----------------|------------------------------------------------------|
 //! | `permutation`  | orders: the starting one, following, reverse         |
-//! | `grid`         | grids, arrangements, classes; represent, same        |
-//! | `bounds`       | forms and allperm; prune                             |
-//! | `layout`       | the register's bytes                                 |
+//! | `grid`         | grids, arrangements, classes                         |
 //! | `questions`    | the questions, one function each                     |
+//! | `grid_calls`   | represent and same                                   |
+//! | `bounds`       | forms and allperm; prune                             |
+//! | `layout`       | the register's bytes, and question 5                 |
 //! | `register`     | open, enter, strike, fit                             |
 //! | `machine`      | the plain machine of demand 3                        |
-//! | `calls`        | the calls of a list, on a register or on the machine |
 //! | `planbook`     | the program, input bytes to output bytes             |
 //! | `random`       | a small generator for tests                          |
 //! | `examples`     | grids and registers for tests                        |
 //! | `designs`      | grids with much symmetry, for tests and benchmarks   |
 //! | `forms`        | bounds, for tests and benchmarks                     |
+//! | `calls`        | the calls of a list, on a register or on the machine |
 //! | `lists`        | random lists of calls, for tests                     |
+//! | `antt_records` | how records are read from the definitions' tables    |
 //! | `worked_cases` | the worked cases of the definitions, for tests       |
-//! | `antt_records` | how these are read                                   |
 
 mod antt_records;
 pub mod bounds;
@@ -31,6 +34,7 @@ pub mod designs;
 pub mod examples;
 pub mod forms;
 pub mod grid;
+pub mod grid_calls;
 pub mod layout;
 pub mod lists;
 pub mod machine;

@@ -3,7 +3,7 @@
 
 use crate::calls::Call;
 use crate::designs::{equal_columns, equal_rows, two_rows, zero};
-use crate::forms::{around, close, ordered, Form};
+use crate::forms::{around, close, drawn, ordered, Form};
 use crate::grid::arrangement;
 use crate::random::Random;
 
@@ -60,7 +60,7 @@ impl Pool {
                 around(random, top, &grid)
             }
             4 => close(random, self.m, self.n, top),
-            _ => random.form(cells, top),
+            _ => drawn(random, cells, top),
         }
     }
 

@@ -1,8 +1,7 @@
-//! The questions of document 01, one function each. A yes is `Ok`; a no is
-//! `Err` with the question's number.
+//! The questions of document 01, one function each but for question 5, which is `layout`'s. A yes
+//! is `Ok`; a no is `Err` with the question's number.
 
 use crate::grid::rank;
-use crate::layout::Contents;
 
 /// The answer to a question: a yes, or the number of a no.
 pub type Asked = Result<(), u32>;
@@ -33,11 +32,6 @@ pub fn top(top: u64) -> Asked {
 /// 4. Is the capacity 1 to 500?
 pub fn capacity(capacity: u64) -> Asked {
     ask((1..=500).contains(&capacity), 4)
-}
-
-/// 5. Is the register laid out? A yes gives what it holds.
-pub fn register(register: &[u8]) -> Result<Contents, u32> {
-    Contents::read(register).ok_or(5)
 }
 
 /// 6. Has every slice its exact length?

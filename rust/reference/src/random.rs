@@ -1,7 +1,5 @@
 //! A small deterministic generator for tests.
 
-use crate::forms::{ordered, Form};
-
 /// Xorshift with 64 bits of state.
 #[derive(Clone, Debug)]
 pub struct Random {
@@ -44,11 +42,6 @@ impl Random {
         (0..count)
             .map(|_| self.between(0, top.into()) as u8)
             .collect()
-    }
-
-    /// A low and a high for each of the cells, each low at most its high.
-    pub fn form(&mut self, count: usize, top: u8) -> Form {
-        ordered(self.cells(count, top), self.cells(count, top))
     }
 
     /// A permutation of the numbers below `n`.

@@ -58,7 +58,7 @@ fn try_open(m: u64, n: u64, top: u64, capacity: u64, register: &mut [u8]) -> Res
 }
 
 fn try_enter(register: &mut [u8], grid: &[u8]) -> Result<Answer, u32> {
-    let mut contents = questions::register(register)?;
+    let mut contents = Contents::asked(register)?;
     questions::lengths(&[grid], contents.rows * contents.columns)?;
     questions::cells(&[grid], contents.top)?;
     let class = least_grid(&contents, grid);
@@ -75,7 +75,7 @@ fn try_enter(register: &mut [u8], grid: &[u8]) -> Result<Answer, u32> {
 }
 
 fn try_strike(register: &mut [u8], grid: &[u8]) -> Result<Answer, u32> {
-    let mut contents = questions::register(register)?;
+    let mut contents = Contents::asked(register)?;
     questions::lengths(&[grid], contents.rows * contents.columns)?;
     questions::cells(&[grid], contents.top)?;
     let class = least_grid(&contents, grid);
@@ -90,7 +90,7 @@ fn try_strike(register: &mut [u8], grid: &[u8]) -> Result<Answer, u32> {
 }
 
 fn try_fit(register: &[u8], low: &[u8], high: &[u8]) -> Result<Answer, u32> {
-    let contents = questions::register(register)?;
+    let contents = Contents::asked(register)?;
     questions::lengths(&[low, high], contents.rows * contents.columns)?;
     questions::cells(&[low, high], contents.top)?;
     questions::bounds(low, high)?;

@@ -6,8 +6,9 @@ use common::{cells, every_grid, plan, shapes_up_to};
 use reference::bounds::allperm;
 use reference::grid::{
     arrangement, arrangements, canonical, compare, compare_columns, identity, is_permutation,
-    least, least_brute, represent, same, Orders,
+    least, least_brute,
 };
+use reference::grid_calls::{represent, same, Arranged};
 use reference::random::Random;
 use std::cmp::Ordering;
 
@@ -21,7 +22,7 @@ fn represented(m: usize, n: usize, top: u8, grid: &[u8]) -> Vec<u8> {
     out
 }
 
-fn check_orders(m: usize, n: usize, orders: &Orders) {
+fn check_orders(m: usize, n: usize, orders: &Arranged) {
     assert!(is_permutation(&orders.rows[..m]));
     assert!(is_permutation(&orders.columns[..n]));
     assert_eq!(orders.rows[m..], identity(8)[m..]);
@@ -155,7 +156,7 @@ fn same_is_0_exactly_within_a_class() {
                     check_same(m, n, top, a, b);
                 } else {
                     let orders = same(m as u64, n as u64, top.into(), a, b);
-                    assert_eq!(orders, Orders::starting(103));
+                    assert_eq!(orders, Arranged::starting(103));
                 }
             }
         }

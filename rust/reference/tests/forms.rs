@@ -2,7 +2,9 @@
 
 use reference::bounds::{allperm, lies_in, some_grid, values};
 use reference::examples::shapes_up_to;
-use reference::forms::{around, close, every_form, grid_with_allperm, wide, without_allperm};
+use reference::forms::{
+    around, close, drawn, every_form, grid_with_allperm, wide, without_allperm,
+};
 use reference::forms::{written, Form};
 use reference::questions;
 use reference::random::Random;
@@ -36,7 +38,7 @@ fn random_forms_pass_the_questions() {
     let mut random = Random::new(14);
     for (m, n) in shapes_up_to(128) {
         for top in 1..=15 {
-            check_passes(m * n, top, &random.form(m * n, top));
+            check_passes(m * n, top, &drawn(&mut random, m * n, top));
             check_passes(m * n, top, &wide(&mut random, m * n, top));
             check_passes(m * n, top, &close(&mut random, m, n, top));
         }

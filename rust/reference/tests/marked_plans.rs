@@ -3,11 +3,12 @@
 mod common;
 
 use common::{cells, form, plan};
-use reference::bounds::{allperm, allperm_by_listing, allperm_by_sorting, prune, Pruned};
-use reference::grid::{arrangement, represent, same, Orders};
+use reference::bounds::{allperm, allperm_by_listing, allperm_by_sorting, prune, Counted};
+use reference::grid::arrangement;
+use reference::grid_calls::{represent, same, Arranged};
 
 /// The representative and the orders of a grid with top 3.
-fn represented(text: &str) -> (Vec<u8>, Orders) {
+fn represented(text: &str) -> (Vec<u8>, Arranged) {
     let (m, n, grid) = plan(text);
     let mut out = vec![255; grid.len()];
     let orders = represent(m as u64, n as u64, 3, &grid, &mut out);
@@ -56,7 +57,7 @@ fn m5_302_gives_023() {
 #[test]
 fn m6_same_of_00_11_and_01_01_is_103() {
     let orders = same(2, 2, 3, &cells("00/11"), &cells("01/01"));
-    assert_eq!(orders, Orders::starting(103));
+    assert_eq!(orders, Arranged::starting(103));
 }
 
 #[test]
@@ -75,7 +76,7 @@ fn m9_prune_removes_5() {
     let pruned = prune(2, 2, 3, &mut low, &mut high);
     assert_eq!(
         pruned,
-        Pruned {
+        Counted {
             number: 0,
             count: 5
         }
@@ -89,7 +90,7 @@ fn m10_prune_says_102() {
     let pruned = prune(2, 1, 3, &mut low, &mut high);
     assert_eq!(
         pruned,
-        Pruned {
+        Counted {
             number: 102,
             count: 0
         }

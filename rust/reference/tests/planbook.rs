@@ -2,6 +2,7 @@
 
 mod common;
 
+use reference::forms::drawn;
 use reference::machine::Machine;
 use reference::planbook::transcript;
 use reference::random::Random;
@@ -370,7 +371,7 @@ fn random_line(random: &mut Random, cells: usize, top: u8) -> Vec<u8> {
     let extra = usize::from(random.once_in(12));
     let mut bytes = random.cells(cells + extra, top);
     if command == 3 {
-        let (low, high) = random.form(cells, top);
+        let (low, high) = drawn(random, cells, top);
         bytes = (0..cells).flat_map(|k| [low[k], high[k]]).collect();
     }
     if random.once_in(10) {

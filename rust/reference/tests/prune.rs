@@ -6,9 +6,9 @@ use common::{every_grid, form, shapes_up_to};
 use reference::bounds::{
     allperm, allperm_by_listing, allperm_by_sorting, grids, kept_by_extremal, kept_by_listing,
     lies_in, number_of_grids, number_of_values, prune, prune_by_extremal, prune_by_listing,
-    some_grid, values, Bounds, Pruned, LISTED_GRIDS,
+    some_grid, values, Bounds, Counted, LISTED_GRIDS,
 };
-use reference::forms::{close, every_form, Form};
+use reference::forms::{close, drawn, every_form, Form};
 use reference::grid::rank;
 use reference::random::Random;
 
@@ -49,7 +49,7 @@ fn check_form(m: usize, n: usize, top: u8, low: &[u8], high: &[u8]) {
 fn check_none(m: usize, n: usize, top: u8, low: &[u8], high: &[u8]) {
     let (mut new_low, mut new_high) = (low.to_vec(), high.to_vec());
     let pruned = prune(m as u64, n as u64, top.into(), &mut new_low, &mut new_high);
-    let expected = Pruned {
+    let expected = Counted {
         number: 102,
         count: 0,
     };
@@ -175,7 +175,7 @@ fn random_forms() {
     for _ in 0..3000 {
         let (m, n) = (random.between(2, 4) as usize, random.between(1, 6) as usize);
         let top = random.between(1, 5) as u8;
-        let form = random.form(m * n, top);
+        let form = drawn(&mut random, m * n, top);
         let (low, high) = narrowed(&mut random, n, top, form, 150);
         check_form(m, n, top, &low, &high);
     }
@@ -219,7 +219,7 @@ fn the_call_prunes_large_forms_by_extremal_grids() {
             random.between(2, 8) as usize,
             random.between(4, 16) as usize,
         );
-        let (mut low, high) = random.form(m * n, 15);
+        let (mut low, high) = drawn(&mut random, m * n, 15);
         if random.once_in(2) {
             low[0] = lowest(15);
         }
@@ -260,7 +260,7 @@ fn a_form_above_the_listed_number_of_grids_agrees_with_listing() {
 fn with_one_row_nothing_is_removed() {
     let mut random = Random::new(11);
     for n in 1..=16 {
-        let (low, high) = random.form(n, 15);
+        let (low, high) = drawn(&mut random, n, 15);
         let (mut new_low, mut new_high) = (low.clone(), high.clone());
         let pruned = prune(1, n as u64, 15, &mut new_low, &mut new_high);
         assert_eq!((pruned.number, pruned.count), (0, 0));

@@ -3,8 +3,8 @@
 mod common;
 
 use common::{cells, register, unopened};
-use reference::bounds::{prune, Pruned};
-use reference::grid::{represent, same, Orders};
+use reference::bounds::{prune, Counted};
+use reference::grid_calls::{represent, same, Arranged};
 use reference::layout::{register_length, Contents};
 use reference::register::{enter, fit, open, strike, Answer};
 
@@ -61,7 +61,7 @@ fn represent_asks_1_2_3_6_7_in_order() {
         let orders = represent(m, n, top, &grid, &mut out);
         assert_eq!(orders.number, number, "{failed:?}");
         if number != 0 {
-            assert_eq!(orders, Orders::starting(number));
+            assert_eq!(orders, Arranged::starting(number));
             assert!(out.iter().all(|&v| v == 200));
         }
     }
@@ -72,7 +72,7 @@ fn represent_asks_the_length_of_its_output_slice() {
     for length in [0, 5, 7] {
         let mut out = vec![200; length];
         let orders = represent(2, 3, 3, &[1, 1, 1, 4, 1, 1], &mut out);
-        assert_eq!(orders, Orders::starting(6));
+        assert_eq!(orders, Arranged::starting(6));
         assert!(out.iter().all(|&v| v == 200));
     }
     let mut out = vec![200; 6];
@@ -88,7 +88,7 @@ fn same_asks_1_2_3_6_7_in_order() {
         for (a, b) in [(&good, &bad), (&bad, &good)] {
             let orders = same(m, n, top, a, b);
             assert_eq!(orders.number, number, "{failed:?}");
-            assert!(number == 0 || orders == Orders::starting(number));
+            assert!(number == 0 || orders == Arranged::starting(number));
         }
     }
 }
@@ -96,8 +96,8 @@ fn same_asks_1_2_3_6_7_in_order() {
 #[test]
 fn same_asks_all_lengths_before_all_cells() {
     let (short, high) = (vec![1; 5], vec![9; 6]);
-    assert_eq!(same(2, 3, 3, &short, &high), Orders::starting(6));
-    assert_eq!(same(2, 3, 3, &high, &short), Orders::starting(6));
+    assert_eq!(same(2, 3, 3, &short, &high), Arranged::starting(6));
+    assert_eq!(same(2, 3, 3, &high, &short), Arranged::starting(6));
 }
 
 #[test]
@@ -112,7 +112,7 @@ fn prune_asks_1_2_3_6_7_8_in_order() {
             }
             let before = (low.clone(), high.clone());
             let pruned = prune(m, n, top, &mut low, &mut high);
-            assert_eq!(pruned, Pruned { number, count: 0 }, "{failed:?}");
+            assert_eq!(pruned, Counted { number, count: 0 }, "{failed:?}");
             assert_eq!((low, high), before);
         }
     }
@@ -222,14 +222,14 @@ fn fit_and_prune_ask_both_lengths() {
 #[test]
 fn rows_0_and_columns_0_give_1() {
     for (m, n) in [(0, 0), (0, 5), (9, 0), (9, 17), (u64::MAX, u64::MAX)] {
-        assert_eq!(represent(m, n, 16, &[], &mut []), Orders::starting(1));
-        assert_eq!(same(m, n, 16, &[], &[]), Orders::starting(1));
+        assert_eq!(represent(m, n, 16, &[], &mut []), Arranged::starting(1));
+        assert_eq!(same(m, n, 16, &[], &[]), Arranged::starting(1));
         assert_eq!(prune(m, n, 16, &mut [], &mut []).number, 1);
         assert_eq!(open(m, n, 16, 0, &mut []), refusal(1));
     }
     for n in [0, 17, u64::MAX] {
-        assert_eq!(represent(8, n, 16, &[], &mut []), Orders::starting(2));
-        assert_eq!(same(8, n, 16, &[], &[]), Orders::starting(2));
+        assert_eq!(represent(8, n, 16, &[], &mut []), Arranged::starting(2));
+        assert_eq!(same(8, n, 16, &[], &[]), Arranged::starting(2));
         assert_eq!(prune(8, n, 16, &mut [], &mut []).number, 2);
         assert_eq!(open(8, n, 16, 0, &mut []), refusal(2));
     }
@@ -336,10 +336,10 @@ fn a_grid_of_another_length_gives_6() {
     for length in [0, 1, 3, 5, 8] {
         let grid = vec![0; length];
         let mut out = vec![200; 4];
-        assert_eq!(represent(2, 2, 3, &grid, &mut out), Orders::starting(6));
+        assert_eq!(represent(2, 2, 3, &grid, &mut out), Arranged::starting(6));
         assert_eq!(out, [200; 4]);
-        assert_eq!(same(2, 2, 3, &grid, &[0; 4]), Orders::starting(6));
-        assert_eq!(same(2, 2, 3, &[0; 4], &grid), Orders::starting(6));
+        assert_eq!(same(2, 2, 3, &grid, &[0; 4]), Arranged::starting(6));
+        assert_eq!(same(2, 2, 3, &[0; 4], &grid), Arranged::starting(6));
         assert_eq!(enter(&mut bytes, &grid), refusal(6));
         assert_eq!(strike(&mut bytes, &grid), refusal(6));
         assert_eq!(bytes, before);
@@ -352,7 +352,10 @@ fn a_cell_equal_to_top_passes_and_one_more_gives_7() {
         let long = u64::from(top);
         let (at, above) = ([0, top], [0, top + 1]);
         let mut out = [200; 2];
-        assert_eq!(represent(1, 2, long, &above, &mut out), Orders::starting(7));
+        assert_eq!(
+            represent(1, 2, long, &above, &mut out),
+            Arranged::starting(7)
+        );
         assert_eq!(out, [200; 2]);
         assert_eq!(represent(1, 2, long, &at, &mut out).number, 0);
         assert_eq!(same(1, 2, long, &at, &at).number, 0);

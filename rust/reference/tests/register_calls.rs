@@ -4,6 +4,7 @@ mod common;
 
 use common::{cells, register, unopened};
 use reference::bounds::{lies_in, prune};
+use reference::forms::drawn;
 use reference::grid::{arrangement, least};
 use reference::layout::Contents;
 use reference::machine::Machine;
@@ -210,7 +211,7 @@ fn spoil(random: &mut Random, slice: &mut Vec<u8>, top: u8) {
 
 /// A form that now and then is wrong.
 fn random_form(random: &mut Random, cells: usize, top: u8) -> (Vec<u8>, Vec<u8>) {
-    let (mut low, mut high) = random.form(cells, top);
+    let (mut low, mut high) = drawn(random, cells, top);
     if random.once_in(2) {
         low = vec![0; cells];
     }

@@ -4,7 +4,8 @@ mod common;
 
 use common::{cells, form, plan};
 use reference::bounds::{allperm, kept_by_extremal, kept_by_listing, prune};
-use reference::grid::{arrangement, arrangements, compare, least, least_brute, same};
+use reference::grid::{arrangement, arrangements, compare, least, least_brute};
+use reference::grid_calls::same;
 use std::collections::BTreeSet;
 
 const A: &str = "021201/022110/010212/001122";

@@ -3,12 +3,6 @@ use borrow.Author.Needs.{needs}
 use Rattle.plan_register.proofs.plan_register_represent.Statement.{statement}
 use Rattle.plan_register.proofs.plan_register_represent.Tie as tie
 
-represent-requires : tie.Need-represent-requires
-represent-requires c κs = search needs
-
-exported-requires : tie.Need-exported-requires
-exported-requires c κs = search needs
-
 same-length : tie.Need-same-length
 same-length c = search needs
 
@@ -16,4 +10,4 @@ returns : tie.Need-returns
 returns c = let x = c .exported .ensures in rw (x .number, x .rows, x .columns) (c .before .before .before .represent .ensures)
 
 pub plan-register-represent-spec : {M : Type 1} → statement M
-plan-register-represent-spec = tie.close (tie.spec represent-requires exported-requires same-length returns)
+plan-register-represent-spec = tie.close (search (tie.spec, same-length, returns, needs))

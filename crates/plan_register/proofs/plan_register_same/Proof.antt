@@ -3,14 +3,8 @@ use borrow.Author.Needs.{needs}
 use Rattle.plan_register.proofs.plan_register_same.Statement.{statement}
 use Rattle.plan_register.proofs.plan_register_same.Tie as tie
 
-same-requires : tie.Need-same-requires
-same-requires c κs = search needs
-
-exported-requires : tie.Need-exported-requires
-exported-requires c κs = search needs
-
 returns : tie.Need-returns
 returns c = let x = c .exported .ensures in rw (x .number, x .rows, x .columns) (c .before .same .ensures)
 
 pub plan-register-same-spec : {M : Type 1} → statement M
-plan-register-same-spec = tie.close (tie.spec same-requires exported-requires returns)
+plan-register-same-spec = tie.close (search (tie.spec, returns, needs))

@@ -3,18 +3,9 @@ use mathlib.Core.Path.{sym}
 use native.Mathlib.Omega.{arith}
 use lib.Seq.{length-take-le}
 use borrow.Author.Needs.{needs}
-use Rattle.protocol.proofs.RunLaws.{has-room}
+use Rattle.protocol.proofs.SliceLaws.{has-room}
 use Rattle.planbook.proofs.main.Statement.{statement}
 use Rattle.planbook.proofs.main.Tie as tie
-
-input-buffer-requires : tie.Need-input-buffer-requires
-input-buffer-requires c κs = search needs
-
-large-buffer-requires : tie.Need-large-buffer-requires
-large-buffer-requires c κs = search needs
-
-output-buffer-requires : tie.Need-output-buffer-requires
-output-buffer-requires c κs = search needs
 
 slice-aggregate-read-input : tie.Need-slice-aggregate-read-input
 slice-aggregate-read-input c = search needs
@@ -43,27 +34,6 @@ array-share-prefix-out c = search needs
 slice-aggregate-write-all : tie.Need-slice-aggregate-write-all
 slice-aggregate-write-all c = let d = c .before .before .before .print-into in sym (length-take-le (d .result) (d .last .1 .1 .0) (d .ensures .0))
 
-write-all-requires : tie.Need-write-all-requires
-write-all-requires c κs = search needs
-
-returns : tie.Need-returns
-returns c = search needs
-
 pub main-spec : {M : Type 1} → statement M
 main-spec =
-    tie.close
-    (tie.spec
-    input-buffer-requires
-    large-buffer-requires
-    output-buffer-requires
-    slice-aggregate-read-input
-    read-input-requires
-    array-share-prefix-input
-    slice-aggregate-print-into
-    slice-aggregate-print-into-2
-    slice-aggregate-print-into-3
-    print-into-requires
-    array-share-prefix-out
-    slice-aggregate-write-all
-    write-all-requires
-    returns)
+    tie.close (search (tie.spec, slice-aggregate-read-input, read-input-requires, array-share-prefix-input, slice-aggregate-print-into, slice-aggregate-print-into-2, slice-aggregate-print-into-3, print-into-requires, array-share-prefix-out, slice-aggregate-write-all, needs))

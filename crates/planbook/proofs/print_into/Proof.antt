@@ -1,11 +1,8 @@
 -- `print_into` meets its contract: with room enough, the bytes that count are what planbook prints.
 use borrow.Author.Needs.{needs}
-use Rattle.protocol.proofs.RunLaws.{count-within, count-prints}
+use Rattle.protocol.proofs.SliceLaws.{count-within, count-prints}
 use Rattle.planbook.proofs.print_into.Statement.{statement}
 use Rattle.planbook.proofs.print_into.Tie as tie
-
-transcribe-requires : tie.Need-transcribe-requires
-transcribe-requires c κs = search needs
 
 same-length : tie.Need-same-length
 same-length c = search needs
@@ -23,4 +20,4 @@ returns c =
     )
 
 pub print-into-spec : {M : Type 1} → statement M
-print-into-spec = tie.close (tie.spec transcribe-requires same-length same-length-2 returns)
+print-into-spec = tie.close (search (tie.spec, same-length, same-length-2, returns, needs))

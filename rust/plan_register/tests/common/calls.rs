@@ -1,7 +1,7 @@
 //! Calls on a register, each compared with the reference.
 
 use super::Lent;
-use plan_register::{enter, fit, open, strike, Fitted, Placed};
+use plan_register::{enter, fit, open, strike, Counted, Placed};
 use reference::calls::Call;
 use reference::grid::compare;
 use reference::layout::Contents;
@@ -57,7 +57,7 @@ pub fn placed(placed: Placed) -> Answer {
     answer(placed.number, placed.place)
 }
 
-fn fitted(fitted: Fitted) -> Answer {
+fn fitted(fitted: Counted) -> Answer {
     answer(fitted.number, fitted.count)
 }
 

@@ -8,7 +8,7 @@ pub mod limits;
 pub mod question_5;
 
 pub use lent::Lent;
-use plan_register::{prune, represent, same, Orders, Pruned};
+use plan_register::{prune, represent, same, Arranged, Counted};
 use reference::grid::{arrangement, identity, is_permutation, least};
 use reference::random::Random;
 
@@ -53,7 +53,7 @@ pub fn check_two_classes(m: usize, n: usize, top: u8, a: &[u8], b: &[u8]) {
     assert_eq!(orders, starting(103), "{m}x{n} top {top}: {a:?} {b:?}");
 }
 
-fn unchanging_same(m: usize, n: usize, top: u8, a: &[u8], b: &[u8]) -> Orders {
+fn unchanging_same(m: usize, n: usize, top: u8, a: &[u8], b: &[u8]) -> Arranged {
     let (lent_a, lent_b) = (Lent::holding(a), Lent::holding(b));
     let orders = same(m, n, top.into(), lent_a.slice(), lent_b.slice());
     lent_a.check(a);
@@ -63,17 +63,17 @@ fn unchanging_same(m: usize, n: usize, top: u8, a: &[u8], b: &[u8]) -> Orders {
 
 /// Calls prune on bounds that pass. Checks its answer and what it wrote against the reference,
 /// that no other byte changed, and that prune finds nothing to remove from what it wrote.
-pub fn check_prune(m: usize, n: usize, top: u8, low: &[u8], high: &[u8]) -> Pruned {
+pub fn check_prune(m: usize, n: usize, top: u8, low: &[u8], high: &[u8]) -> Counted {
     let (mut new_low, mut new_high) = (low.to_vec(), high.to_vec());
     let expected =
         reference::bounds::prune(m as u64, n as u64, top.into(), &mut new_low, &mut new_high);
-    let pruned = Pruned {
+    let pruned = Counted {
         number: expected.number,
         count: expected.count as u32,
     };
     let new = (&new_low[..], &new_high[..]);
     check_pruned(m, n, top.into(), (low, high), pruned, new);
-    let again = Pruned { count: 0, ..pruned };
+    let again = Counted { count: 0, ..pruned };
     check_pruned(m, n, top.into(), new, again, new);
     pruned
 }
@@ -85,7 +85,7 @@ pub fn check_pruned(
     n: usize,
     top: usize,
     (low, high): (&[u8], &[u8]),
-    pruned: Pruned,
+    pruned: Counted,
     (new_low, new_high): (&[u8], &[u8]),
 ) {
     let (mut lent_low, mut lent_high) = (Lent::holding(low), Lent::holding(high));
@@ -95,7 +95,7 @@ pub fn check_pruned(
     lent_high.check(new_high);
 }
 
-fn check_orders(m: usize, n: usize, orders: &Orders) {
+fn check_orders(m: usize, n: usize, orders: &Arranged) {
     assert!(is_permutation(&orders.rows[..m]), "{orders:?}");
     assert!(is_permutation(&orders.columns[..n]), "{orders:?}");
     assert_eq!(orders.rows[m..], identity(8)[m..]);
@@ -103,9 +103,9 @@ fn check_orders(m: usize, n: usize, orders: &Orders) {
 }
 
 /// This number with the starting orders.
-pub fn starting(number: u32) -> Orders {
-    let reference = reference::grid::Orders::starting(number);
-    Orders {
+pub fn starting(number: u32) -> Arranged {
+    let reference = reference::grid_calls::Arranged::starting(number);
+    Arranged {
         number: reference.number,
         rows: reference.rows,
         columns: reference.columns,

@@ -25,9 +25,6 @@ shared-slice-read-stays-ordered c = omega arith
 shared-slice-read-stays-ordered-2 : tie.Need-shared-slice-read-stays-ordered-2 Inv-loop μ-loop
 shared-slice-read-stays-ordered-2 c = omega arith
 
-stays-ordered-requires : tie.Need-stays-ordered-requires Inv-loop μ-loop
-stays-ordered-requires c κs = search needs
-
 add-k : tie.Need-add-k Inv-loop μ-loop
 add-k c = omega arith
 
@@ -47,16 +44,5 @@ returns c =
     rw e at (l .inv .1)
 
 pub is-ordered-spec : {M : Type 1} → statement M
-is-ordered-spec =
-    tie.close
-    (tie.spec
-    Inv-loop
-    μ-loop
-    loop-holds
-    shared-slice-read-stays-ordered
-    shared-slice-read-stays-ordered-2
-    stays-ordered-requires
-    add-k
-    loop-less
-    loop-again
-    returns)
+is-ordered-spec {M} =
+    tie.close (search (tie.spec {M = M} Inv-loop μ-loop, loop-holds, shared-slice-read-stays-ordered, shared-slice-read-stays-ordered-2, add-k, loop-less, loop-again, returns, needs))

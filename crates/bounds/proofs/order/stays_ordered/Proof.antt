@@ -6,12 +6,6 @@ use Rattle.bounds.proofs.PruneSteps.{order-fails, order-holds}
 use Rattle.bounds.proofs.order.stays_ordered.Statement.{statement}
 use Rattle.bounds.proofs.order.stays_ordered.Tie as tie
 
-rank-requires : tie.Need-rank-requires
-rank-requires c κs = search needs
-
-rank-requires-2 : tie.Need-rank-requires-2
-rank-requires-2 c κs = search needs
-
 returns : tie.Need-returns
 returns c = let a = c .before .before .before .args in order-fails (a .ordered) (rank (a .low)) (rank (a .high)) (omega arith)
 
@@ -19,4 +13,4 @@ returns-2 : tie.Need-returns-2
 returns-2 c = let a = c .before .before .before .args in order-holds (a .ordered) (rank (a .low)) (rank (a .high)) (omega arith)
 
 pub stays-ordered-spec : {M : Type 1} → statement M
-stays-ordered-spec = tie.close (tie.spec rank-requires rank-requires-2 returns returns-2)
+stays-ordered-spec = tie.close (search (tie.spec, returns, returns-2, needs))

@@ -36,17 +36,11 @@ add-end c = omega (arith, (row-fits (c .before .before .before .before .before .
 sub-prune-row : tie.Need-sub-prune-row Inv-loop μ-loop
 sub-prune-row c = omega arith
 
-part-prune-row-start : tie.Need-part-prune-row-start Inv-loop μ-loop
-part-prune-row-start c = search needs
-
 part-prune-row-end : tie.Need-part-prune-row-end Inv-loop μ-loop
 part-prune-row-end c = (row-fits (c .before .before .before .before .before .before .before .before .before .before .before .before .before .before .pre .0) (c .before .loop .inv) (omega arith)) .first-low
 
 sub-prune-row-2 : tie.Need-sub-prune-row-2 Inv-loop μ-loop
 sub-prune-row-2 c = omega arith
-
-part-prune-row-start-2 : tie.Need-part-prune-row-start-2 Inv-loop μ-loop
-part-prune-row-start-2 c = search needs
 
 part-prune-row-end-2 : tie.Need-part-prune-row-end-2 Inv-loop μ-loop
 part-prune-row-end-2 c = (row-fits (c .before .before .before .before .before .before .before .before .before .before .before .before .before .before .before .pre .0) (c .before .before .loop .inv) (omega arith)) .old-low
@@ -54,26 +48,17 @@ part-prune-row-end-2 c = (row-fits (c .before .before .before .before .before .b
 sub-prune-row-3 : tie.Need-sub-prune-row-3 Inv-loop μ-loop
 sub-prune-row-3 c = omega arith
 
-part-prune-row-start-3 : tie.Need-part-prune-row-start-3 Inv-loop μ-loop
-part-prune-row-start-3 c = search needs
-
 part-prune-row-end-3 : tie.Need-part-prune-row-end-3 Inv-loop μ-loop
 part-prune-row-end-3 c = (row-fits (c .before .before .before .before .before .before .before .before .before .before .before .before .before .before .before .before .pre .0) (c .before .before .before .loop .inv) (omega arith)) .old-high
 
 sub-prune-row-4 : tie.Need-sub-prune-row-4 Inv-loop μ-loop
 sub-prune-row-4 c = omega arith
 
-part-prune-row-start-4 : tie.Need-part-prune-row-start-4 Inv-loop μ-loop
-part-prune-row-start-4 c = search needs
-
 part-prune-row-end-4 : tie.Need-part-prune-row-end-4 Inv-loop μ-loop
 part-prune-row-end-4 c = (row-fits (c .before .before .before .before .before .before .before .before .before .before .before .before .before .before .before .before .before .pre .0) (c .before .before .before .before .loop .inv) (omega arith)) .first-high
 
 sub-prune-row-5 : tie.Need-sub-prune-row-5 Inv-loop μ-loop
 sub-prune-row-5 c = omega arith
-
-part-prune-row-start-5 : tie.Need-part-prune-row-start-5 Inv-loop μ-loop
-part-prune-row-start-5 c = search needs
 
 part-prune-row-end-5 : tie.Need-part-prune-row-end-5 Inv-loop μ-loop
 part-prune-row-end-5 c = (row-fits (c .before .before .before .before .before .before .before .before .before .before .before .before .before .before .before .before .before .before .pre .0) (c .before .before .before .before .before .loop .inv) (omega arith)) .new-low
@@ -116,38 +101,5 @@ returns-2 : tie.Need-returns-2 Inv-loop μ-loop
 returns-2 c = narrow-all (c .before .loop .inv) (omega arith)
 
 pub narrow-spec : {M : Type 1} → statement M
-narrow-spec =
-    tie.close
-    (tie.spec
-    Inv-loop
-    μ-loop
-    copy-requires
-    copy-requires-2
-    loop-holds
-    mul-start
-    add-end
-    sub-prune-row
-    part-prune-row-start
-    part-prune-row-end
-    sub-prune-row-2
-    part-prune-row-start-2
-    part-prune-row-end-2
-    sub-prune-row-3
-    part-prune-row-start-3
-    part-prune-row-end-3
-    sub-prune-row-4
-    part-prune-row-start-4
-    part-prune-row-end-4
-    sub-prune-row-5
-    part-prune-row-start-5
-    part-prune-row-end-5
-    prune-row-requires
-    same-length
-    same-length-2
-    returns
-    add-i
-    loop-less
-    loop-again
-    same-length-3
-    same-length-4
-    returns-2)
+narrow-spec {M} =
+    tie.close (search (tie.spec {M = M} Inv-loop μ-loop, copy-requires, copy-requires-2, loop-holds, mul-start, add-end, sub-prune-row, part-prune-row-end, sub-prune-row-2, part-prune-row-end-2, sub-prune-row-3, part-prune-row-end-3, sub-prune-row-4, part-prune-row-end-4, sub-prune-row-5, part-prune-row-end-5, prune-row-requires, same-length, same-length-2, returns, add-i, loop-less, loop-again, same-length-3, same-length-4, returns-2, needs))

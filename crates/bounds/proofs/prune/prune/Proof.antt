@@ -13,32 +13,14 @@ use Rattle.bounds.proofs.PruneSteps.{prune-shape-no, prune-cells-no, pr
 use Rattle.bounds.proofs.prune.prune.Statement.{statement}
 use Rattle.bounds.proofs.prune.prune.Tie as tie
 
-shape-no-requires : tie.Need-shape-no-requires
-shape-no-requires c κs = search needs
-
 returns : tie.Need-returns
 returns c = prune-shape-no _ _ _ _ _ _ (c .before .shape-no .ensures) (c .if1 .taken)
-
-is-capped-requires : tie.Need-is-capped-requires
-is-capped-requires c κs = search needs
-
-same-length : tie.Need-same-length
-same-length c = search needs
 
 returns-2 : tie.Need-returns-2
 returns-2 c =
     let t = sym (c .before .is-capped .ensures) ∙ not-true _ (c .if2 .taken) in
     let d = c .before .before .before in
     prune-cells-no _ _ _ _ _ _ (d .before .shape-no .ensures) (d .if1 .left) (first-cells-no _ _ _ t)
-
-is-capped-requires-2 : tie.Need-is-capped-requires-2
-is-capped-requires-2 c κs = search needs
-
-same-length-2 : tie.Need-same-length-2
-same-length-2 c = search needs
-
-same-length-3 : tie.Need-same-length-3
-same-length-3 c = search needs
 
 returns-3 : tie.Need-returns-3
 returns-3 c =
@@ -65,12 +47,6 @@ is-ordered-requires c κs =
     let a = d .before .before .before .before .args in
     prune-lengths _ _ _ (a .low .now) (a .high .now) _ (d .before .shape-no .ensures) (d .if1 .left)
 
-same-length-4 : tie.Need-same-length-4
-same-length-4 c = search needs
-
-same-length-5 : tie.Need-same-length-5
-same-length-5 c = search needs
-
 returns-4 : tie.Need-returns-4
 returns-4 c =
     let e = c .before .before .before .before in
@@ -92,29 +68,17 @@ mul-size c = omega (arith, prune-size _ _ _ _ _ (passed c))
 sub-narrow : tie.Need-sub-narrow
 sub-narrow c = search needs
 
-part-lows-start : tie.Need-part-lows-start
-part-lows-start c = search needs
-
 part-lows-end : tie.Need-part-lows-end
 part-lows-end c = prune-size _ _ _ _ _ (passed (c .before .before))
 
 sub-narrow-2 : tie.Need-sub-narrow-2
 sub-narrow-2 c = search needs
 
-part-highs-start : tie.Need-part-highs-start
-part-highs-start c = search needs
-
 part-highs-end : tie.Need-part-highs-end
 part-highs-end c = prune-size _ _ _ _ _ (passed (c .before .before .before))
 
 narrow-requires : tie.Need-narrow-requires
 narrow-requires c κs = narrow-ready _ _ _ _ _ (passed (c .before .before .before .before)) _ _ refl refl
-
-same-length-6 : tie.Need-same-length-6
-same-length-6 c = search needs
-
-same-length-7 : tie.Need-same-length-7
-same-length-7 c = search needs
 
 returns-5 : tie.Need-returns-5
 returns-5 c =
@@ -134,17 +98,11 @@ wrote c =
 sub-removed : tie.Need-sub-removed
 sub-removed c = search needs
 
-part-removed-start : tie.Need-part-removed-start
-part-removed-start c = search needs
-
 part-removed-end : tie.Need-part-removed-end
 part-removed-end c = parts-within _ _ _ _ _ _ _ (wrote (c .before .before .before)) _ [] .0
 
 sub-removed-2 : tie.Need-sub-removed-2
 sub-removed-2 c = search needs
-
-part-removed-start-2 : tie.Need-part-removed-start-2
-part-removed-start-2 c = search needs
 
 part-removed-end-2 : tie.Need-part-removed-end-2
 part-removed-end-2 c = parts-within _ _ _ _ _ _ _ (wrote (c .before .before .before .before .before)) [] _ .1
@@ -155,9 +113,6 @@ removed-requires c κs = removed-ready _ _ _ _ _ _ _ (wrote (c .before .before .
 sub-copy : tie.Need-sub-copy
 sub-copy c = search needs
 
-part-copy-start : tie.Need-part-copy-start
-part-copy-start c = search needs
-
 part-copy-end : tie.Need-part-copy-end
 part-copy-end c = parts-within _ _ _ _ _ _ _ (wrote (c .before .before .before .before .before .before .before .before)) _ [] .0
 
@@ -166,9 +121,6 @@ copy-requires c κs = parts-fit _ _ _ _ _ _ _ (wrote (c .before .before .before 
 
 sub-copy-2 : tie.Need-sub-copy-2
 sub-copy-2 c = search needs
-
-part-copy-start-2 : tie.Need-part-copy-start-2
-part-copy-start-2 c = search needs
 
 part-copy-end-2 : tie.Need-part-copy-end-2
 part-copy-end-2 c = parts-within _ _ _ _ _ _ _ (wrote (c .before .before .before .before .before .before .before .before .before .before .before .before .before .before)) [] _ .1
@@ -190,47 +142,4 @@ returns-6 c =
 
 pub prune-spec : {M : Type 1} → statement M
 prune-spec =
-    tie.close
-    (tie.spec
-    shape-no-requires
-    returns
-    is-capped-requires
-    same-length
-    returns-2
-    is-capped-requires-2
-    same-length-2
-    same-length-3
-    returns-3
-    is-ordered-requires
-    same-length-4
-    same-length-5
-    returns-4
-    mul-size
-    sub-narrow
-    part-lows-start
-    part-lows-end
-    sub-narrow-2
-    part-highs-start
-    part-highs-end
-    narrow-requires
-    same-length-6
-    same-length-7
-    returns-5
-    sub-removed
-    part-removed-start
-    part-removed-end
-    sub-removed-2
-    part-removed-start-2
-    part-removed-end-2
-    removed-requires
-    sub-copy
-    part-copy-start
-    part-copy-end
-    copy-requires
-    sub-copy-2
-    part-copy-start-2
-    part-copy-end-2
-    copy-requires-2
-    same-length-8
-    same-length-9
-    returns-6)
+    tie.close (search (tie.spec, returns, returns-2, returns-3, is-ordered-requires, returns-4, mul-size, sub-narrow, part-lows-end, sub-narrow-2, part-highs-end, narrow-requires, returns-5, sub-removed, part-removed-end, sub-removed-2, part-removed-end-2, removed-requires, sub-copy, part-copy-end, copy-requires, sub-copy-2, part-copy-end-2, copy-requires-2, same-length-8, same-length-9, returns-6, needs))

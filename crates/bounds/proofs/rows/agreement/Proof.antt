@@ -3,13 +3,13 @@ use mathlib.Core.Path.{_≡_}
 use Prim.Native.Nat.{ℕ, _-_, _≤_, _<_}
 use native.Mathlib.Omega.{arith}
 use lib.ListN.{length}
-use Rattle.bounds.specs.Rows.{cells}
+use Rattle.bounds.specs.Rows.{cellAt}
 use Rattle.bounds.proofs.RowSteps.{agree-more}
 use Rattle.bounds.proofs.rows.agreement.Statement.{statement}
 use Rattle.bounds.proofs.rows.agreement.Tie as tie
 
 abbrev Inv-loop : tie.InvT-loop
-Inv-loop x sorted shift from t₀ t = (from ≤ t) × (t ≤ length x) × ((j : ℕ) → from ≤ j → j < t → cells x j ≡ cells sorted (j - shift))
+Inv-loop x sorted shift from t₀ t = (from ≤ t) × (t ≤ length x) × ((j : ℕ) → from ≤ j → j < t → cellAt x j ≡ cellAt sorted (j - shift))
 
 abbrev μ-loop : tie.MeasureT-loop
 μ-loop x sorted shift from t₀ t = length x - t

@@ -42,9 +42,6 @@ slice-read-lower c = omega (arith, c .before .before .before .loop .inv .1 .size
 cap-requires : tie.Need-cap-requires Inv-loop μ-loop
 cap-requires c κs = let p = c .before .before .before .before .before .before .pre in (p .0, omega arith, p .2)
 
-lower-requires : tie.Need-lower-requires Inv-loop μ-loop
-lower-requires c κs = search needs
-
 slice-write-highs-2 : tie.Need-slice-write-highs-2 Inv-loop μ-loop
 slice-write-highs-2 c = omega (arith, c .before .before .before .before .before .loop .inv .1 .size)
 
@@ -71,22 +68,5 @@ returns-2 c =
     lowered-all (rw e at (l .inv .1)) (p .2) (omega arith)
 
 pub lower-highs-spec : {M : Type 1} → statement M
-lower-highs-spec =
-    tie.close
-    (tie.spec
-    Inv-loop
-    μ-loop
-    loop-holds
-    shared-slice-read-highs
-    slice-write-highs
-    add-c
-    loop-less
-    loop-again
-    slice-read-lower
-    cap-requires
-    lower-requires
-    slice-write-highs-2
-    same-length
-    returns
-    same-length-2
-    returns-2)
+lower-highs-spec {M} =
+    tie.close (search (tie.spec {M = M} Inv-loop μ-loop, loop-holds, shared-slice-read-highs, slice-write-highs, add-c, loop-less, loop-again, slice-read-lower, cap-requires, slice-write-highs-2, same-length, returns, same-length-2, returns-2, needs))

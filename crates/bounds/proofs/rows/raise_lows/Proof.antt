@@ -4,14 +4,14 @@ use Prim.Native.Nat.{ℕ, _-_, _≤_}
 use native.Mathlib.Omega.{arith}
 use lib.ListN.{length, length-set}
 use borrow.Author.Needs.{needs}
-use Rattle.bounds.specs.Rows.{cells, higher, RaisedTo}
+use Rattle.bounds.specs.Rows.{cellAt, higher, RaisedTo}
 use Rattle.bounds.proofs.RowSteps.{raised-next}
 use Rattle.bounds.proofs.rows.raise_lows.Statement.{statement}
 use Rattle.bounds.proofs.rows.raise_lows.Tie as tie
 
 abbrev Inv-loop : tie.InvT-loop
 Inv-loop allowed low high lows₀ c₀ lows c =
-    (c ≤ length low) × (length lows ≡ length lows₀) × RaisedTo c allowed (cells low) (cells high) (cells lows)
+    (c ≤ length low) × (length lows ≡ length lows₀) × RaisedTo c allowed (cellAt low) (cellAt high) (cellAt lows)
 
 abbrev μ-loop : tie.MeasureT-loop
 μ-loop allowed low high lows₀ c₀ lows c = length low - c
@@ -26,12 +26,6 @@ shared-slice-read-higher c = omega arith
 shared-slice-read-low-for : tie.Need-shared-slice-read-low-for Inv-loop μ-loop
 shared-slice-read-low-for c = omega arith
 
-low-for-requires : tie.Need-low-for-requires Inv-loop μ-loop
-low-for-requires c κs = search needs
-
-higher-requires : tie.Need-higher-requires Inv-loop μ-loop
-higher-requires c κs = search needs
-
 slice-write-lows : tie.Need-slice-write-lows Inv-loop μ-loop
 slice-write-lows c = omega arith
 
@@ -45,7 +39,7 @@ loop-again : tie.Need-loop-again Inv-loop μ-loop
 loop-again c =
     let l = c .before .before .before .before .before .loop in
     let a = c .before .before .before .before .before .before .before .before .before .args in
-    let e = c .higher .ensures ∙ ap (λ (v : ℕ). higher (cells (a .low .now) (l .c)) v) (c .before .low-for .ensures) in (
+    let e = c .higher .ensures ∙ ap (λ (v : ℕ). higher (cellAt (a .low .now) (l .c)) v) (c .before .low-for .ensures) in (
       omega arith,
       length-set (l .lows) (l .c) (c .higher .result) ∙ l .inv .1,
       raised-next (a .allowed) (a .low .now) (a .high .now) (l .lows) (l .c) (c .higher .result) (omega arith) (l .inv .2) e,
@@ -61,19 +55,5 @@ returns c =
     rw e at (l .inv .2)
 
 pub raise-lows-spec : {M : Type 1} → statement M
-raise-lows-spec =
-    tie.close
-    (tie.spec
-    Inv-loop
-    μ-loop
-    loop-holds
-    shared-slice-read-higher
-    shared-slice-read-low-for
-    low-for-requires
-    higher-requires
-    slice-write-lows
-    add-c
-    loop-less
-    loop-again
-    same-length
-    returns)
+raise-lows-spec {M} =
+    tie.close (search (tie.spec {M = M} Inv-loop μ-loop, loop-holds, shared-slice-read-higher, shared-slice-read-low-for, slice-write-lows, add-c, loop-less, loop-again, same-length, returns, needs))

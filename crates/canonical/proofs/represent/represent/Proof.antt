@@ -12,22 +12,10 @@ use Rattle.canonical.proofs.CallSteps.{asked, none-refuses, represent-r
 use Rattle.canonical.proofs.represent.represent.Statement.{statement}
 use Rattle.canonical.proofs.represent.represent.Tie as tie
 
-shape-no-requires : tie.Need-shape-no-requires
-shape-no-requires c κs = search needs
-
-refused-requires : tie.Need-refused-requires
-refused-requires c κs = search needs
-
 returns : tie.Need-returns
 returns c =
     represent-refuses _ _ _ _ _ _ _ (shape-refuses _ _ _ _ _ _ (c .before .before .shape-no .ensures) _ (c .before .if1 .taken)) (c .before .if1 .taken)
     (c .refused .ensures)
-
-is-capped-requires : tie.Need-is-capped-requires
-is-capped-requires c κs = search needs
-
-refused-requires-2 : tie.Need-refused-requires-2
-refused-requires-2 c κs = search needs
 
 returns-2 : tie.Need-returns-2
 returns-2 c =
@@ -66,16 +54,4 @@ returns-3 c =
     represent-gives _ _ _ _ _ _ _ (passed (d .before)) (d .least-orders .ensures) (c .before .before .write-arrangement .ensures)
 
 pub represent-spec : {M : Type 1} → statement M
-represent-spec =
-    tie.close
-    (tie.spec
-    shape-no-requires
-    refused-requires
-    returns
-    is-capped-requires
-    refused-requires-2
-    returns-2
-    least-orders-requires
-    write-arrangement-requires
-    same-length
-    returns-3)
+represent-spec = tie.close (search (tie.spec, returns, returns-2, least-orders-requires, write-arrangement-requires, same-length, returns-3, needs))

@@ -13,22 +13,10 @@ use Rattle.canonical.proofs.CallSteps.{asked, none-refuses, same-refuse
 use Rattle.canonical.proofs.same.same.Statement.{statement}
 use Rattle.canonical.proofs.same.same.Tie as tie
 
-shape-no-requires : tie.Need-shape-no-requires
-shape-no-requires c κs = search needs
-
-refused-requires : tie.Need-refused-requires
-refused-requires c κs = search needs
-
 returns : tie.Need-returns
 returns c =
     let h = c .before .if1 .taken in
     same-refuses _ _ _ _ _ _ _ (shape-refuses _ _ _ _ _ _ (c .before .before .shape-no .ensures) _ h) h (c .refused .ensures)
-
-is-capped-requires : tie.Need-is-capped-requires
-is-capped-requires c κs = search needs
-
-refused-requires-2 : tie.Need-refused-requires-2
-refused-requires-2 c κs = search needs
 
 returns-2 : tie.Need-returns-2
 returns-2 c =
@@ -36,12 +24,6 @@ returns-2 c =
     let t = sym (d .is-capped .ensures) ∙ not-true _ (c .before .if2 .taken) in
     let z = cells-refuse _ _ _ _ _ _ (d .before .before .shape-no .ensures) (d .before .if1 .left) _ _ (first-cells-no _ _ _ t) in
     same-refuses _ _ _ _ _ _ _ z (omega arith) (c .refused2 .ensures)
-
-is-capped-requires-2 : tie.Need-is-capped-requires-2
-is-capped-requires-2 c κs = search needs
-
-refused-requires-3 : tie.Need-refused-requires-3
-refused-requires-3 c κs = search needs
 
 returns-3 : tie.Need-returns-3
 returns-3 c =
@@ -78,27 +60,12 @@ least-orders-requires-2 c κs = let f = fits (c .before) in (f .0 .rows-limits .
 meet-requires : tie.Need-meet-requires
 meet-requires c κs = let f = fits (c .before .before) in (f .0 .rows-limits .1, f .0 .column-limits .1)
 
-refused-requires-4 : tie.Need-refused-requires-4
-refused-requires-4 c κs = search needs
-
 returns-4 : tie.Need-returns-4
 returns-4 c =
     let d = c .before .before in
     let p = d .before .before .least-orders .ensures in
     let q = d .before .least-orders2 .ensures in
     same-differs _ _ _ _ _ _ _ (passed (d .before .before .before)) p q _ (d .meet .ensures) (not-true _ (c .before .if4 .taken)) _ (c .refused4 .ensures)
-
-inverse-requires : tie.Need-inverse-requires
-inverse-requires c κs = search needs
-
-composed-requires : tie.Need-composed-requires
-composed-requires c κs = search needs
-
-inverse-requires-2 : tie.Need-inverse-requires-2
-inverse-requires-2 c κs = search needs
-
-composed-requires-2 : tie.Need-composed-requires-2
-composed-requires-2 c κs = search needs
 
 returns-5 : tie.Need-returns-5
 returns-5 c =
@@ -109,25 +76,4 @@ returns-5 c =
     (c .before .before .before .inverse .ensures) (c .before .before .composed .ensures) (c .before .inverse2 .ensures) (c .composed2 .ensures)
 
 pub same-spec : {M : Type 1} → statement M
-same-spec =
-    tie.close
-    (tie.spec
-    shape-no-requires
-    refused-requires
-    returns
-    is-capped-requires
-    refused-requires-2
-    returns-2
-    is-capped-requires-2
-    refused-requires-3
-    returns-3
-    least-orders-requires
-    least-orders-requires-2
-    meet-requires
-    refused-requires-4
-    returns-4
-    inverse-requires
-    composed-requires
-    inverse-requires-2
-    composed-requires-2
-    returns-5)
+same-spec = tie.close (search (tie.spec, returns, returns-2, returns-3, least-orders-requires, least-orders-requires-2, meet-requires, returns-4, returns-5, needs))

@@ -21,12 +21,6 @@ returns c = bound-none _ _ _ _ _ _ _ refl refl (λ s h. none-marked s) (c .befor
 loop-holds : tie.Need-loop-holds Inv-loop μ-loop
 loop-holds c = omega arith
 
-row-requires : tie.Need-row-requires Inv-loop μ-loop
-row-requires c κs = search needs
-
-row-requires-2 : tie.Need-row-requires-2 Inv-loop μ-loop
-row-requires-2 c κs = search needs
-
 returns-2 : tie.Need-returns-2 Inv-loop μ-loop
 unfolding tabulate
 returns-2 c = bound-none _ _ _ _ _ _ _ refl refl (λ s h. none-marked s) (c .before .before .before .before .before .before .before .before .before .pre .best-orders)
@@ -47,18 +41,4 @@ returns-3 : tie.Need-returns-3 Inv-loop μ-loop
 returns-3 c = c .lowered .ensures
 
 pub bounded-spec : {M : Type 1} → statement M
-bounded-spec =
-    tie.close
-    (tie.spec
-    Inv-loop
-    μ-loop
-    returns
-    loop-holds
-    row-requires
-    row-requires-2
-    returns-2
-    add-i
-    loop-less
-    loop-again
-    lowered-requires
-    returns-3)
+bounded-spec {M} = tie.close (search (tie.spec {M = M} Inv-loop μ-loop, returns, loop-holds, returns-2, add-i, loop-less, loop-again, lowered-requires, returns-3, needs))

@@ -6,9 +6,6 @@ use Rattle.canonical.proofs.SearchLaws.{candidate-of}
 use Rattle.canonical.proofs.search.candidate.Statement.{statement}
 use Rattle.canonical.proofs.search.candidate.Tie as tie
 
-row-requires : tie.Need-row-requires
-row-requires c κs = search needs
-
 sorted-requires : tie.Need-sorted-requires
 sorted-requires c κs =
     let s = c .before .before .pre .0 in
@@ -20,13 +17,10 @@ returns c =
     candidate-of _ _ _ _ _ _ _ _ _ (pre .0) (pre .1) (pre .2) (record { numbers = sym (swapped-same _ _ _ (c .before .if1 .taken)); size = refl }) _
     (c .before .before .before .row .ensures) (c .before .before .sorted .ensures)
 
-swapped-requires : tie.Need-swapped-requires
-swapped-requires c κs = search needs
-
 returns-2 : tie.Need-returns-2
 returns-2 c =
     let pre = c .before .before .before .before .before .pre in
     candidate-of _ _ _ _ _ _ _ _ _ (pre .0) (pre .1) (pre .2) (c .swapped .ensures) _ (c .before .before .before .row .ensures) (c .before .before .sorted .ensures)
 
 pub candidate-spec : {M : Type 1} → statement M
-candidate-spec = tie.close (tie.spec row-requires sorted-requires returns swapped-requires returns-2)
+candidate-spec = tie.close (search (tie.spec, sorted-requires, returns, returns-2, needs))

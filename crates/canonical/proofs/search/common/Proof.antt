@@ -18,12 +18,6 @@ abbrev μ-loop : tie.MeasureT-loop
 loop-holds : tie.Need-loop-holds Inv-loop μ-loop
 loop-holds c = common-none _ _ _
 
-row-requires : tie.Need-row-requires Inv-loop μ-loop
-row-requires c κs = search needs
-
-row-requires-2 : tie.Need-row-requires-2 Inv-loop μ-loop
-row-requires-2 c κs = search needs
-
 returns : tie.Need-returns Inv-loop μ-loop
 returns c = c .before .before .before .before .before .before .loop .inv
 
@@ -45,16 +39,4 @@ returns-2 c =
     rw e at (l .inv)
 
 pub common-spec : {M : Type 1} → statement M
-common-spec =
-    tie.close
-    (tie.spec
-    Inv-loop
-    μ-loop
-    loop-holds
-    row-requires
-    row-requires-2
-    returns
-    add-i
-    loop-less
-    loop-again
-    returns-2)
+common-spec {M} = tie.close (search (tie.spec {M = M} Inv-loop μ-loop, loop-holds, returns, add-i, loop-less, loop-again, returns-2, needs))

@@ -3,12 +3,6 @@ use borrow.Author.Needs.{needs}
 use Rattle.canonical.proofs.search.compare_at.Statement.{statement}
 use Rattle.canonical.proofs.search.compare_at.Tie as tie
 
-row-requires : tie.Need-row-requires
-row-requires c κs = search needs
-
-row-requires-2 : tie.Need-row-requires-2
-row-requires-2 c κs = search needs
-
 compare-rows-requires : tie.Need-compare-rows-requires
 compare-rows-requires c κs = search needs
 
@@ -16,4 +10,4 @@ returns : tie.Need-returns
 returns c = rw (← (c .before .before .row .ensures), ← (c .before .row2 .ensures)) (c .compare-rows .ensures)
 
 pub compare-at-spec : {M : Type 1} → statement M
-compare-at-spec = tie.close (tie.spec row-requires row-requires-2 compare-rows-requires returns)
+compare-at-spec = tie.close (search (tie.spec, compare-rows-requires, returns, needs))

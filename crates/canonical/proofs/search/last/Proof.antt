@@ -1,6 +1,5 @@
 -- `last` meets its contract: with all rows placed the best is searched, and with one left that row is placed. Where it gives the best's
 -- arrangement, the two row orders show a symmetry.
-use mathlib.Core.Path.{refl}
 use native.Mathlib.Omega.{arith}
 use borrow.Author.Needs.{needs}
 use borrow.Author.Tests.{not-false}
@@ -12,7 +11,7 @@ use Rattle.canonical.proofs.search.last.Tie as tie
 returns : tie.Need-returns
 returns c =
     let s = c .before .before .pre .0 in
-    outcome-searched _ _ _ _ _ _ _ _ (s .placed-fits) refl (placed-all _ _ _ _ _ _ _ (c .if1 .taken) s)
+    outcome-searched _ _ _ _ _ _ _ _ (s .placed-fits) (placed-all _ _ _ _ _ _ _ (c .if1 .taken) s)
 
 candidate-requires : tie.Need-candidate-requires
 candidate-requires c κs =
@@ -21,9 +20,6 @@ candidate-requires c κs =
 
 compare-at-requires : tie.Need-compare-at-requires
 compare-at-requires c κs = c .before .before .before .pre .0 .columns-fit
-
-lesser-requires : tie.Need-lesser-requires
-lesser-requires c κs = search needs
 
 returns-2 : tie.Need-returns-2
 returns-2 c =
@@ -35,10 +31,7 @@ returns-2 c =
     let i = lesser-improves _ _ _ _ _ _ _ _ _ _ _ (pre .0) next (omega (arith, pre .0 .placed-fits, one)) found which in
     let l = lesser-lower _ _ _ _ _ _ _ _ _ _ _ (pre .0) next (omega (arith, pre .0 .placed-fits, one)) found which in
     let s = placed-last _ _ _ _ _ _ _ _ _ (omega (arith, pre .0 .placed-fits, pre .1, one)) (pre .0) next i l in
-    outcome-searched _ _ _ _ _ _ _ _ (pre .0 .placed-fits) refl s
-
-is-equal-requires : tie.Need-is-equal-requires
-is-equal-requires c κs = search needs
+    outcome-searched _ _ _ _ _ _ _ _ (pre .0 .placed-fits) s
 
 returns-3 : tie.Need-returns-3
 returns-3 c =
@@ -50,10 +43,7 @@ returns-3 c =
     let i = lesser-improves _ _ _ _ _ _ _ _ _ _ _ (pre .0) next (omega (arith, pre .0 .placed-fits, one)) found which in
     let l = lesser-lower _ _ _ _ _ _ _ _ _ _ _ (pre .0) next (omega (arith, pre .0 .placed-fits, one)) found which in
     let s = placed-last _ _ _ _ _ _ _ _ _ (omega (arith, pre .0 .placed-fits, pre .1, one)) (pre .0) next i l in
-    outcome-searched _ _ _ _ _ _ _ _ (pre .0 .placed-fits) refl s
-
-common-requires : tie.Need-common-requires
-common-requires c κs = search needs
+    outcome-searched _ _ _ _ _ _ _ _ (pre .0 .placed-fits) s
 
 returns-4 : tie.Need-returns-4
 returns-4 c =
@@ -69,15 +59,4 @@ returns-4 c =
     outcome-alike _ _ _ _ _ _ _ _ _ _ (omega (arith, pre .0 .placed-fits, pre .1, one)) (not-false _ (c .before .before .before .if2 .left)) (pre .0) next s e (c .common .ensures)
 
 pub last-spec : {M : Type 1} → statement M
-last-spec =
-    tie.close
-    (tie.spec
-    returns
-    candidate-requires
-    compare-at-requires
-    lesser-requires
-    returns-2
-    is-equal-requires
-    returns-3
-    common-requires
-    returns-4)
+last-spec = tie.close (search (tie.spec, returns, candidate-requires, compare-at-requires, returns-2, returns-3, returns-4, needs))

@@ -7,12 +7,6 @@ use Rattle.canonical.proofs.PlaceLaws.{start-orders, start, outcome-lea
 use Rattle.canonical.proofs.search.least_orders.Statement.{statement}
 use Rattle.canonical.proofs.search.least_orders.Tie as tie
 
-identity-requires : tie.Need-identity-requires
-identity-requires c κs = search needs
-
-identity-requires-2 : tie.Need-identity-requires-2
-identity-requires-2 c κs = search needs
-
 place-requires : tie.Need-place-requires
 unfolding tabulate
 place-requires c κs =
@@ -24,4 +18,4 @@ returns : tie.Need-returns
 returns c = outcome-least _ _ _ _ _ _ _ (c .before .before .before .before .before .pre .2) (c .before .place .ensures)
 
 pub least-orders-spec : {M : Type 1} → statement M
-least-orders-spec = tie.close (tie.spec identity-requires identity-requires-2 place-requires returns)
+least-orders-spec = tie.close (search (tie.spec, place-requires, returns, needs))

@@ -4,9 +4,6 @@ use Rattle.canonical.proofs.SearchLaws.{lesser-less, lesser-not}
 use Rattle.canonical.proofs.search.lesser.Statement.{statement}
 use Rattle.canonical.proofs.search.lesser.Tie as tie
 
-is-less-requires : tie.Need-is-less-requires
-is-less-requires c κs = search needs
-
 returns : tie.Need-returns
 returns c = lesser-less (c .before .before .args .found) _ _ _ (c .before .is-less .ensures) (c .if1 .taken)
 
@@ -14,4 +11,4 @@ returns-2 : tie.Need-returns-2
 returns-2 c = lesser-not (c .before .before .args .found) _ _ _ (c .before .is-less .ensures) (c .if1 .left)
 
 pub lesser-spec : {M : Type 1} → statement M
-lesser-spec = tie.close (tie.spec is-less-requires returns returns-2)
+lesser-spec = tie.close (search (tie.spec, returns, returns-2, needs))

@@ -31,14 +31,8 @@ candidate-requires c κs =
 compare-at-requires : tie.Need-compare-at-requires Inv-loop μ-loop
 compare-at-requires c κs = c .before .before .before .before .pre .columns-fit
 
-is-greater-requires : tie.Need-is-greater-requires Inv-loop μ-loop
-is-greater-requires c κs = search needs
-
 array-write-above : tie.Need-array-write-above Inv-loop μ-loop
 array-write-above c = omega (arith, c .before .before .before .before .loop-test .taken, c .before .before .before .before .before .before .before .pre .rows-fit)
-
-is-less-requires : tie.Need-is-less-requires Inv-loop μ-loop
-is-less-requires c κs = search needs
 
 add-t : tie.Need-add-t Inv-loop μ-loop
 add-t c = omega arith
@@ -73,18 +67,4 @@ returns : tie.Need-returns Inv-loop μ-loop
 returns c = let l = c .before .loop in lowest-bound _ _ _ _ (l .t) _ _ _ (omega arith) (l .inv .1)
 
 pub lowered-spec : {M : Type 1} → statement M
-lowered-spec =
-    tie.close
-    (tie.spec
-    Inv-loop
-    μ-loop
-    loop-holds
-    candidate-requires
-    compare-at-requires
-    is-greater-requires
-    array-write-above
-    is-less-requires
-    add-t
-    loop-less
-    loop-again
-    returns)
+lowered-spec {M} = tie.close (search (tie.spec {M = M} Inv-loop μ-loop, loop-holds, candidate-requires, compare-at-requires, array-write-above, add-t, loop-less, loop-again, returns, needs))

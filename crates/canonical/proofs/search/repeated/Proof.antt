@@ -18,23 +18,11 @@ Inv-loop grid n rows k t start row s₀ s = (k ≤ s) × NoneUpTo n grid (rowNum
 abbrev μ-loop : tie.MeasureT-loop
 μ-loop grid n rows k t start row s₀ s = t - s
 
-identity-requires : tie.Need-identity-requires Inv-loop μ-loop
-identity-requires c κs = search needs
-
-row-requires : tie.Need-row-requires Inv-loop μ-loop
-row-requires c κs = search needs
-
 loop-holds : tie.Need-loop-holds Inv-loop μ-loop
 loop-holds c = (omega arith, none-first _ _ _ _ _)
 
-row-requires-2 : tie.Need-row-requires-2 Inv-loop μ-loop
-row-requires-2 c κs = search needs
-
 compare-rows-requires : tie.Need-compare-rows-requires Inv-loop μ-loop
 compare-rows-requires c κs = omega arith
-
-is-equal-requires : tie.Need-is-equal-requires Inv-loop μ-loop
-is-equal-requires c κs = search needs
 
 returns : tie.Need-returns Inv-loop μ-loop
 returns c =
@@ -71,19 +59,4 @@ returns-2 c =
     record { found = λ e. absurd (true≢false (sym e)); none = λ e. none-all _ _ _ _ _ (l .s) (omega arith) (l .inv .1) }
 
 pub repeated-spec : {M : Type 1} → statement M
-repeated-spec =
-    tie.close
-    (tie.spec
-    Inv-loop
-    μ-loop
-    identity-requires
-    row-requires
-    loop-holds
-    row-requires-2
-    compare-rows-requires
-    is-equal-requires
-    returns
-    add-s
-    loop-less
-    loop-again
-    returns-2)
+repeated-spec {M} = tie.close (search (tie.spec {M = M} Inv-loop μ-loop, loop-holds, compare-rows-requires, returns, add-s, loop-less, loop-again, returns-2, needs))

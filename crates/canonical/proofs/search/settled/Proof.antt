@@ -17,14 +17,8 @@ abbrev μ-loop : tie.MeasureT-loop
 returns : tie.Need-returns Inv-loop μ-loop
 returns c = record { searched-or-tried = λ e. inl (c .if1 .taken) }
 
-row-requires : tie.Need-row-requires Inv-loop μ-loop
-row-requires c κs = search needs
-
 loop-holds : tie.Need-loop-holds Inv-loop μ-loop
 loop-holds c = omega arith
-
-row-requires-2 : tie.Need-row-requires-2 Inv-loop μ-loop
-row-requires-2 c κs = search needs
 
 returns-2 : tie.Need-returns-2 Inv-loop μ-loop
 returns-2 c =
@@ -44,17 +38,4 @@ returns-3 : tie.Need-returns-3 Inv-loop μ-loop
 returns-3 c = record { searched-or-tried = λ e. absurd (true≢false (sym e)) }
 
 pub settled-spec : {M : Type 1} → statement M
-settled-spec =
-    tie.close
-    (tie.spec
-    Inv-loop
-    μ-loop
-    returns
-    row-requires
-    loop-holds
-    row-requires-2
-    returns-2
-    add-s
-    loop-less
-    loop-again
-    returns-3)
+settled-spec {M} = tie.close (search (tie.spec {M = M} Inv-loop μ-loop, returns, loop-holds, returns-2, add-s, loop-less, loop-again, returns-3, needs))

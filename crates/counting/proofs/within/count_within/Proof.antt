@@ -39,17 +39,11 @@ sub-last c = omega (arith, (counting-room (c .before .before .before .before .be
 sub-line-within : tie.Need-sub-line-within Inv-loop μ-loop
 sub-line-within c = omega arith
 
-part-line-within-start : tie.Need-part-line-within-start Inv-loop μ-loop
-part-line-within-start c = search needs
-
 part-line-within-end : tie.Need-part-line-within-end Inv-loop μ-loop
 part-line-within-end c = let r = counting-room (c .before .before .before .before .before .before .before .before .before .pre .0) (c .before .loop .inv) (omega arith) in omega (arith, r .inside)
 
 sub-line-within-2 : tie.Need-sub-line-within-2 Inv-loop μ-loop
 sub-line-within-2 c = omega arith
-
-part-line-within-start-2 : tie.Need-part-line-within-start-2 Inv-loop μ-loop
-part-line-within-start-2 c = search needs
 
 part-line-within-end-2 : tie.Need-part-line-within-end-2 Inv-loop μ-loop
 part-line-within-end-2 c = let r = counting-room (c .before .before .before .before .before .before .before .before .before .before .pre .0) (c .before .before .loop .inv) (omega arith) in omega (arith, r .inside)
@@ -78,28 +72,5 @@ returns : tie.Need-returns Inv-loop μ-loop
 returns c = counting-all (c .before .before .before .before .before .before .before .before .before .pre .0) (c .before .loop .inv) (omega arith)
 
 pub count-within-spec : {M : Type 1} → statement M
-count-within-spec =
-    tie.close
-    (tie.spec
-    Inv-loop
-    μ-loop
-    mul-width
-    line-length-requires
-    fill-tables-requires
-    loop-holds
-    add-end
-    sub-earlier
-    sub-last
-    sub-line-within
-    part-line-within-start
-    part-line-within-end
-    sub-line-within-2
-    part-line-within-start-2
-    part-line-within-end-2
-    line-within-requires
-    one-more-requires
-    add-from
-    add-e
-    loop-less
-    loop-again
-    returns)
+count-within-spec {M} =
+    tie.close (search (tie.spec {M = M} Inv-loop μ-loop, mul-width, line-length-requires, fill-tables-requires, loop-holds, add-end, sub-earlier, sub-last, sub-line-within, part-line-within-end, sub-line-within-2, part-line-within-end-2, line-within-requires, one-more-requires, add-from, add-e, loop-less, loop-again, returns, needs))

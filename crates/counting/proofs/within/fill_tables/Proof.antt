@@ -5,13 +5,13 @@ use native.Mathlib.Omega.{arith}
 use borrow.Author.Needs.{needs}
 use lib.ListN.{length}
 use Rattle.lines.proofs.TableLaws.{length-put}
-use Rattle.counting.specs.Within.{Tables}
+use Rattle.counting.specs.Within.{BoundTables}
 use Rattle.counting.proofs.TableLaws.{tables-none, tables-next}
 use Rattle.counting.proofs.within.fill_tables.Statement.{statement}
 use Rattle.counting.proofs.within.fill_tables.Tie as tie
 
 abbrev Inv-loop : tie.InvT-loop
-Inv-loop low high lows₀ spans₀ k₀ lows spans k = (k ≤ length low) × (length lows ≡ 384) × (length spans ≡ 384) × Tables k low high lows spans
+Inv-loop low high lows₀ spans₀ k₀ lows spans k = (k ≤ length low) × (length lows ≡ 384) × (length spans ≡ 384) × BoundTables k low high lows spans
 
 abbrev μ-loop : tie.MeasureT-loop
 μ-loop low high lows₀ spans₀ k₀ lows spans k = length low - k
@@ -22,14 +22,8 @@ loop-holds c = let p = c .before .before .pre in (omega arith, p .0, p .1, table
 shared-slice-read-rank : tie.Need-shared-slice-read-rank Inv-loop μ-loop
 shared-slice-read-rank c = omega arith
 
-rank-requires : tie.Need-rank-requires Inv-loop μ-loop
-rank-requires c κs = search needs
-
 shared-slice-read-rank-2 : tie.Need-shared-slice-read-rank-2 Inv-loop μ-loop
 shared-slice-read-rank-2 c = omega (arith, c .before .before .before .before .before .before .before .pre .2 .as-many)
-
-rank-requires-2 : tie.Need-rank-requires-2 Inv-loop μ-loop
-rank-requires-2 c κs = search needs
 
 put-requires : tie.Need-put-requires Inv-loop μ-loop
 put-requires c κs = (omega (arith, c .before .before .before .before .before .before .before .before .before .pre .2 .few), c .before .before .before .before .before .before .loop .inv .1)
@@ -66,20 +60,5 @@ returns c =
     rw e at (l .inv .3)
 
 pub fill-tables-spec : {M : Type 1} → statement M
-fill-tables-spec =
-    tie.close
-    (tie.spec
-    Inv-loop
-    μ-loop
-    loop-holds
-    shared-slice-read-rank
-    rank-requires
-    shared-slice-read-rank-2
-    rank-requires-2
-    put-requires
-    sub-put
-    put-requires-2
-    add-k
-    loop-less
-    loop-again
-    returns)
+fill-tables-spec {M} =
+    tie.close (search (tie.spec {M = M} Inv-loop μ-loop, loop-holds, shared-slice-read-rank, shared-slice-read-rank-2, put-requires, sub-put, put-requires-2, add-k, loop-less, loop-again, returns, needs))

@@ -30,9 +30,6 @@ element-copy-out-stays-within c = omega (arith, c .before .before .before .befor
 element-copy-out-stays-within-2 : tie.Need-element-copy-out-stays-within-2 Inv-loop μ-loop
 element-copy-out-stays-within-2 c = omega (arith, c .before .before .before .before .before .before .before .pre .0)
 
-stays-within-requires : tie.Need-stays-within-requires Inv-loop μ-loop
-stays-within-requires c κs = search needs
-
 add-k : tie.Need-add-k Inv-loop μ-loop
 add-k c = omega arith
 
@@ -49,18 +46,5 @@ returns c =
     rw e at (l .inv .1)
 
 pub line-within-spec : {M : Type 1} → statement M
-line-within-spec =
-    tie.close
-    (tie.spec
-    Inv-loop
-    μ-loop
-    loop-holds
-    shared-slice-read-stays-within
-    shared-slice-read-stays-within-2
-    element-copy-out-stays-within
-    element-copy-out-stays-within-2
-    stays-within-requires
-    add-k
-    loop-less
-    loop-again
-    returns)
+line-within-spec {M} =
+    tie.close (search (tie.spec {M = M} Inv-loop μ-loop, loop-holds, shared-slice-read-stays-within, shared-slice-read-stays-within-2, element-copy-out-stays-within, element-copy-out-stays-within-2, add-k, loop-less, loop-again, returns, needs))

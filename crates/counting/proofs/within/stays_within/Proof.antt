@@ -5,15 +5,6 @@ use Rattle.counting.proofs.PassLaws.{passes-not, passes-yes, ranks-byte
 use Rattle.counting.proofs.within.stays_within.Statement.{statement}
 use Rattle.counting.proofs.within.stays_within.Tie as tie
 
-stated-requires : tie.Need-stated-requires
-stated-requires c κs = search needs
-
-rank-requires : tie.Need-rank-requires
-rank-requires c κs = search needs
-
-above-requires : tie.Need-above-requires
-above-requires c κs = search needs
-
 returns : tie.Need-returns
 returns c =
     let a = c .before .before .before .before .args in
@@ -35,5 +26,4 @@ returns-2 c =
     )
 
 pub stays-within-spec : {M : Type 1} → statement M
-stays-within-spec =
-    tie.close (tie.spec stated-requires rank-requires above-requires returns returns-2)
+stays-within-spec = tie.close (search (tie.spec, returns, returns-2, needs))

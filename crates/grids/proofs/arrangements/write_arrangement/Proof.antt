@@ -34,9 +34,6 @@ loop-holds c =
     let s = c .before .before .before in
     (map-length _ (s .args .columns .at) 16 (s .good .1 .1 .1 .1 .0 .1 .1 .0 .1 .0 .1), written-none _ _ _ _ _ _ (s .pre .2))
 
-row-requires : tie.Need-row-requires Inv-loop2 μ-loop2 Inv-loop μ-loop
-row-requires c κs = search needs
-
 loop2-holds : tie.Need-loop2-holds Inv-loop2 μ-loop2 Inv-loop μ-loop
 loop2-holds c = c .before .before .loop .inv
 
@@ -101,26 +98,5 @@ unfolding columnNumbers
 returns c = written-all (c .before .loop .inv .1) (omega arith)
 
 pub write-arrangement-spec : {M : Type 1} → statement M
-write-arrangement-spec =
-    tie.close
-    (tie.spec
-    Inv-loop2
-    μ-loop2
-    Inv-loop
-    μ-loop
-    loop-holds
-    row-requires
-    loop2-holds
-    array-copy-out-cell
-    cell-requires
-    mul-out
-    add-out
-    slice-write-out
-    add-j
-    loop2-less
-    loop2-again
-    add-i
-    loop-less
-    loop-again
-    same-length
-    returns)
+write-arrangement-spec {M} =
+    tie.close (search (tie.spec {M = M} Inv-loop2 μ-loop2 Inv-loop μ-loop, loop-holds, loop2-holds, array-copy-out-cell, cell-requires, mul-out, add-out, slice-write-out, add-j, loop2-less, loop2-again, add-i, loop-less, loop-again, same-length, returns, needs))

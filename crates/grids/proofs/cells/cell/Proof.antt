@@ -27,11 +27,9 @@ add-at c =
 shared-slice-read-result : tie.Need-shared-slice-read-result
 shared-slice-read-result c = search needs
 
-returns : tie.Need-returns
-returns c = search needs
-
 returns-2 : tie.Need-returns-2
 returns-2 c = sym (List·getD-eq-default (c .before .before .before .args .grid .now) 0 (c .if1 .left))
 
 pub cell-spec : {M : Type 1} → statement M
-cell-spec = tie.close (tie.spec cast-at mul-at cast-at-2 add-at shared-slice-read-result returns returns-2)
+cell-spec =
+    tie.close (search (tie.spec, cast-at, mul-at, cast-at-2, add-at, shared-slice-read-result, returns-2, needs))

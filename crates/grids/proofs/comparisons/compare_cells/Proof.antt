@@ -8,14 +8,8 @@ use Rattle.grids.proofs.comparisons.compare_cells.Tie as tie
 cell-requires : tie.Need-cell-requires
 cell-requires c κs = search needs
 
-rank-requires : tie.Need-rank-requires
-rank-requires c κs = search needs
-
 cell-requires-2 : tie.Need-cell-requires-2
 cell-requires-2 c κs = search needs
-
-rank-requires-2 : tie.Need-rank-requires-2
-rank-requires-2 c κs = search needs
 
 returns : tie.Need-returns
 returns c =
@@ -40,12 +34,4 @@ returns-3 c =
 
 pub compare-cells-spec : {M : Type 1} → statement M
 compare-cells-spec =
-    tie.close
-    (tie.spec
-    cell-requires
-    rank-requires
-    cell-requires-2
-    rank-requires-2
-    returns
-    returns-2
-    returns-3)
+    tie.close (search (tie.spec, cell-requires, cell-requires-2, returns, returns-2, returns-3, needs))

@@ -7,7 +7,8 @@ use borrow.Author.Needs.{needs}
 use borrow.Author.Tests.{not-true, not-false}
 use lib.ListN.{getD}
 use Rattle.permutations.specs.Rows.{rowNumbers}
-use Rattle.grids.specs.Grids.{cell, partOfColumn}
+use Rattle.grids.specs.Sorted.{partOfColumn}
+use Rattle.grids.specs.Grids.{cell}
 use Rattle.grids.proofs.ComparisonSteps.{cells-at, LeftFrom, left-decided, left-passed, left-equal}
 use Rattle.grids.proofs.comparisons.compare_columns.Statement.{statement}
 use Rattle.grids.proofs.comparisons.compare_columns.Tie as tie
@@ -24,14 +25,8 @@ loop-holds : tie.Need-loop-holds Inv-loop μ-loop
 unfolding partOfColumn
 loop-holds c = record { left = refl }
 
-row-requires : tie.Need-row-requires Inv-loop μ-loop
-row-requires c κs = search needs
-
 compare-cells-requires : tie.Need-compare-cells-requires Inv-loop μ-loop
 compare-cells-requires c κs = search needs
-
-is-equal-requires : tie.Need-is-equal-requires Inv-loop μ-loop
-is-equal-requires c κs = search needs
 
 returns : tie.Need-returns Inv-loop μ-loop
 returns c =
@@ -57,17 +52,5 @@ returns-2 : tie.Need-returns-2 Inv-loop μ-loop
 returns-2 c = let k = c .loop-test .left in left-equal (c .before .loop .inv) k k
 
 pub compare-columns-spec : {M : Type 1} → statement M
-compare-columns-spec =
-    tie.close
-    (tie.spec
-    Inv-loop
-    μ-loop
-    loop-holds
-    row-requires
-    compare-cells-requires
-    is-equal-requires
-    returns
-    add-i
-    loop-less
-    loop-again
-    returns-2)
+compare-columns-spec {M} =
+    tie.close (search (tie.spec {M = M} Inv-loop μ-loop, loop-holds, compare-cells-requires, returns, add-i, loop-less, loop-again, returns-2, needs))

@@ -23,14 +23,8 @@ returns c = left-longer (c .before .before .loop .inv) (omega arith) (c .if1 .ta
 shared-slice-read-rank : tie.Need-shared-slice-read-rank Inv-loop μ-loop
 shared-slice-read-rank c = omega arith
 
-rank-requires : tie.Need-rank-requires Inv-loop μ-loop
-rank-requires c κs = search needs
-
 shared-slice-read-rank-2 : tie.Need-shared-slice-read-rank-2 Inv-loop μ-loop
 shared-slice-read-rank-2 c = omega arith
-
-rank-requires-2 : tie.Need-rank-requires-2 Inv-loop μ-loop
-rank-requires-2 c κs = search needs
 
 returns-2 : tie.Need-returns-2 Inv-loop μ-loop
 returns-2 c =
@@ -60,21 +54,5 @@ returns-5 : tie.Need-returns-5 Inv-loop μ-loop
 returns-5 c = left-equal (c .before .before .loop .inv) (omega arith) (omega arith)
 
 pub compare-grids-spec : {M : Type 1} → statement M
-compare-grids-spec =
-    tie.close
-    (tie.spec
-    Inv-loop
-    μ-loop
-    loop-holds
-    returns
-    shared-slice-read-rank
-    rank-requires
-    shared-slice-read-rank-2
-    rank-requires-2
-    returns-2
-    returns-3
-    add-i
-    loop-less
-    loop-again
-    returns-4
-    returns-5)
+compare-grids-spec {M} =
+    tie.close (search (tie.spec {M = M} Inv-loop μ-loop, loop-holds, returns, shared-slice-read-rank, shared-slice-read-rank-2, returns-2, returns-3, add-i, loop-less, loop-again, returns-4, returns-5, needs))

@@ -39,17 +39,11 @@ array-copy-out-cell c = omega arith
 cell-requires : tie.Need-cell-requires Inv-loop μ-loop
 cell-requires c κs = search needs
 
-rank-requires : tie.Need-rank-requires Inv-loop μ-loop
-rank-requires c κs = search needs
-
 array-copy-out-cell-2 : tie.Need-array-copy-out-cell-2 Inv-loop μ-loop
 array-copy-out-cell-2 c = omega arith
 
 cell-requires-2 : tie.Need-cell-requires-2 Inv-loop μ-loop
 cell-requires-2 c κs = search needs
-
-rank-requires-2 : tie.Need-rank-requires-2 Inv-loop μ-loop
-rank-requires-2 c κs = search needs
 
 returns : tie.Need-returns Inv-loop μ-loop
 unfolding columnNumbers
@@ -97,21 +91,5 @@ unfolding columnNumbers
 returns-3 c = let k = c .loop-test .left in left-equal (c .before .loop .inv .2) k k
 
 pub compare-rows-spec : {M : Type 1} → statement M
-compare-rows-spec =
-    tie.close
-    (tie.spec
-    Inv-loop
-    μ-loop
-    loop-holds
-    array-copy-out-cell
-    cell-requires
-    rank-requires
-    array-copy-out-cell-2
-    cell-requires-2
-    rank-requires-2
-    returns
-    returns-2
-    add-j
-    loop-less
-    loop-again
-    returns-3)
+compare-rows-spec {M} =
+    tie.close (search (tie.spec {M = M} Inv-loop μ-loop, loop-holds, array-copy-out-cell, cell-requires, array-copy-out-cell-2, cell-requires-2, returns, returns-2, add-j, loop-less, loop-again, returns-3, needs))

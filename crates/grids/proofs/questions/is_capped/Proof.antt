@@ -21,9 +21,6 @@ loop-holds c = (omega arith, omega arith, greatest-none _)
 shared-slice-read-greater : tie.Need-shared-slice-read-greater Inv-loop μ-loop
 shared-slice-read-greater c = omega arith
 
-greater-requires : tie.Need-greater-requires Inv-loop μ-loop
-greater-requires c κs = search needs
-
 add-i : tie.Need-add-i Inv-loop μ-loop
 add-i c = omega arith
 
@@ -43,4 +40,5 @@ returns c =
     greatest-capped _ _ _ (rw e at (l .inv .2))
 
 pub is-capped-spec : {M : Type 1} → statement M
-is-capped-spec = tie.close (tie.spec Inv-loop μ-loop loop-holds shared-slice-read-greater greater-requires add-i loop-less loop-again cast-result returns)
+is-capped-spec {M} =
+    tie.close (search (tie.spec {M = M} Inv-loop μ-loop, loop-holds, shared-slice-read-greater, add-i, loop-less, loop-again, cast-result, returns, needs))

@@ -7,9 +7,6 @@ use Rattle.grids.proofs.QuestionSteps.{shape-limits, lengths-no, shape-
 use Rattle.grids.proofs.questions.shape_no.Statement.{statement}
 use Rattle.grids.proofs.questions.shape_no.Tie as tie
 
-limits-no-requires : tie.Need-limits-no-requires
-limits-no-requires c κs = search needs
-
 returns : tie.Need-returns
 returns c = shape-limits _ _ _ _ _ (c .before .limits-no .ensures) (c .if1 .taken)
 
@@ -32,4 +29,5 @@ returns-4 : tie.Need-returns-4
 returns-4 c = shape-yes _ _ _ _ _ (limits-decide _ _ _ .0 (sym (c .before .before .before .limits-no .ensures) ∙ c .before .before .if1 .left)) (c .before .if2 .left) (c .if3 .left)
 
 pub shape-no-spec : {M : Type 1} → statement M
-shape-no-spec = tie.close (tie.spec limits-no-requires returns mul-if2 returns-2 mul-if3 returns-3 returns-4)
+shape-no-spec =
+    tie.close (search (tie.spec, returns, mul-if2, returns-2, mul-if3, returns-3, returns-4, needs))

@@ -4,17 +4,8 @@ use Rattle.lines.proofs.ByteLaws.{stated-is}
 use Rattle.lines.proofs.bytes.stated.Statement.{statement}
 use Rattle.lines.proofs.bytes.stated.Tie as tie
 
-above-requires : tie.Need-above-requires
-above-requires c κs = search needs
-
-ten-requires : tie.Need-ten-requires
-ten-requires c κs = search needs
-
-wrapping-add-u8-requires : tie.Need-wrapping-add-u8-requires
-wrapping-add-u8-requires c κs = search needs
-
 returns : tie.Need-returns
 returns c = stated-is _ _ (c .before .before .above .result) (c .before .ten .result) _ (c .before .before .above .ensures) (c .before .ten .ensures) (c .wrapping-add-u8 .ensures)
 
 pub stated-spec : {M : Type 1} → statement M
-stated-spec = tie.close (tie.spec above-requires ten-requires wrapping-add-u8-requires returns)
+stated-spec = tie.close (search (tie.spec, returns, needs))

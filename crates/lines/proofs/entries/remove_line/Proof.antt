@@ -14,12 +14,6 @@ move-back-requires c κs = search needs
 sub-write-blank : tie.Need-sub-write-blank
 sub-write-blank c = search needs
 
-part-write-blank-start : tie.Need-part-write-blank-start
-part-write-blank-start c = search needs
-
-part-write-blank-end : tie.Need-part-write-blank-end
-part-write-blank-end c = search needs
-
 write-blank-requires : tie.Need-write-blank-requires
 write-blank-requires c κs = search needs
 
@@ -34,13 +28,4 @@ returns c =
 
 pub remove-line-spec : {M : Type 1} → statement M
 remove-line-spec =
-    tie.close
-    (tie.spec
-    line-length-requires
-    move-back-requires
-    sub-write-blank
-    part-write-blank-start
-    part-write-blank-end
-    write-blank-requires
-    same-length
-    returns)
+    tie.close (search (tie.spec, line-length-requires, move-back-requires, sub-write-blank, write-blank-requires, same-length, returns, needs))

@@ -23,9 +23,6 @@ add-end c = omega arith
 sub-write-number : tie.Need-sub-write-number Inv-loop μ-loop
 sub-write-number c = omega arith
 
-part-write-number-start : tie.Need-part-write-number-start Inv-loop μ-loop
-part-write-number-start c = search needs
-
 part-write-number-end : tie.Need-part-write-number-end Inv-loop μ-loop
 unfolding lineLength entryWidth
 part-write-number-end c = omega arith
@@ -60,22 +57,5 @@ returns : tie.Need-returns Inv-loop μ-loop
 returns c = entry-all (c .before .loop .inv) (omega arith) (c .before .before .before .before .pre .1)
 
 pub write-line-spec : {M : Type 1} → statement M
-write-line-spec =
-    tie.close
-    (tie.spec
-    Inv-loop
-    μ-loop
-    loop-holds
-    add-end
-    sub-write-number
-    part-write-number-start
-    part-write-number-end
-    shared-slice-read-write-number
-    cast-write-number
-    write-number-requires
-    add-k
-    loop-less
-    loop-again
-    slice-write-part
-    same-length
-    returns)
+write-line-spec {M} =
+    tie.close (search (tie.spec {M = M} Inv-loop μ-loop, loop-holds, add-end, sub-write-number, part-write-number-end, shared-slice-read-write-number, cast-write-number, write-number-requires, add-k, loop-less, loop-again, slice-write-part, same-length, returns, needs))

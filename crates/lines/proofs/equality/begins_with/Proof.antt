@@ -24,9 +24,6 @@ shared-slice-read-stays-equal c = omega arith
 shared-slice-read-stays-equal-2 : tie.Need-shared-slice-read-stays-equal-2 Inv-loop μ-loop
 shared-slice-read-stays-equal-2 c = omega arith
 
-stays-equal-requires : tie.Need-stays-equal-requires Inv-loop μ-loop
-stays-equal-requires c κs = search needs
-
 add-k : tie.Need-add-k Inv-loop μ-loop
 add-k c = omega arith
 
@@ -40,16 +37,5 @@ returns : tie.Need-returns Inv-loop μ-loop
 returns c = equal-start (c .before .loop .inv .1) (omega arith) (omega arith)
 
 pub begins-with-spec : {M : Type 1} → statement M
-begins-with-spec =
-    tie.close
-    (tie.spec
-    Inv-loop
-    μ-loop
-    loop-holds
-    shared-slice-read-stays-equal
-    shared-slice-read-stays-equal-2
-    stays-equal-requires
-    add-k
-    loop-less
-    loop-again
-    returns)
+begins-with-spec {M} =
+    tie.close (search (tie.spec {M = M} Inv-loop μ-loop, loop-holds, shared-slice-read-stays-equal, shared-slice-read-stays-equal-2, add-k, loop-less, loop-again, returns, needs))

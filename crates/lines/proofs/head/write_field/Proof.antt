@@ -10,14 +10,8 @@ add-end c = search needs
 sub-write-number : tie.Need-sub-write-number
 sub-write-number c = search needs
 
-part-write-number-start : tie.Need-part-write-number-start
-part-write-number-start c = search needs
-
 part-write-number-end : tie.Need-part-write-number-end
 part-write-number-end c = search needs
-
-write-number-requires : tie.Need-write-number-requires
-write-number-requires c κs = search needs
 
 same-length : tie.Need-same-length
 same-length c = search needs
@@ -28,4 +22,5 @@ returns c =
     field-written (s .args .out .now) _ (s .args .at) (s .args .number) (s .pre) (c .before .before .write-number .ensures)
 
 pub write-field-spec : {M : Type 1} → statement M
-write-field-spec = tie.close (tie.spec add-end sub-write-number part-write-number-start part-write-number-end write-number-requires same-length returns)
+write-field-spec =
+    tie.close (search (tie.spec, add-end, sub-write-number, part-write-number-end, same-length, returns, needs))

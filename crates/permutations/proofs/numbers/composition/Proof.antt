@@ -2,40 +2,23 @@
 use mathlib.Core.Path.{sym, _∙_}
 use borrow.Author.Tests.{not-true, not-false}
 use borrow.Author.Needs.{needs}
-use Rattle.permutations.proofs.PaddedLaws.{isSound-take, composedPadded-sizes, composedPadded-first, composedPadded-second, followed-is, own-composed}
+use Rattle.permutations.proofs.PaddedLaws.{composedPadded-sizes, composedPadded-first, composedPadded-second}
+use Rattle.permutations.proofs.NumbersSteps.{isSound-take, followed-is, own-composed}
 use Rattle.permutations.proofs.numbers.composition.Statement.{statement}
 use Rattle.permutations.proofs.numbers.composition.Tie as tie
 
-own-numbers-requires : tie.Need-own-numbers-requires
-own-numbers-requires c κs = search needs
-
 returns : tie.Need-returns
 returns c = λ h. own-composed _ 16 _ _ _ h _ _ (composedPadded-sizes _ _ _ _ _ (c .before .if1 .taken)) (c .own-numbers .ensures)
-
-lists-each-once-requires : tie.Need-lists-each-once-requires
-lists-each-once-requires c κs = search needs
-
-own-numbers-requires-2 : tie.Need-own-numbers-requires-2
-own-numbers-requires-2 c κs = search needs
 
 returns-2 : tie.Need-returns-2
 returns-2 c = λ h.
     let t = isSound-take _ _ _ ∙ sym (c .before .before .lists-each-once .ensures) ∙ not-true _ (c .before .if2 .taken) in
     own-composed _ 16 _ _ _ h _ _ (composedPadded-first _ _ _ _ _ t) (c .own-numbers2 .ensures)
 
-lists-each-once-requires-2 : tie.Need-lists-each-once-requires-2
-lists-each-once-requires-2 c κs = search needs
-
-own-numbers-requires-3 : tie.Need-own-numbers-requires-3
-own-numbers-requires-3 c κs = search needs
-
 returns-3 : tie.Need-returns-3
 returns-3 c = λ h.
     let t = isSound-take _ _ _ ∙ sym (c .before .before .lists-each-once2 .ensures) ∙ not-true _ (c .before .if3 .taken) in
     own-composed _ 16 _ _ _ h _ _ (composedPadded-second _ _ _ _ _ t) (c .own-numbers3 .ensures)
-
-followed-requires : tie.Need-followed-requires
-followed-requires c κs = search needs
 
 returns-4 : tie.Need-returns-4
 returns-4 c = λ h.
@@ -45,16 +28,4 @@ returns-4 c = λ h.
     followed-is _ 16 _ _ _ h _ _ (d .before .before .before .before .if1 .left) tp tr (c .followed .ensures)
 
 pub composition-spec : {M : Type 1} → statement M
-composition-spec =
-    tie.close
-    (tie.spec
-    own-numbers-requires
-    returns
-    lists-each-once-requires
-    own-numbers-requires-2
-    returns-2
-    lists-each-once-requires-2
-    own-numbers-requires-3
-    returns-3
-    followed-requires
-    returns-4)
+composition-spec = tie.close (search (tie.spec, returns, returns-2, returns-3, returns-4, needs))

@@ -8,7 +8,7 @@ use lib.ListN.{getD}
 use Rattle.permutations.specs.Permutations.{composed}
 use Rattle.permutations.specs.Padded.{padded}
 use Rattle.permutations.proofs.PermutationLaws.{at-composed}
-use Rattle.permutations.proofs.PaddedLaws.{padded-none, padded-more, padded-end}
+use Rattle.permutations.proofs.NumbersSteps.{padded-none, padded-more, padded-end}
 use Rattle.permutations.proofs.numbers.followed.Statement.{statement}
 use Rattle.permutations.proofs.numbers.followed.Tie as tie
 
@@ -18,23 +18,14 @@ Inv-loop p r n out₀ i₀ out i = (i ≤ 16) × (i ≤ n) × (out ≡ padded 16
 abbrev μ-loop : tie.MeasureT-loop
 μ-loop p r n out₀ i₀ out i = 16 - i
 
-own-numbers-requires : tie.Need-own-numbers-requires Inv-loop μ-loop
-own-numbers-requires c κs = search needs
-
 loop-holds : tie.Need-loop-holds Inv-loop μ-loop
 loop-holds c = (omega arith, omega arith, c .own-numbers .ensures ∙ padded-none 16 _)
 
 returns : tie.Need-returns Inv-loop μ-loop
 returns c = let l = c .before .before .loop in padded-end 16 (l .i) _ _ _ (omega arith) (omega arith) (l .inv .2)
 
-number-at-requires : tie.Need-number-at-requires Inv-loop μ-loop
-number-at-requires c κs = search needs
-
 cast-number-at : tie.Need-cast-number-at Inv-loop μ-loop
 cast-number-at c = omega arith
-
-number-at-requires-2 : tie.Need-number-at-requires-2 Inv-loop μ-loop
-number-at-requires-2 c κs = search needs
 
 array-write-out : tie.Need-array-write-out Inv-loop μ-loop
 array-write-out c = omega arith
@@ -56,19 +47,5 @@ returns-2 : tie.Need-returns-2 Inv-loop μ-loop
 returns-2 c = let l = c .before .loop in padded-end 16 (l .i) _ _ _ (omega arith) (omega arith) (l .inv .2)
 
 pub followed-spec : {M : Type 1} → statement M
-followed-spec =
-    tie.close
-    (tie.spec
-    Inv-loop
-    μ-loop
-    own-numbers-requires
-    loop-holds
-    returns
-    number-at-requires
-    cast-number-at
-    number-at-requires-2
-    array-write-out
-    add-i
-    loop-less
-    loop-again
-    returns-2)
+followed-spec {M} =
+    tie.close (search (tie.spec {M = M} Inv-loop μ-loop, loop-holds, returns, cast-number-at, array-write-out, add-i, loop-less, loop-again, returns-2, needs))

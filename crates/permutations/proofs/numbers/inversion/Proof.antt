@@ -2,23 +2,14 @@
 use mathlib.Core.Path.{sym, _∙_}
 use borrow.Author.Tests.{not-true, not-false}
 use borrow.Author.Needs.{needs}
-use Rattle.permutations.proofs.PaddedLaws.{reversed-is, own-inverse}
+use Rattle.permutations.proofs.NumbersSteps.{reversed-is, own-inverse}
 use Rattle.permutations.proofs.numbers.inversion.Statement.{statement}
 use Rattle.permutations.proofs.numbers.inversion.Tie as tie
-
-lists-each-once-requires : tie.Need-lists-each-once-requires
-lists-each-once-requires c κs = search needs
-
-own-numbers-requires : tie.Need-own-numbers-requires
-own-numbers-requires c κs = search needs
 
 returns : tie.Need-returns
 returns c = λ h.
     let t = sym (c .before .before .lists-each-once .ensures) ∙ not-true _ (c .before .if1 .taken) in
     own-inverse _ 16 _ _ _ h t (c .own-numbers .ensures)
-
-reversed-requires : tie.Need-reversed-requires
-reversed-requires c κs = search needs
 
 returns-2 : tie.Need-returns-2
 returns-2 c = λ h.
@@ -26,4 +17,4 @@ returns-2 c = λ h.
     reversed-is _ 16 _ _ _ h t (c .reversed .ensures)
 
 pub inversion-spec : {M : Type 1} → statement M
-inversion-spec = tie.close (tie.spec lists-each-once-requires own-numbers-requires returns reversed-requires returns-2)
+inversion-spec = tie.close (search (tie.spec, returns, returns-2, needs))

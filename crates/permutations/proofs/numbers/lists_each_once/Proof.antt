@@ -8,7 +8,8 @@ use borrow.Author.Needs.{needs}
 use lib.ListN.{take, length-take}
 use Rattle.permutations.specs.Permutations.{position}
 use Rattle.permutations.proofs.PermutationLaws.{position-within}
-use Rattle.permutations.proofs.PaddedLaws.{isSound-yes, isSound-no, listing-sound}
+use Rattle.permutations.proofs.PaddedLaws.{isSound-yes, isSound-no}
+use Rattle.permutations.proofs.NumbersSteps.{listing-sound}
 use Rattle.permutations.proofs.numbers.lists_each_once.Statement.{statement}
 use Rattle.permutations.proofs.numbers.lists_each_once.Tie as tie
 
@@ -34,9 +35,6 @@ loop-holds c = (omega arith, λ j h. absurd (omega arith))
 
 cast-first-position : tie.Need-cast-first-position Inv-loop μ-loop
 cast-first-position c = omega arith
-
-first-position-requires : tie.Need-first-position-requires Inv-loop μ-loop
-first-position-requires c κs = search needs
 
 returns-4 : tie.Need-returns-4 Inv-loop μ-loop
 returns-4 c =
@@ -65,19 +63,5 @@ returns-5 c =
     (listing-sound (a .width) (a .n) (a .p) (omega arith) (omega arith) (omega arith) λ k h. l .inv .1 k (omega arith)))
 
 pub lists-each-once-spec : {M : Type 1} → statement M
-lists-each-once-spec =
-    tie.close
-    (tie.spec
-    Inv-loop
-    μ-loop
-    returns
-    returns-2
-    returns-3
-    loop-holds
-    cast-first-position
-    first-position-requires
-    returns-4
-    add-k
-    loop-less
-    loop-again
-    returns-5)
+lists-each-once-spec {M} =
+    tie.close (search (tie.spec {M = M} Inv-loop μ-loop, returns, returns-2, returns-3, loop-holds, cast-first-position, returns-4, add-k, loop-less, loop-again, returns-5, needs))

@@ -9,7 +9,7 @@ use Rattle.permutations.specs.Permutations.{inverse}
 use Rattle.permutations.specs.Padded.{padded}
 use Rattle.permutations.proofs.PermutationLaws.{at-inverse}
 use Rattle.permutations.proofs.PositionLaws.{position-at-most}
-use Rattle.permutations.proofs.PaddedLaws.{padded-none, padded-more, padded-end}
+use Rattle.permutations.proofs.NumbersSteps.{padded-none, padded-more, padded-end}
 use Rattle.permutations.proofs.numbers.reversed.Statement.{statement}
 use Rattle.permutations.proofs.numbers.reversed.Tie as tie
 
@@ -19,9 +19,6 @@ Inv-loop p n out₀ k₀ out k = (k ≤ 16) × (k ≤ n) × (out ≡ padded 16 k
 abbrev μ-loop : tie.MeasureT-loop
 μ-loop p n out₀ k₀ out k = 16 - k
 
-own-numbers-requires : tie.Need-own-numbers-requires Inv-loop μ-loop
-own-numbers-requires c κs = search needs
-
 loop-holds : tie.Need-loop-holds Inv-loop μ-loop
 loop-holds c = (omega arith, omega arith, c .own-numbers .ensures ∙ padded-none 16 _)
 
@@ -30,9 +27,6 @@ returns c = let l = c .before .before .loop in padded-end 16 (l .k) _ _ _ (omega
 
 cast-first-position : tie.Need-cast-first-position Inv-loop μ-loop
 cast-first-position c = omega arith
-
-first-position-requires : tie.Need-first-position-requires Inv-loop μ-loop
-first-position-requires c κs = search needs
 
 cast-out : tie.Need-cast-out Inv-loop μ-loop
 cast-out c =
@@ -60,19 +54,5 @@ returns-2 : tie.Need-returns-2 Inv-loop μ-loop
 returns-2 c = let l = c .before .loop in padded-end 16 (l .k) _ _ _ (omega arith) (omega arith) (l .inv .2)
 
 pub reversed-spec : {M : Type 1} → statement M
-reversed-spec =
-    tie.close
-    (tie.spec
-    Inv-loop
-    μ-loop
-    own-numbers-requires
-    loop-holds
-    returns
-    cast-first-position
-    first-position-requires
-    cast-out
-    array-write-out
-    add-k
-    loop-less
-    loop-again
-    returns-2)
+reversed-spec {M} =
+    tie.close (search (tie.spec {M = M} Inv-loop μ-loop, loop-holds, returns, cast-first-position, cast-out, array-write-out, add-k, loop-less, loop-again, returns-2, needs))

@@ -7,12 +7,6 @@ use Rattle.register.proofs.AskSteps.{laid-yes, laid-head, head-size, as
 use Rattle.register.proofs.asking.ask.Statement.{statement}
 use Rattle.register.proofs.asking.ask.Tie as tie
 
-is-laid-out-requires : tie.Need-is-laid-out-requires
-is-laid-out-requires c κs = search needs
-
-refusal-requires : tie.Need-refusal-requires
-refusal-requires c κs = search needs
-
 returns : tie.Need-returns
 returns c =
     let t = c .before .before .is-laid-out in
@@ -24,17 +18,8 @@ read-head-requires c κs = laid-head _ (laid-yes _ (c .before .is-laid-out .ensu
 mul-size : tie.Need-mul-size
 mul-size c = omega (arith, head-size (laid-yes _ (c .before .before .before .is-laid-out .ensures) (c .before .before .if1 .left)) (c .before .read-head .ensures))
 
-sub-represent : tie.Need-sub-represent
-sub-represent c = search needs
-
-part-represent-start : tie.Need-part-represent-start
-part-represent-start c = search needs
-
 part-represent-end : tie.Need-part-represent-end
 part-represent-end c = omega (arith, head-size (laid-yes _ (c .before .before .before .is-laid-out .ensures) (c .before .before .if1 .left)) (c .before .read-head .ensures), c .before .before .before .before .before .before .before .pre)
-
-represent-requires : tie.Need-represent-requires
-represent-requires c κs = search needs
 
 same-length : tie.Need-same-length
 same-length c = search needs
@@ -47,16 +32,4 @@ returns-2 c =
 
 pub ask-spec : {M : Type 1} → statement M
 ask-spec =
-    tie.close
-    (tie.spec
-    is-laid-out-requires
-    refusal-requires
-    returns
-    read-head-requires
-    mul-size
-    sub-represent
-    part-represent-start
-    part-represent-end
-    represent-requires
-    same-length
-    returns-2)
+    tie.close (search (tie.spec, returns, read-head-requires, mul-size, part-represent-end, same-length, returns-2, needs))

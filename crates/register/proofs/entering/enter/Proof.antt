@@ -6,29 +6,11 @@ use Rattle.register.proofs.AskSteps.{asked-fits, asked-valid, call-refu
 use Rattle.register.proofs.entering.enter.Statement.{statement}
 use Rattle.register.proofs.entering.enter.Tie as tie
 
-slice-aggregate-ask : tie.Need-slice-aggregate-ask
-slice-aggregate-ask c = search needs
-
-ask-requires : tie.Need-ask-requires
-ask-requires c κs = search needs
-
-refused-requires : tie.Need-refused-requires
-refused-requires c κs = search needs
-
-same-length : tie.Need-same-length
-same-length c = search needs
-
 returns : tie.Need-returns
 returns c =
     let a = c .before .before .before .before .before .before .before .before .before in
     let k = c .before .before .before .before .ask in
     call-refused (k .ensures) (enteredLeast (a .args .register .now)) (entered-asked (a .args .register .now) (a .args .grid .now)) (c .before .if1 .taken) (c .refused .ensures .0) (c .refused .ensures .1)
-
-sub-enter-least : tie.Need-sub-enter-least
-sub-enter-least c = search needs
-
-part-enter-least-start : tie.Need-part-enter-least-start
-part-enter-least-start c = search needs
 
 part-enter-least-end : tie.Need-part-enter-least-end
 part-enter-least-end c =
@@ -52,16 +34,4 @@ returns-2 c =
 
 pub enter-spec : {M : Type 1} → statement M
 enter-spec =
-    tie.close
-    (tie.spec
-    slice-aggregate-ask
-    ask-requires
-    refused-requires
-    same-length
-    returns
-    sub-enter-least
-    part-enter-least-start
-    part-enter-least-end
-    enter-least-requires
-    same-length-2
-    returns-2)
+    tie.close (search (tie.spec, returns, part-enter-least-end, enter-least-requires, same-length-2, returns-2, needs))

@@ -24,19 +24,10 @@ add-t15 c =
     let a = c .before .before .before .before .before .before .before in
     omega (arith, place-small (a .pre .0) (c .before .before .before .lower-bound .ensures))
 
-same-length : tie.Need-same-length
-same-length c = search needs
-
 returns : tie.Need-returns
 returns c =
     let a = c .before .before .before .before .before .before .before in
     enter-held (a .pre .0) (c .before .before .before .lower-bound .ensures) (c .before .is-entry .ensures) (c .if1 .taken)
-
-refused-requires : tie.Need-refused-requires
-refused-requires c κs = search needs
-
-same-length-2 : tie.Need-same-length-2
-same-length-2 c = search needs
 
 returns-2 : tie.Need-returns-2
 returns-2 c =
@@ -64,20 +55,8 @@ mul-moved c = omega (arith, (enter-room (c .before .before .before .before .befo
 sub-insert-line : tie.Need-sub-insert-line
 sub-insert-line c = (enter-room (c .before .before .before .before .before .before .before .before .before .pre .0) (c .before .before .before .before .before .lower-bound .ensures) (c .before .before .before .before .before .before .before .before .before .pre .1) (c .before .if2 .left) (c .line-length .ensures .0)) .start-inside
 
-part-insert-line-start : tie.Need-part-insert-line-start
-part-insert-line-start c = (enter-room (c .before .before .before .before .before .before .before .before .before .pre .0) (c .before .before .before .before .before .lower-bound .ensures) (c .before .before .before .before .before .before .before .before .before .pre .1) (c .before .if2 .left) (c .line-length .ensures .0)) .start-inside
-
-part-insert-line-end : tie.Need-part-insert-line-end
-part-insert-line-end c = search needs
-
 insert-line-requires : tie.Need-insert-line-requires
 insert-line-requires c κs = (valid-sizes (c .before .before .before .before .before .before .before .before .before .before .pre .0) .cells-fit, room-part (enter-room (c .before .before .before .before .before .before .before .before .before .before .pre .0) (c .before .before .before .before .before .before .lower-bound .ensures) (c .before .before .before .before .before .before .before .before .before .before .pre .1) (c .before .before .if2 .left) (c .before .line-length .ensures .0)) (sym (c .before .line-length .ensures .0)))
-
-sub-write-number : tie.Need-sub-write-number
-sub-write-number c = search needs
-
-part-write-number-start : tie.Need-part-write-number-start
-part-write-number-start c = search needs
 
 part-write-number-end : tie.Need-part-write-number-end
 part-write-number-end c =
@@ -86,9 +65,6 @@ part-write-number-end c =
 
 add-write-number : tie.Need-add-write-number
 add-write-number c = search needs
-
-write-number-requires : tie.Need-write-number-requires
-write-number-requires c κs = search needs
 
 cast-t26 : tie.Need-cast-t26
 cast-t26 c =
@@ -114,32 +90,4 @@ returns-3 c =
 
 pub enter-least-spec : {M : Type 1} → statement M
 enter-least-spec =
-    tie.close
-    (tie.spec
-    lower-bound-requires
-    is-entry-requires
-    cast-t14
-    add-t15
-    same-length
-    returns
-    refused-requires
-    same-length-2
-    returns-2
-    line-length-requires
-    mul-start
-    add-start
-    sub-moved
-    mul-moved
-    sub-insert-line
-    part-insert-line-start
-    part-insert-line-end
-    insert-line-requires
-    sub-write-number
-    part-write-number-start
-    part-write-number-end
-    add-write-number
-    write-number-requires
-    cast-t26
-    add-t27
-    same-length-3
-    returns-3)
+    tie.close (search (tie.spec, lower-bound-requires, is-entry-requires, cast-t14, add-t15, returns, returns-2, line-length-requires, mul-start, add-start, sub-moved, mul-moved, sub-insert-line, insert-line-requires, part-write-number-end, add-write-number, cast-t26, add-t27, same-length-3, returns-3, needs))

@@ -9,9 +9,6 @@ use Rattle.register.proofs.FitParts.{copy-fits, copy-part, count-small,
 use Rattle.register.proofs.fitting.fit.Statement.{statement}
 use Rattle.register.proofs.fitting.fit.Tie as tie
 
-is-laid-out-requires : tie.Need-is-laid-out-requires
-is-laid-out-requires c κs = search needs
-
 returns : tie.Need-returns
 returns c = let t = c .before .is-laid-out in fit-unlaid _ _ _ (sym (t .ensures) ∙ not-true (t .result) (c .if1 .taken))
 
@@ -36,23 +33,11 @@ returns-3 c =
     let h = c .before .before .before .read-head .ensures in
     lengths-differ laid h _ _ (λ q. c .if3 .taken (q .1))
 
-sub-prune-copies : tie.Need-sub-prune-copies
-sub-prune-copies c = search needs
-
-part-lows-start : tie.Need-part-lows-start
-part-lows-start c = search needs
-
 part-lows-end : tie.Need-part-lows-end
 part-lows-end c =
     let laid = laid-yes _ (c .before .before .before .before .before .is-laid-out .ensures) (c .before .before .before .before .if1 .left) in
     let h = c .before .before .before .read-head .ensures in
     head-size laid h
-
-sub-prune-copies-2 : tie.Need-sub-prune-copies-2
-sub-prune-copies-2 c = search needs
-
-part-highs-start : tie.Need-part-highs-start
-part-highs-start c = search needs
 
 part-highs-end : tie.Need-part-highs-end
 part-highs-end c =
@@ -69,24 +54,12 @@ returns-4 c =
     let h = c .before .before .before .before .before .before .before .before .before .read-head .ensures in
     fit-refused laid h _ _ (c .before .before .before .prune-copies .ensures) (c .if4 .taken)
 
-sub-count-within : tie.Need-sub-count-within
-sub-count-within c = search needs
-
-part-count-within-start : tie.Need-part-count-within-start
-part-count-within-start c = search needs
-
 part-count-within-end : tie.Need-part-count-within-end
 part-count-within-end c =
     let laid = laid-yes _ (c .before .before .before .before .before .before .before .before .before .before .before .before .is-laid-out .ensures) (c .before .before .before .before .before .before .before .before .before .before .before .if1 .left) in
     let h = c .before .before .before .before .before .before .before .before .before .before .read-head .ensures in
     let d = c .before .before .before .before .prune-copies in
     copy-fits laid h _ (d .last .1 .1 .1 .1 .1 .0) _ (omega arith) (d .kept .1 .1 .1 .1 .1 .0)
-
-sub-count-within-2 : tie.Need-sub-count-within-2
-sub-count-within-2 c = search needs
-
-part-count-within-start-2 : tie.Need-part-count-within-start-2
-part-count-within-start-2 c = search needs
 
 part-count-within-end-2 : tie.Need-part-count-within-end-2
 part-count-within-end-2 c =
@@ -117,28 +90,4 @@ returns-5 c =
 
 pub fit-spec : {M : Type 1} → statement M
 fit-spec =
-    tie.close
-    (tie.spec
-    is-laid-out-requires
-    returns
-    read-head-requires
-    mul-size
-    returns-2
-    returns-3
-    sub-prune-copies
-    part-lows-start
-    part-lows-end
-    sub-prune-copies-2
-    part-highs-start
-    part-highs-end
-    prune-copies-requires
-    returns-4
-    sub-count-within
-    part-count-within-start
-    part-count-within-end
-    sub-count-within-2
-    part-count-within-start-2
-    part-count-within-end-2
-    count-within-requires
-    cast-t30
-    returns-5)
+    tie.close (search (tie.spec, returns, read-head-requires, mul-size, returns-2, returns-3, part-lows-end, part-highs-end, prune-copies-requires, returns-4, part-count-within-end, part-count-within-end-2, count-within-requires, cast-t30, returns-5, needs))

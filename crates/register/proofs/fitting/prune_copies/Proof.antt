@@ -12,9 +12,6 @@ copy-requires c κs = search needs
 copy-requires-2 : tie.Need-copy-requires-2
 copy-requires-2 c κs = search needs
 
-prune-requires : tie.Need-prune-requires
-prune-requires c κs = search needs
-
 same-length : tie.Need-same-length
 same-length c = search needs
 
@@ -29,5 +26,4 @@ returns c =
 
 pub prune-copies-spec : {M : Type 1} → statement M
 prune-copies-spec =
-    tie.close
-    (tie.spec copy-requires copy-requires-2 prune-requires same-length same-length-2 returns)
+    tie.close (search (tie.spec, copy-requires, copy-requires-2, same-length, same-length-2, returns, needs))

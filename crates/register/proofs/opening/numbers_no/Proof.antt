@@ -5,9 +5,6 @@ use Rattle.register.proofs.OpenSteps.{limits-no, capacity-no, numbers-y
 use Rattle.register.proofs.opening.numbers_no.Statement.{statement}
 use Rattle.register.proofs.opening.numbers_no.Tie as tie
 
-limits-no-requires : tie.Need-limits-no-requires
-limits-no-requires c κs = search needs
-
 returns : tie.Need-returns
 returns c = limits-no _ _ _ _ (c .before .limits-no .ensures) (c .if1 .taken)
 
@@ -21,4 +18,4 @@ returns-4 : tie.Need-returns-4
 returns-4 c = numbers-yes _ _ _ _ (c .before .before .before .limits-no .ensures) (c .before .before .if1 .left) (omega arith, omega arith)
 
 pub numbers-no-spec : {M : Type 1} → statement M
-numbers-no-spec = tie.close (tie.spec limits-no-requires returns returns-2 returns-3 returns-4)
+numbers-no-spec = tie.close (search (tie.spec, returns, returns-2, returns-3, returns-4, needs))

@@ -6,9 +6,6 @@ use Rattle.register.proofs.OpenSteps.{open-numbers, length-no, open-yes
 use Rattle.register.proofs.opening.open_no.Statement.{statement}
 use Rattle.register.proofs.opening.open_no.Tie as tie
 
-numbers-no-requires : tie.Need-numbers-no-requires
-numbers-no-requires c κs = search needs
-
 returns : tie.Need-returns
 returns c = open-numbers _ _ (c .before .numbers-no .ensures) (c .if1 .taken)
 
@@ -30,4 +27,4 @@ returns-3 c =
 
 pub open-no-spec : {M : Type 1} → statement M
 open-no-spec =
-    tie.close (tie.spec numbers-no-requires returns mul-register-length register-length-requires returns-2 returns-3)
+    tie.close (search (tie.spec, returns, mul-register-length, register-length-requires, returns-2, returns-3, needs))

@@ -4,20 +4,11 @@ use Rattle.register.proofs.OpenSteps.{opened-no, opened-passes, opened-
 use Rattle.register.proofs.opening.open_register.Statement.{statement}
 use Rattle.register.proofs.opening.open_register.Tie as tie
 
-open-no-requires : tie.Need-open-no-requires
-open-no-requires c κs = search needs
-
-refused-requires : tie.Need-refused-requires
-refused-requires c κs = search needs
-
 returns : tie.Need-returns
 returns c = opened-no _ _ (c .before .before .open-no .ensures) (c .before .if1 .taken) (c .refused .ensures .0) (c .refused .ensures .1)
 
 write-empty-requires : tie.Need-write-empty-requires
 write-empty-requires c κs = opened-passes _ (c .before .before .before .before .args .register .now) (c .before .before .open-no .ensures) (c .before .if1 .left)
-
-refused-requires-2 : tie.Need-refused-requires-2
-refused-requires-2 c κs = search needs
 
 same-length : tie.Need-same-length
 same-length c = search needs
@@ -27,12 +18,4 @@ returns-2 c = opened-yes _ _ (c .before .before .before .before .before .before 
 
 pub open-register-spec : {M : Type 1} → statement M
 open-register-spec =
-    tie.close
-    (tie.spec
-    open-no-requires
-    refused-requires
-    returns
-    write-empty-requires
-    refused-requires-2
-    same-length
-    returns-2)
+    tie.close (search (tie.spec, returns, write-empty-requires, same-length, returns-2, needs))

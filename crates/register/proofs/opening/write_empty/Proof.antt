@@ -4,7 +4,7 @@ use Prim.Native.Nat.{_-_}
 use native.Mathlib.Omega.{arith}
 use lib.Seq.{length-take-le}
 use borrow.Author.Needs.{needs}
-use Rattle.machine.specs.Valid.{shape}
+use Rattle.machine.specs.Calls.{shape}
 use Rattle.machine.proofs.ValidMoves.{room-part}
 use Rattle.register.proofs.OpenSteps.{Filling, filling-head, filling-next, filling-all, filling-room, limits-size, head-fits}
 use Rattle.register.proofs.opening.write_empty.Statement.{statement}
@@ -25,9 +25,6 @@ line-length-requires c κs = let a = c .before in limits-size _ (a .pre .0)
 sub-write-head : tie.Need-sub-write-head Inv-loop μ-loop
 sub-write-head c = omega arith
 
-part-write-head-start : tie.Need-part-write-head-start Inv-loop μ-loop
-part-write-head-start c = search needs
-
 part-write-head-end : tie.Need-part-write-head-end Inv-loop μ-loop
 part-write-head-end c = let a = c .before .before in head-fits _ (a .args .register .now) (a .pre .1)
 
@@ -46,16 +43,6 @@ sub-write-blank c =
     let l = c .before .loop in
     let r = filling-room (a .pre .0) (l .inv) (omega arith) in
     r .start-inside
-
-part-write-blank-start : tie.Need-part-write-blank-start Inv-loop μ-loop
-part-write-blank-start c =
-    let a = c .before .before .before .before .before .before .before .before in
-    let l = c .before .loop in
-    let r = filling-room (a .pre .0) (l .inv) (omega arith) in
-    r .start-inside
-
-part-write-blank-end : tie.Need-part-write-blank-end Inv-loop μ-loop
-part-write-blank-end c = search needs
 
 write-blank-requires : tie.Need-write-blank-requires Inv-loop μ-loop
 write-blank-requires c κs =
@@ -93,25 +80,5 @@ returns : tie.Need-returns Inv-loop μ-loop
 returns c = filling-all (c .before .loop .inv) (omega arith)
 
 pub write-empty-spec : {M : Type 1} → statement M
-write-empty-spec =
-    tie.close
-    (tie.spec
-    Inv-loop
-    μ-loop
-    mul-size
-    line-length-requires
-    sub-write-head
-    part-write-head-start
-    part-write-head-end
-    write-head-requires
-    loop-holds
-    sub-write-blank
-    part-write-blank-start
-    part-write-blank-end
-    write-blank-requires
-    add-start
-    add-e
-    loop-less
-    loop-again
-    same-length
-    returns)
+write-empty-spec {M} =
+    tie.close (search (tie.spec {M = M} Inv-loop μ-loop, mul-size, line-length-requires, sub-write-head, part-write-head-end, write-head-requires, loop-holds, sub-write-blank, write-blank-requires, add-start, add-e, loop-less, loop-again, same-length, returns, needs))

@@ -18,9 +18,6 @@ compare-entry-requires c κs =
     let a = c .before .before .before .before in
     (a .pre .0, omega (arith, a .pre .2, a .pre .1 .within, valid-count (a .pre .0)))
 
-is-less-requires : tie.Need-is-less-requires
-is-less-requires c κs = search needs
-
 add-t10 : tie.Need-add-t10
 add-t10 c = search needs
 
@@ -38,12 +35,4 @@ returns-2 c =
 
 pub halved-spec : {M : Type 1} → statement M
 halved-spec =
-    tie.close
-    (tie.spec
-    sub-middle
-    add-middle
-    compare-entry-requires
-    is-less-requires
-    add-t10
-    returns
-    returns-2)
+    tie.close (search (tie.spec, sub-middle, add-middle, compare-entry-requires, add-t10, returns, returns-2, needs))

@@ -6,29 +6,11 @@ use Rattle.register.proofs.AskSteps.{asked-fits, asked-valid, call-refu
 use Rattle.register.proofs.striking.strike.Statement.{statement}
 use Rattle.register.proofs.striking.strike.Tie as tie
 
-slice-aggregate-ask : tie.Need-slice-aggregate-ask
-slice-aggregate-ask c = search needs
-
-ask-requires : tie.Need-ask-requires
-ask-requires c κs = search needs
-
-refused-requires : tie.Need-refused-requires
-refused-requires c κs = search needs
-
-same-length : tie.Need-same-length
-same-length c = search needs
-
 returns : tie.Need-returns
 returns c =
     let a = c .before .before .before .before .before .before .before .before .before in
     let k = c .before .before .before .before .ask in
     call-refused (k .ensures) (struckLeast (a .args .register .now)) (struck-asked (a .args .register .now) (a .args .grid .now)) (c .before .if1 .taken) (c .refused .ensures .0) (c .refused .ensures .1)
-
-sub-strike-least : tie.Need-sub-strike-least
-sub-strike-least c = search needs
-
-part-strike-least-start : tie.Need-part-strike-least-start
-part-strike-least-start c = search needs
 
 part-strike-least-end : tie.Need-part-strike-least-end
 part-strike-least-end c =
@@ -52,16 +34,4 @@ returns-2 c =
 
 pub strike-spec : {M : Type 1} → statement M
 strike-spec =
-    tie.close
-    (tie.spec
-    slice-aggregate-ask
-    ask-requires
-    refused-requires
-    same-length
-    returns
-    sub-strike-least
-    part-strike-least-start
-    part-strike-least-end
-    strike-least-requires
-    same-length-2
-    returns-2)
+    tie.close (search (tie.spec, returns, part-strike-least-end, strike-least-requires, same-length-2, returns-2, needs))

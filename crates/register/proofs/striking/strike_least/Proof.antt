@@ -15,12 +15,6 @@ lower-bound-requires c κs = search needs
 is-entry-requires : tie.Need-is-entry-requires
 is-entry-requires c κs = search needs
 
-refused-requires : tie.Need-refused-requires
-refused-requires c κs = search needs
-
-same-length : tie.Need-same-length
-same-length c = search needs
-
 returns : tie.Need-returns
 returns c =
     let a = c .before .before .before .before .before .before .before .before in
@@ -48,20 +42,8 @@ mul-moved c = omega (arith, (strike-room (c .before .before .before .before .bef
 sub-remove-line : tie.Need-sub-remove-line
 sub-remove-line c = (strike-room (c .before .before .before .before .before .before .before .before .pre) (c .before .before .before .before .lower-bound .ensures) (c .before .before .is-entry .ensures) (c .before .if1 .left) (c .line-length .ensures .0)) .start-inside
 
-part-remove-line-start : tie.Need-part-remove-line-start
-part-remove-line-start c = (strike-room (c .before .before .before .before .before .before .before .before .pre) (c .before .before .before .before .lower-bound .ensures) (c .before .before .is-entry .ensures) (c .before .if1 .left) (c .line-length .ensures .0)) .start-inside
-
-part-remove-line-end : tie.Need-part-remove-line-end
-part-remove-line-end c = search needs
-
 remove-line-requires : tie.Need-remove-line-requires
 remove-line-requires c κs = (valid-sizes (c .before .before .before .before .before .before .before .before .before .pre) .cells-fit, room-part (strike-room (c .before .before .before .before .before .before .before .before .before .pre) (c .before .before .before .before .before .lower-bound .ensures) (c .before .before .before .is-entry .ensures) (c .before .before .if1 .left) (c .before .line-length .ensures .0)) (sym (c .before .line-length .ensures .0)))
-
-sub-write-number : tie.Need-sub-write-number
-sub-write-number c = search needs
-
-part-write-number-start : tie.Need-part-write-number-start
-part-write-number-start c = search needs
 
 part-write-number-end : tie.Need-part-write-number-end
 part-write-number-end c =
@@ -70,9 +52,6 @@ part-write-number-end c =
 
 sub-write-number-2 : tie.Need-sub-write-number-2
 sub-write-number-2 c = omega (arith, strike-place (c .before .before .before .before .before .before .before .before .before .before .before .before .before .pre) (c .before .before .before .before .before .before .before .before .before .lower-bound .ensures) (c .before .before .before .before .before .before .before .is-entry .ensures) (c .before .before .before .before .before .before .if1 .left))
-
-write-number-requires : tie.Need-write-number-requires
-write-number-requires c κs = search needs
 
 cast-t24 : tie.Need-cast-t24
 cast-t24 c = omega (arith, place-small (c .before .before .before .before .before .before .before .before .before .before .before .before .before .before .before .before .pre) (c .before .before .before .before .before .before .before .before .before .before .before .before .lower-bound .ensures))
@@ -94,29 +73,4 @@ returns-2 c =
 
 pub strike-least-spec : {M : Type 1} → statement M
 strike-least-spec =
-    tie.close
-    (tie.spec
-    lower-bound-requires
-    is-entry-requires
-    refused-requires
-    same-length
-    returns
-    line-length-requires
-    mul-start
-    add-start
-    add-moved
-    sub-moved
-    mul-moved
-    sub-remove-line
-    part-remove-line-start
-    part-remove-line-end
-    remove-line-requires
-    sub-write-number
-    part-write-number-start
-    part-write-number-end
-    sub-write-number-2
-    write-number-requires
-    cast-t24
-    add-t25
-    same-length-2
-    returns-2)
+    tie.close (search (tie.spec, lower-bound-requires, is-entry-requires, returns, line-length-requires, mul-start, add-start, add-moved, sub-moved, mul-moved, sub-remove-line, remove-line-requires, part-write-number-end, sub-write-number-2, cast-t24, add-t25, same-length-2, returns-2, needs))

@@ -8,14 +8,8 @@ use Rattle.scan.proofs.entries.entries_laid.Tie as tie
 fill-requires : tie.Need-fill-requires
 fill-requires c κs = search needs
 
-teen-of-requires : tie.Need-teen-of-requires
-teen-of-requires c κs = search needs
-
 fill-requires-2 : tie.Need-fill-requires-2
 fill-requires-2 c κs = search needs
-
-span-of-requires : tie.Need-span-of-requires
-span-of-requires c κs = search needs
 
 fill-requires-3 : tie.Need-fill-requires-3
 fill-requires-3 c κs = search needs
@@ -40,12 +34,4 @@ returns c =
 
 pub entries-laid-spec : {M : Type 1} → statement M
 entries-laid-spec =
-    tie.close
-    (tie.spec
-    fill-requires
-    teen-of-requires
-    fill-requires-2
-    span-of-requires
-    fill-requires-3
-    lines-laid-requires
-    returns)
+    tie.close (search (tie.spec, fill-requires, fill-requires-2, fill-requires-3, lines-laid-requires, returns, needs))

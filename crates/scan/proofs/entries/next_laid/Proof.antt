@@ -23,7 +23,7 @@ line-laid-requires c κs =
     let g = c .agreed in
     let s = c .before .before in
     let a = s .args in
-    (s .pre .0, s .pre .1, omega (arith, s .pre .2), s .pre .3, s .pre .4, omega (arith, g .ensures .0), cells-agreed (a .size) (a .top) (a .register .now) (a .previous) (a .at) _ (g .result) (s .pre .5 .cells) (g .ensures .1) (g .ensures .0) refl)
+    (s .pre .0, s .pre .1, omega (arith, s .pre .2), s .pre .3, s .pre .4, omega (arith, g .ensures .0), cells-agreed (a .size) (a .top) (a .register .now) (a .previous) (a .at) _ (g .result) (s .pre .5 .cells-laid) (g .ensures .1) (g .ensures .0) refl)
 
 returns : tie.Need-returns
 returns c =
@@ -42,8 +42,8 @@ comes-before-requires c κs =
       s .pre .0,
       omega (arith, s .pre .2, s .pre .3),
       omega (arith, s .pre .3),
-      cells-more (a .top) (a .register .now) (a .previous) (a .size) (s .pre .1) (s .pre .5 .cells),
-      cells-more (a .top) (a .register .now) (a .at) (a .size) (s .pre .1) (here .cells),
+      cells-more (a .top) (a .register .now) (a .previous) (a .size) (s .pre .1) (s .pre .5 .cells-laid),
+      cells-more (a .top) (a .register .now) (a .at) (a .size) (s .pre .1) (here .cells-laid),
       omega (arith, g .ensures .0),
       agree-less (a .register .now) (a .previous) (a .at) (g .result) _ (omega arith) (g .ensures .1),
     )

@@ -3,7 +3,6 @@ use mathlib.Core.Path.{_≡_, sym, _∙_}
 use Prim.Native.Nat.{_≤_, _-_}
 use native.Mathlib.Omega.{arith}
 use borrow.Author.Needs.{needs}
-use lib.ListN.{length}
 use Rattle.scan.specs.Fits.{allFit}
 use Rattle.scan.proofs.FitLaws.{all-none, all-next}
 use Rattle.scan.proofs.laid.cells_laid.Statement.{statement}
@@ -42,9 +41,6 @@ element-copy-out-stays-laid-2 c = omega (arith, c .before .before .before .befor
 element-copy-out-stays-laid-3 : tie.Need-element-copy-out-stays-laid-3 Inv-loop μ-loop
 element-copy-out-stays-laid-3 c = omega (arith, c .before .before .before .before .before .before .before .pre .0)
 
-stays-laid-requires : tie.Need-stays-laid-requires Inv-loop μ-loop
-stays-laid-requires c κs = search needs
-
 add-k : tie.Need-add-k Inv-loop μ-loop
 add-k c = omega (arith, c .before .before .before .before .before .before .before .before .before .pre .0)
 
@@ -67,22 +63,5 @@ returns c =
     rw e at (l .inv .1)
 
 pub cells-laid-spec : {M : Type 1} → statement M
-cells-laid-spec =
-    tie.close
-    (tie.spec
-    Inv-loop
-    μ-loop
-    loop-holds
-    add-stays-laid
-    add-stays-laid-2
-    shared-slice-read-stays-laid
-    add-stays-laid-3
-    shared-slice-read-stays-laid-2
-    element-copy-out-stays-laid
-    element-copy-out-stays-laid-2
-    element-copy-out-stays-laid-3
-    stays-laid-requires
-    add-k
-    loop-less
-    loop-again
-    returns)
+cells-laid-spec {M} =
+    tie.close (search (tie.spec {M = M} Inv-loop μ-loop, loop-holds, add-stays-laid, add-stays-laid-2, shared-slice-read-stays-laid, add-stays-laid-3, shared-slice-read-stays-laid-2, element-copy-out-stays-laid, element-copy-out-stays-laid-2, element-copy-out-stays-laid-3, add-k, loop-less, loop-again, returns, needs))

@@ -3,11 +3,8 @@ use Rattle.scan.proofs.FitLaws.{span-is}
 use Rattle.scan.proofs.laid.span_of.Statement.{statement}
 use Rattle.scan.proofs.laid.span_of.Tie as tie
 
-lesser-requires : tie.Need-lesser-requires
-lesser-requires c κs = search needs
-
 returns : tie.Need-returns
-returns c = span-is _ _ (c .lesser .ensures)
+returns c = span-is _ _ (c .smaller .ensures)
 
 pub span-of-spec : {M : Type 1} → statement M
-span-of-spec = tie.close (tie.spec lesser-requires returns)
+span-of-spec = tie.close (search (tie.spec, returns, needs))

@@ -1,38 +1,26 @@
-use mathlib.Core.Path.{_≡_, ap, _∙_}
+use mathlib.Core.Path.{ap, _∙_}
 use native.Mathlib.Omega.{arith}
 use borrow.Author.Needs.{needs}
-use Rattle.scan.specs.Fits.{lesser, rest}
+use Rattle.scan.specs.Fits.{smaller, rest}
 use Rattle.scan.proofs.FitLaws.{fits-not, fits-all}
 use Rattle.scan.proofs.laid.stays_laid.Statement.{statement}
 use Rattle.scan.proofs.laid.stays_laid.Tie as tie
-
-above-requires : tie.Need-above-requires
-above-requires c κs = search needs
-
-rest-requires : tie.Need-rest-requires
-rest-requires c κs = search needs
-
-above-requires-2 : tie.Need-above-requires-2
-above-requires-2 c κs = search needs
-
-lesser-requires : tie.Need-lesser-requires
-lesser-requires c κs = search needs
 
 returns : tie.Need-returns
 returns c =
     let q = c .before .before .before in
     let a = q .before .before .args in
-    fits-not (a .laid) (a .byte) (a .before) (a .base) (a .teen) (a .span) (a .cap) (q .rest .result) (c .before .lesser .result)
+    fits-not (a .laid) (a .byte) (a .before) (a .base) (a .teen) (a .span) (a .cap) (q .rest .result) (c .before .smaller .result)
     (q .rest .ensures ∙ ap (λ x. rest x (a .teen)) (q .before .above .ensures))
-    (c .before .lesser .ensures ∙ ap (lesser (a .span)) (c .before .before .above2 .ensures)) (omega arith)
+    (c .before .smaller .ensures ∙ ap (smaller (a .span)) (c .before .before .above2 .ensures)) (omega arith)
 
 returns-2 : tie.Need-returns-2
 returns-2 c =
     let q = c .before .before .before in
     let a = q .before .before .args in
-    fits-all (a .laid) (a .byte) (a .before) (a .base) (a .teen) (a .span) (a .cap) (q .rest .result) (c .before .lesser .result)
+    fits-all (a .laid) (a .byte) (a .before) (a .base) (a .teen) (a .span) (a .cap) (q .rest .result) (c .before .smaller .result)
     (q .rest .ensures ∙ ap (λ x. rest x (a .teen)) (q .before .above .ensures))
-    (c .before .lesser .ensures ∙ ap (lesser (a .span)) (c .before .before .above2 .ensures)) (omega arith)
+    (c .before .smaller .ensures ∙ ap (smaller (a .span)) (c .before .before .above2 .ensures)) (omega arith)
 
 pub stays-laid-spec : {M : Type 1} → statement M
-stays-laid-spec = tie.close (tie.spec above-requires rest-requires above-requires-2 lesser-requires returns returns-2)
+stays-laid-spec = tie.close (search (tie.spec, returns, returns-2, needs))

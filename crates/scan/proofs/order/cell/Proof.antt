@@ -16,9 +16,6 @@ add-stated-2 c = search needs
 shared-slice-read-stated-2 : tie.Need-shared-slice-read-stated-2
 shared-slice-read-stated-2 c = search needs
 
-stated-requires : tie.Need-stated-requires
-stated-requires c κs = search needs
-
 returns : tie.Need-returns
 returns c =
     let s = c .before .before .before .before in
@@ -26,11 +23,4 @@ returns c =
 
 pub cell-spec : {M : Type 1} → statement M
 cell-spec =
-    tie.close
-    (tie.spec
-    add-stated
-    shared-slice-read-stated
-    add-stated-2
-    shared-slice-read-stated-2
-    stated-requires
-    returns)
+    tie.close (search (tie.spec, add-stated, shared-slice-read-stated, add-stated-2, shared-slice-read-stated-2, returns, needs))

@@ -45,12 +45,6 @@ cell-requires-2 c κs =
     let f = cells-field 15 (a .register .now) (a .q) (a .size) (omega arith) (p .2) (p .4) (l .k) (omega arith) in
     (omega (arith, p .2), f .0, f .1)
 
-rank-requires : tie.Need-rank-requires Inv-loop μ-loop
-rank-requires c κs = search needs
-
-rank-requires-2 : tie.Need-rank-requires-2 Inv-loop μ-loop
-rank-requires-2 c κs = search needs
-
 returns : tie.Need-returns Inv-loop μ-loop
 returns c =
     let f = c .before .before .before in
@@ -79,22 +73,5 @@ returns-2 c =
     before-never (a .register .now) (a .p) (a .q) (a .size) (l .k) (l .inv .1) (omega arith)
 
 pub comes-before-spec : {M : Type 1} → statement M
-comes-before-spec =
-    tie.close
-    (tie.spec
-    Inv-loop
-    μ-loop
-    loop-holds
-    mul-cell
-    add-cell
-    cell-requires
-    mul-cell-2
-    add-cell-2
-    cell-requires-2
-    rank-requires
-    rank-requires-2
-    returns
-    add-k
-    loop-less
-    loop-again
-    returns-2)
+comes-before-spec {M} =
+    tie.close (search (tie.spec {M = M} Inv-loop μ-loop, loop-holds, mul-cell, add-cell, cell-requires, mul-cell-2, add-cell-2, cell-requires-2, returns, add-k, loop-less, loop-again, returns-2, needs))

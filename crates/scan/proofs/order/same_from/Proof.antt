@@ -1,8 +1,7 @@
 use native.Mathlib.Omega.{arith}
 use borrow.Author.Needs.{needs}
-use mathlib.Core.Path.{_≡_, sym, ap, _∙_}
-use Prim.Native.Nat.{_+_, _-_, _*_, _/_, _≤_, _<_}
-use lib.ListN.{length}
+use mathlib.Core.Path.{_≡_, sym, _∙_}
+use Prim.Native.Nat.{_-_, _≤_}
 use Rattle.scan.proofs.order.same_from.Statement.{statement}
 use Rattle.scan.proofs.order.same_from.Tie as tie
 use Rattle.scan.specs.Cells.{sameFrom}
@@ -29,9 +28,6 @@ add-stays-same-2 c = omega (arith, c .before .before .before .before .pre .1)
 shared-slice-read-stays-same-2 : tie.Need-shared-slice-read-stays-same-2 Inv-loop μ-loop
 shared-slice-read-stays-same-2 c = omega (arith, c .before .before .before .before .before .pre .1)
 
-stays-same-requires : tie.Need-stays-same-requires Inv-loop μ-loop
-stays-same-requires c κs = search needs
-
 add-n : tie.Need-add-n Inv-loop μ-loop
 add-n c = omega arith
 
@@ -51,18 +47,5 @@ returns c =
     rw e at (l .inv .1)
 
 pub same-from-spec : {M : Type 1} → statement M
-same-from-spec =
-    tie.close
-    (tie.spec
-    Inv-loop
-    μ-loop
-    loop-holds
-    add-stays-same
-    shared-slice-read-stays-same
-    add-stays-same-2
-    shared-slice-read-stays-same-2
-    stays-same-requires
-    add-n
-    loop-less
-    loop-again
-    returns)
+same-from-spec {M} =
+    tie.close (search (tie.spec {M = M} Inv-loop μ-loop, loop-holds, add-stays-same, shared-slice-read-stays-same, add-stays-same-2, shared-slice-read-stays-same-2, add-n, loop-less, loop-again, returns, needs))

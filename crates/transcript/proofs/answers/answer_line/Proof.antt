@@ -7,9 +7,6 @@ use Rattle.transcript.proofs.CallSteps.{answer-malformed, answer-called
 use Rattle.transcript.proofs.answers.answer_line.Statement.{statement}
 use Rattle.transcript.proofs.answers.answer_line.Tie as tie
 
-slice-aggregate-read-command : tie.Need-slice-aggregate-read-command
-slice-aggregate-read-command c = search needs
-
 read-command-requires : tie.Need-read-command-requires
 read-command-requires c κs = search needs
 
@@ -20,12 +17,6 @@ returns c =
 
 cell-count-requires : tie.Need-cell-count-requires
 cell-count-requires c κs = search needs
-
-sub-make-call : tie.Need-sub-make-call
-sub-make-call c = search needs
-
-part-make-call-start : tie.Need-part-make-call-start
-part-make-call-start c = search needs
 
 part-make-call-end : tie.Need-part-make-call-end
 part-make-call-end c = search needs
@@ -47,15 +38,4 @@ returns-2 c =
 
 pub answer-line-spec : {M : Type 1} → statement M
 answer-line-spec =
-    tie.close
-    (tie.spec
-    slice-aggregate-read-command
-    read-command-requires
-    returns
-    cell-count-requires
-    sub-make-call
-    part-make-call-start
-    part-make-call-end
-    make-call-requires
-    same-length
-    returns-2)
+    tie.close (search (tie.spec, read-command-requires, returns, cell-count-requires, part-make-call-end, make-call-requires, same-length, returns-2, needs))

@@ -8,32 +8,11 @@ use Rattle.transcript.proofs.CallSteps.{fit-parts}
 use Rattle.transcript.proofs.commands.fit_parted.Statement.{statement}
 use Rattle.transcript.proofs.commands.fit_parted.Tie as tie
 
-sub-part : tie.Need-sub-part
-sub-part c = search needs
-
-part-low-start : tie.Need-part-low-start
-part-low-start c = search needs
-
 part-low-end : tie.Need-part-low-end
 part-low-end c = search needs
 
-sub-part-2 : tie.Need-sub-part-2
-sub-part-2 c = search needs
-
-part-high-start : tie.Need-part-high-start
-part-high-start c = search needs
-
-part-high-end : tie.Need-part-high-end
-part-high-end c = search needs
-
 part-requires : tie.Need-part-requires
 part-requires c κs = search needs
-
-sub-fit : tie.Need-sub-fit
-sub-fit c = search needs
-
-part-fit-start : tie.Need-part-fit-start
-part-fit-start c = search needs
 
 part-fit-end : tie.Need-part-fit-end
 part-fit-end c =
@@ -41,20 +20,11 @@ part-fit-end c =
     let d = c .before .before .before .part in
     part-within (d .last .1 .0) _ (a .args .size) (d .kept .1 .0 ∙ part-length _ (a .args .size) (omega arith))
 
-sub-fit-2 : tie.Need-sub-fit-2
-sub-fit-2 c = search needs
-
-part-fit-start-2 : tie.Need-part-fit-start-2
-part-fit-start-2 c = search needs
-
 part-fit-end-2 : tie.Need-part-fit-end-2
 part-fit-end-2 c =
     let a = c .before .before .before .before .before .before .before .before .before .before in
     let d = c .before .before .before .before .before .part in
     part-within (d .last .1 .1 .0) _ (a .args .size) (d .kept .1 .1 .0 ∙ part-length _ (a .args .size) (omega arith))
-
-fit-requires : tie.Need-fit-requires
-fit-requires c κs = search needs
 
 returns : tie.Need-returns
 unfolding called registerCalls
@@ -65,20 +35,4 @@ returns c =
 
 pub fit-parted-spec : {M : Type 1} → statement M
 fit-parted-spec =
-    tie.close
-    (tie.spec
-    sub-part
-    part-low-start
-    part-low-end
-    sub-part-2
-    part-high-start
-    part-high-end
-    part-requires
-    sub-fit
-    part-fit-start
-    part-fit-end
-    sub-fit-2
-    part-fit-start-2
-    part-fit-end-2
-    fit-requires
-    returns)
+    tie.close (search (tie.spec, part-low-end, part-requires, part-fit-end, part-fit-end-2, returns, needs))

@@ -7,9 +7,6 @@ use Rattle.transcript.proofs.CallSteps.{enter-of, strike-of, fit-of, fi
 use Rattle.transcript.proofs.commands.make_call.Statement.{statement}
 use Rattle.transcript.proofs.commands.make_call.Tie as tie
 
-enter-requires : tie.Need-enter-requires
-enter-requires c κs = search needs
-
 same-length : tie.Need-same-length
 same-length c = search needs
 
@@ -18,9 +15,6 @@ unfolding called registerCalls
 returns c =
     let a = c .before .before .before .before .before .before .before in
     c .before .before .enter .ensures ∙ ap (called registerCalls (a .args .register .now)) (sym (enter-of (a .args .size) (a .args .cells .now) (c .before .before .before .before .if1 .taken)))
-
-strike-requires : tie.Need-strike-requires
-strike-requires c κs = search needs
 
 same-length-2 : tie.Need-same-length-2
 same-length-2 c = search needs
@@ -36,9 +30,6 @@ fit-parted-requires c κs =
     let a = c .before .before .before .before .before in
     (a .pre .0, fit-cells (a .args .size) {k = a .args .command} (omega arith) (a .pre .3))
 
-same-length-3 : tie.Need-same-length-3
-same-length-3 c = search needs
-
 returns-3 : tie.Need-returns-3
 returns-3 c =
     let a = c .before .before .before .before .before .before in
@@ -46,14 +37,4 @@ returns-3 c =
 
 pub make-call-spec : {M : Type 1} → statement M
 make-call-spec =
-    tie.close
-    (tie.spec
-    enter-requires
-    same-length
-    returns
-    strike-requires
-    same-length-2
-    returns-2
-    fit-parted-requires
-    same-length-3
-    returns-3)
+    tie.close (search (tie.spec, same-length, returns, same-length-2, returns-2, fit-parted-requires, returns-3, needs))

@@ -59,12 +59,6 @@ returns-5 c =
     let n = c .before .before .before .cell-count .ensures .0 in
     command-refused (a .args .size) (a .args .line .now) (λ t. c .if5 .taken (laid-parts (a .args .size) (a .args .line .now) k n t .feed)) (a .pre .1)
 
-sub-is-field : tie.Need-sub-is-field
-sub-is-field c = search needs
-
-part-is-field-start : tie.Need-part-is-field-start
-part-is-field-start c = search needs
-
 part-is-field-end : tie.Need-part-is-field-end
 part-is-field-end c = search needs
 
@@ -88,12 +82,6 @@ part-read-cells-start c = search needs
 
 part-read-cells-end : tie.Need-part-read-cells-end
 part-read-cells-end c = search needs
-
-sub-read-cells-2 : tie.Need-sub-read-cells-2
-sub-read-cells-2 c = search needs
-
-part-read-cells-start-2 : tie.Need-part-read-cells-start-2
-part-read-cells-start-2 c = search needs
 
 part-read-cells-end-2 : tie.Need-part-read-cells-end-2
 part-read-cells-end-2 c = search needs
@@ -127,33 +115,5 @@ returns-8 c =
     command-read (a .args .size) (a .args .line .now) k n (a .args .cells .now) (r .last .1 .0) (omega arith) (r .ensures) (omega arith, omega arith) (c .before .before .before .before .before .before .before .before .before .before .before .if4 .left) (c .before .before .before .before .before .before .before .before .before .if5 .left) (f .ensures .0 (not-false (f .result) (c .before .before .before .before .before .before .if6 .left))) (not-false (r .result) (c .if7 .left)) (a .pre .1)
 
 pub read-command-spec : {M : Type 1} → statement M
-read-command-spec =
-    tie.close
-    (tie.spec
-    returns
-    six-wide-requires
-    returns-2
-    returns-3
-    cell-count-requires
-    mul-end
-    add-end
-    add-if4
-    returns-4
-    shared-slice-read-if5
-    returns-5
-    sub-is-field
-    part-is-field-start
-    part-is-field-end
-    is-field-requires
-    returns-6
-    sub-read-cells
-    part-read-cells-start
-    part-read-cells-end
-    sub-read-cells-2
-    part-read-cells-start-2
-    part-read-cells-end-2
-    read-cells-requires
-    same-length
-    returns-7
-    same-length-2
-    returns-8)
+read-command-spec {M} =
+    tie.close (search (tie.spec {M = M} returns six-wide-requires returns-2 returns-3 cell-count-requires mul-end add-end add-if4 returns-4 shared-slice-read-if5 returns-5, part-is-field-end, is-field-requires, returns-6, sub-read-cells, part-read-cells-start, part-read-cells-end, part-read-cells-end-2, read-cells-requires, same-length, returns-7, same-length-2, returns-8, needs))

@@ -8,23 +8,8 @@ use Rattle.transcript.proofs.FieldLaws.{field-told}
 use Rattle.transcript.proofs.fields.is_field.Statement.{statement}
 use Rattle.transcript.proofs.fields.is_field.Tie as tie
 
-sub-write-number : tie.Need-sub-write-number
-sub-write-number c = search needs
-
-part-field-start : tie.Need-part-field-start
-part-field-start c = search needs
-
 part-field-end : tie.Need-part-field-end
 part-field-end c = search needs
-
-write-number-requires : tie.Need-write-number-requires
-write-number-requires c κs = search needs
-
-sub-begins-with : tie.Need-sub-begins-with
-sub-begins-with c = search needs
-
-part-begins-with-start : tie.Need-part-begins-with-start
-part-begins-with-start c = search needs
 
 part-begins-with-end : tie.Need-part-begins-with-end
 part-begins-with-end c =
@@ -43,14 +28,4 @@ returns c =
 
 pub is-field-spec : {M : Type 1} → statement M
 is-field-spec =
-    tie.close
-    (tie.spec
-    sub-write-number
-    part-field-start
-    part-field-end
-    write-number-requires
-    sub-begins-with
-    part-begins-with-start
-    part-begins-with-end
-    begins-with-requires
-    returns)
+    tie.close (search (tie.spec, part-field-end, part-begins-with-end, begins-with-requires, returns, needs))

@@ -37,9 +37,6 @@ returns c =
 sub-is-field : tie.Need-sub-is-field Inv-loop μ-loop
 sub-is-field c = omega arith
 
-part-is-field-start : tie.Need-part-is-field-start Inv-loop μ-loop
-part-is-field-start c = search needs
-
 part-is-field-end : tie.Need-part-is-field-end Inv-loop μ-loop
 part-is-field-end c = omega arith
 
@@ -85,26 +82,5 @@ returns-3 : tie.Need-returns-3 Inv-loop μ-loop
 returns-3 c = cells-all (c .before .loop .inv) (omega arith) (c .before .before .before .before .pre .1)
 
 pub read-cells-spec : {M : Type 1} → statement M
-read-cells-spec =
-    tie.close
-    (tie.spec
-    Inv-loop
-    μ-loop
-    loop-holds
-    add-end
-    three-wide-requires
-    same-length
-    returns
-    sub-is-field
-    part-is-field-start
-    part-is-field-end
-    is-field-requires
-    same-length-2
-    returns-2
-    cast-cells
-    slice-write-cells
-    add-k
-    loop-less
-    loop-again
-    same-length-3
-    returns-3)
+read-cells-spec {M} =
+    tie.close (search (tie.spec {M = M} Inv-loop μ-loop, loop-holds, add-end, three-wide-requires, same-length, returns, sub-is-field, part-is-field-end, is-field-requires, same-length-2, returns-2, cast-cells, slice-write-cells, add-k, loop-less, loop-again, same-length-3, returns-3, needs))

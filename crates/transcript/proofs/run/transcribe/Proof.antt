@@ -11,9 +11,6 @@ returns c = let a = c .before .before .before .before .args in small-register (a
 returns-2 : tie.Need-returns-2
 returns-2 c = let a = c .before .before .before .before .before .args in small-out (a .input .now) (a .register .now) (a .out .now) (omega arith) (omega arith)
 
-check-input-requires : tie.Need-check-input-requires
-check-input-requires c κs = search needs
-
 write-report-requires : tie.Need-write-report-requires
 write-report-requires c κs = search needs
 
@@ -24,12 +21,6 @@ returns-3 : tie.Need-returns-3
 returns-3 c =
     let a = c .before .before .before .before .before .before .before .before .before .before .before .before .args in
     start-ended (a .input .now) (a .register .now) (a .out .now) (omega arith) (omega arith) (c .before .before .before .before .before .before .check-input .ensures) (c .before .before .before .before .if3 .taken) (c .before .before .write-report .ensures)
-
-sub-run : tie.Need-sub-run
-sub-run c = search needs
-
-part-run-start : tie.Need-part-run-start
-part-run-start c = search needs
 
 part-run-end : tie.Need-part-run-end
 part-run-end c =
@@ -54,18 +45,4 @@ returns-4 c =
 
 pub transcribe-spec : {M : Type 1} → statement M
 transcribe-spec =
-    tie.close
-    (tie.spec
-    returns
-    returns-2
-    check-input-requires
-    write-report-requires
-    same-length
-    returns-3
-    sub-run
-    part-run-start
-    part-run-end
-    run-requires
-    same-length-2
-    same-length-3
-    returns-4)
+    tie.close (search (tie.spec, returns, returns-2, write-report-requires, same-length, returns-3, part-run-end, run-requires, same-length-2, same-length-3, returns-4, needs))

@@ -1,30 +1,21 @@
 -- `check_input` meets its contract: each return has passed the checks before it, and gives the number of the one that got a no.
 use native.Mathlib.Omega.{arith}
 use borrow.Author.Needs.{needs}
+use Rattle.machine.specs.Calls.{shape}
 use Rattle.layout.specs.Layout.{InLimits}
-use Rattle.machine.specs.Valid.{shape}
 use Rattle.register.proofs.OpenSteps.{numbers-limits, limits-size}
 use Rattle.transcript.proofs.StartSteps.{LineRead, line-read, long-refused, short-refused, line-refused, numbers-refused, length-refused, start-made}
 use Rattle.transcript.proofs.starts.check_input.Statement.{statement}
 use Rattle.transcript.proofs.starts.check_input.Tie as tie
 
-refusal-requires : tie.Need-refusal-requires
-refusal-requires c κs = search needs
-
 returns : tie.Need-returns
 returns c = long-refused _ (c .before .if1 .taken) (c .refusal .ensures)
-
-refusal-requires-2 : tie.Need-refusal-requires-2
-refusal-requires-2 c κs = search needs
 
 returns-2 : tie.Need-returns-2
 returns-2 c = short-refused _ (c .before .before .if1 .left) (c .before .if2 .taken) (c .refusal2 .ensures)
 
 line-laid-requires : tie.Need-line-laid-requires
 line-laid-requires c κs = search needs
-
-refusal-requires-3 : tie.Need-refusal-requires-3
-refusal-requires-3 c κs = search needs
 
 returns-3 : tie.Need-returns-3
 returns-3 c =
@@ -42,9 +33,6 @@ six-wide-requires-3 c κs = search needs
 six-wide-requires-4 : tie.Need-six-wide-requires-4
 six-wide-requires-4 c κs = search needs
 
-numbers-no-requires : tie.Need-numbers-no-requires
-numbers-no-requires c κs = search needs
-
 -- what is known where the numbers of line 1 are read
 reads : (c : tie.After-six-wide4) → LineRead (c .before .before .before .before .before .before .before .before .before .args .input .now) (c .before .before .before .six-wide .result) (c .before .before .six-wide2 .result) (c .before .six-wide3 .result) (c .six-wide4 .result)
 reads c =
@@ -54,9 +42,6 @@ reads c =
 limits : (c : tie.Else4) → InLimits (shape (c .before .before .before .before .before .six-wide .result) (c .before .before .before .before .six-wide2 .result) (c .before .before .before .six-wide3 .result) (c .before .before .six-wide4 .result))
 limits c = numbers-limits _ (c .before .numbers-no .ensures) (c .if4 .left)
 
-refusal-requires-4 : tie.Need-refusal-requires-4
-refusal-requires-4 c κs = search needs
-
 returns-4 : tie.Need-returns-4
 returns-4 c = numbers-refused (reads (c .before .before .before)) (c .before .before .numbers-no .ensures) (c .before .if4 .taken) (c .refusal4 .ensures)
 
@@ -65,9 +50,6 @@ mul-register-length c = omega (arith, limits-size _ (limits c))
 
 register-length-requires : tie.Need-register-length-requires
 register-length-requires c κs = (limits-size _ (limits c), limits c .capacity-limits .1)
-
-refusal-requires-5 : tie.Need-refusal-requires-5
-refusal-requires-5 c κs = search needs
 
 returns-5 : tie.Need-returns-5
 returns-5 c =
@@ -83,24 +65,4 @@ returns-6 c =
 
 pub check-input-spec : {M : Type 1} → statement M
 check-input-spec =
-    tie.close
-    (tie.spec
-    refusal-requires
-    returns
-    refusal-requires-2
-    returns-2
-    line-laid-requires
-    refusal-requires-3
-    returns-3
-    six-wide-requires
-    six-wide-requires-2
-    six-wide-requires-3
-    six-wide-requires-4
-    numbers-no-requires
-    refusal-requires-4
-    returns-4
-    mul-register-length
-    register-length-requires
-    refusal-requires-5
-    returns-5
-    returns-6)
+    tie.close (search (tie.spec, returns, returns-2, line-laid-requires, returns-3, six-wide-requires, six-wide-requires-2, six-wide-requires-3, six-wide-requires-4, returns-4, mul-register-length, register-length-requires, returns-5, returns-6, needs))

@@ -7,14 +7,8 @@ use Rattle.transcript.proofs.StartSteps.{line-decides}
 use Rattle.transcript.proofs.starts.line_laid.Statement.{statement}
 use Rattle.transcript.proofs.starts.line_laid.Tie as tie
 
-slice-aggregate-write-field : tie.Need-slice-aggregate-write-field
-slice-aggregate-write-field c = search needs
-
 six-wide-requires : tie.Need-six-wide-requires
 six-wide-requires c κs = search needs
-
-write-field-requires : tie.Need-write-field-requires
-write-field-requires c κs = search needs
 
 slice-aggregate-write-field-2 : tie.Need-slice-aggregate-write-field-2
 slice-aggregate-write-field-2 c = search needs
@@ -43,9 +37,6 @@ six-wide-requires-4 c κs = search needs
 write-field-requires-4 : tie.Need-write-field-requires-4
 write-field-requires-4 c κs = search needs
 
-array-write-line : tie.Need-array-write-line
-array-write-line c = search needs
-
 slice-aggregate-begins-with : tie.Need-slice-aggregate-begins-with
 slice-aggregate-begins-with c = search needs
 
@@ -63,21 +54,4 @@ returns c =
 
 pub line-laid-spec : {M : Type 1} → statement M
 line-laid-spec =
-    tie.close
-    (tie.spec
-    slice-aggregate-write-field
-    six-wide-requires
-    write-field-requires
-    slice-aggregate-write-field-2
-    six-wide-requires-2
-    write-field-requires-2
-    slice-aggregate-write-field-3
-    six-wide-requires-3
-    write-field-requires-3
-    slice-aggregate-write-field-4
-    six-wide-requires-4
-    write-field-requires-4
-    array-write-line
-    slice-aggregate-begins-with
-    begins-with-requires
-    returns)
+    tie.close (search (tie.spec, six-wide-requires, slice-aggregate-write-field-2, six-wide-requires-2, write-field-requires-2, slice-aggregate-write-field-3, six-wide-requires-3, write-field-requires-3, slice-aggregate-write-field-4, six-wide-requires-4, write-field-requires-4, slice-aggregate-begins-with, begins-with-requires, returns, needs))

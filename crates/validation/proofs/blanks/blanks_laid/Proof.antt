@@ -38,9 +38,6 @@ add-end c =
 sub-is-blank : tie.Need-sub-is-blank Inv-loop μ-loop
 sub-is-blank c = omega arith
 
-part-is-blank-start : tie.Need-part-is-blank-start Inv-loop μ-loop
-part-is-blank-start c = search needs
-
 part-is-blank-end : tie.Need-part-is-blank-end Inv-loop μ-loop
 part-is-blank-end c =
     let s = c .before .before in
@@ -71,22 +68,5 @@ returns-2 : tie.Need-returns-2 Inv-loop μ-loop
 returns-2 c = holds (blank-all (c .before .loop .inv) (λ m. omega arith))
 
 pub blanks-laid-spec : {M : Type 1} → statement M
-blanks-laid-spec =
-    tie.close
-    (tie.spec
-    Inv-loop
-    μ-loop
-    line-length-requires
-    mul-at
-    add-at
-    loop-holds
-    add-end
-    sub-is-blank
-    part-is-blank-start
-    part-is-blank-end
-    is-blank-requires
-    returns
-    add-e
-    loop-less
-    loop-again
-    returns-2)
+blanks-laid-spec {M} =
+    tie.close (search (tie.spec {M = M} Inv-loop μ-loop, line-length-requires, mul-at, add-at, loop-holds, add-end, sub-is-blank, part-is-blank-end, is-blank-requires, returns, add-e, loop-less, loop-again, returns-2, needs))

@@ -27,9 +27,6 @@ loop-holds c = (omega arith, equal-none _ _ _)
 shared-slice-read-stays-equal : tie.Need-shared-slice-read-stays-equal Inv-loop μ-loop
 shared-slice-read-stays-equal c = omega arith
 
-stays-equal-requires : tie.Need-stays-equal-requires Inv-loop μ-loop
-stays-equal-requires c κs = search needs
-
 add-k : tie.Need-add-k Inv-loop μ-loop
 add-k c = omega arith
 
@@ -43,17 +40,5 @@ returns : tie.Need-returns Inv-loop μ-loop
 returns c = equal-blank _ (c .before .loop .inv .1) (omega arith) (omega arith)
 
 pub is-blank-spec : {M : Type 1} → statement M
-is-blank-spec =
-    tie.close
-    (tie.spec
-    Inv-loop
-    μ-loop
-    sub-end
-    shared-slice-read-blank
-    loop-holds
-    shared-slice-read-stays-equal
-    stays-equal-requires
-    add-k
-    loop-less
-    loop-again
-    returns)
+is-blank-spec {M} =
+    tie.close (search (tie.spec {M = M} Inv-loop μ-loop, sub-end, shared-slice-read-blank, loop-holds, shared-slice-read-stays-equal, add-k, loop-less, loop-again, returns, needs))

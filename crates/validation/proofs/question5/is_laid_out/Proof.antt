@@ -12,9 +12,6 @@ returns c = short-no _ (c .if1 .taken)
 read-head-requires : tie.Need-read-head-requires
 read-head-requires c κs = search needs
 
-within-limits-requires : tie.Need-within-limits-requires
-within-limits-requires c κs = search needs
-
 returns-2 : tie.Need-returns-2
 returns-2 c = refutes (c .before .before .read-head .ensures) (λ l. l .limits) (c .before .within-limits .ensures) (c .if2 .taken)
 
@@ -28,9 +25,6 @@ register-length-requires c κs =
 
 returns-3 : tie.Need-returns-3
 returns-3 c = length-no (c .before .before .before .before .before .read-head .ensures) (c .before .register-length .ensures .0) (c .if3 .taken)
-
-head-laid-requires : tie.Need-head-laid-requires
-head-laid-requires c κs = search needs
 
 returns-4 : tie.Need-returns-4
 returns-4 c = refutes (c .before .before .before .before .before .before .before .read-head .ensures) (λ l. l .line) (c .before .head-laid .ensures) (c .if4 .taken)
@@ -60,19 +54,4 @@ returns-6 c =
 
 pub is-laid-out-spec : {M : Type 1} → statement M
 is-laid-out-spec =
-    tie.close
-    (tie.spec
-    returns
-    read-head-requires
-    within-limits-requires
-    returns-2
-    mul-size
-    register-length-requires
-    returns-3
-    head-laid-requires
-    returns-4
-    cast-entries-laid
-    entries-laid-requires
-    returns-5
-    blanks-laid-requires
-    returns-6)
+    tie.close (search (tie.spec, returns, read-head-requires, returns-2, mul-size, register-length-requires, returns-3, returns-4, cast-entries-laid, entries-laid-requires, returns-5, blanks-laid-requires, returns-6, needs))

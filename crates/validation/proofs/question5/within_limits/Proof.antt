@@ -7,9 +7,6 @@ use Rattle.lines.proofs.EqualityLaws.{fails}
 use Rattle.validation.proofs.question5.within_limits.Statement.{statement}
 use Rattle.validation.proofs.question5.within_limits.Tie as tie
 
-limits-no-requires : tie.Need-limits-no-requires
-limits-no-requires c κs = search needs
-
 returns : tie.Need-returns
 returns c = fails (λ w. c .if1 .taken (c .before .limits-no .ensures ∙ limits-decide _ _ _ .1 (w .grid-limits)))
 
@@ -28,4 +25,4 @@ returns-5 c =
     (λ y. record { grid-limits = l; capacity-limits = (omega arith, omega arith); count-fits = omega arith }, λ w. refl)
 
 pub within-limits-spec : {M : Type 1} → statement M
-within-limits-spec = tie.close (tie.spec limits-no-requires returns returns-2 returns-3 returns-4 returns-5)
+within-limits-spec = tie.close (search (tie.spec, returns, returns-2, returns-3, returns-4, returns-5, needs))

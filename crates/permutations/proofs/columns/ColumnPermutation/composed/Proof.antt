@@ -3,21 +3,9 @@ use mathlib.Core.Path.{_∙_}
 use native.Mathlib.Omega.{arith}
 use borrow.Author.Needs.{needs}
 use Rattle.permutations.proofs.ArrayLaws.{take-whole}
-use Rattle.permutations.proofs.PaddedLaws.{composed-of}
+use Rattle.permutations.proofs.NumbersSteps.{composed-of}
 use Rattle.permutations.proofs.columns.ColumnPermutation.composed.Statement.{statement}
 use Rattle.permutations.proofs.columns.ColumnPermutation.composed.Tie as tie
-
-bytes-requires : tie.Need-bytes-requires
-bytes-requires c κs = search needs
-
-bytes-requires-2 : tie.Need-bytes-requires-2
-bytes-requires-2 c κs = search needs
-
-composition-requires : tie.Need-composition-requires
-composition-requires c κs = search needs
-
-from-numbers-requires : tie.Need-from-numbers-requires
-from-numbers-requires c κs = search needs
 
 returns : tie.Need-returns
 returns c =
@@ -29,4 +17,4 @@ returns c =
     }
 
 pub composed-spec : {M : Type 1} → statement M
-composed-spec = tie.close (tie.spec bytes-requires bytes-requires-2 composition-requires from-numbers-requires returns)
+composed-spec = tie.close (search (tie.spec, returns, needs))

@@ -8,76 +8,9 @@ use Rattle.permutations.proofs.ArrayLaws.{take-is}
 use Rattle.permutations.proofs.columns.ColumnPermutation.from_numbers.Statement.{statement}
 use Rattle.permutations.proofs.columns.ColumnPermutation.from_numbers.Tie as tie
 
-array-read-t7 : tie.Need-array-read-t7
-array-read-t7 c = search needs
-
-array-read-t11 : tie.Need-array-read-t11
-array-read-t11 c = search needs
-
-array-read-t15 : tie.Need-array-read-t15
-array-read-t15 c = search needs
-
-array-read-t19 : tie.Need-array-read-t19
-array-read-t19 c = search needs
-
-array-read-t23 : tie.Need-array-read-t23
-array-read-t23 c = search needs
-
-array-read-t27 : tie.Need-array-read-t27
-array-read-t27 c = search needs
-
-array-read-t31 : tie.Need-array-read-t31
-array-read-t31 c = search needs
-
-array-read-t35 : tie.Need-array-read-t35
-array-read-t35 c = search needs
-
-array-read-t39 : tie.Need-array-read-t39
-array-read-t39 c = search needs
-
-array-read-t43 : tie.Need-array-read-t43
-array-read-t43 c = search needs
-
-array-read-t47 : tie.Need-array-read-t47
-array-read-t47 c = search needs
-
-array-read-t51 : tie.Need-array-read-t51
-array-read-t51 c = search needs
-
-array-read-t55 : tie.Need-array-read-t55
-array-read-t55 c = search needs
-
-array-read-t59 : tie.Need-array-read-t59
-array-read-t59 c = search needs
-
-array-read-t63 : tie.Need-array-read-t63
-array-read-t63 c = search needs
-
-array-read-t67 : tie.Need-array-read-t67
-array-read-t67 c = search needs
-
 returns : tie.Need-returns
 unfolding columnNumbers tabulate
 returns c = record { numbers = take-is (c .args .t1) 16 (omega arith); size = refl }
 
 pub from-numbers-spec : {M : Type 1} → statement M
-from-numbers-spec =
-    tie.close
-    (tie.spec
-    array-read-t7
-    array-read-t11
-    array-read-t15
-    array-read-t19
-    array-read-t23
-    array-read-t27
-    array-read-t31
-    array-read-t35
-    array-read-t39
-    array-read-t43
-    array-read-t47
-    array-read-t51
-    array-read-t55
-    array-read-t59
-    array-read-t63
-    array-read-t67
-    returns)
+from-numbers-spec = tie.close (search (tie.spec, returns, needs))

@@ -3,18 +3,9 @@ use mathlib.Core.Path.{_∙_}
 use native.Mathlib.Omega.{arith}
 use borrow.Author.Needs.{needs}
 use Rattle.permutations.proofs.ArrayLaws.{take-whole}
-use Rattle.permutations.proofs.PaddedLaws.{inverse-of}
+use Rattle.permutations.proofs.NumbersSteps.{inverse-of}
 use Rattle.permutations.proofs.columns.ColumnPermutation.inverse.Statement.{statement}
 use Rattle.permutations.proofs.columns.ColumnPermutation.inverse.Tie as tie
-
-bytes-requires : tie.Need-bytes-requires
-bytes-requires c κs = search needs
-
-inversion-requires : tie.Need-inversion-requires
-inversion-requires c κs = search needs
-
-from-numbers-requires : tie.Need-from-numbers-requires
-from-numbers-requires c κs = search needs
 
 returns : tie.Need-returns
 returns c =
@@ -25,4 +16,4 @@ returns c =
     }
 
 pub inverse-spec : {M : Type 1} → statement M
-inverse-spec = tie.close (tie.spec bytes-requires inversion-requires from-numbers-requires returns)
+inverse-spec = tie.close (search (tie.spec, returns, needs))

@@ -2,21 +2,9 @@
 use mathlib.Core.Path.{_∙_}
 use native.Mathlib.Omega.{arith}
 use borrow.Author.Needs.{needs}
-use Rattle.permutations.proofs.PaddedLaws.{composed-of}
+use Rattle.permutations.proofs.NumbersSteps.{composed-of}
 use Rattle.permutations.proofs.rows.RowPermutation.composed.Statement.{statement}
 use Rattle.permutations.proofs.rows.RowPermutation.composed.Tie as tie
-
-numbers-requires : tie.Need-numbers-requires
-numbers-requires c κs = search needs
-
-numbers-requires-2 : tie.Need-numbers-requires-2
-numbers-requires-2 c κs = search needs
-
-composition-requires : tie.Need-composition-requires
-composition-requires c κs = search needs
-
-from-numbers-requires : tie.Need-from-numbers-requires
-from-numbers-requires c κs = search needs
 
 returns : tie.Need-returns
 returns c =
@@ -28,4 +16,4 @@ returns c =
     }
 
 pub composed-spec : {M : Type 1} → statement M
-composed-spec = tie.close (tie.spec numbers-requires numbers-requires-2 composition-requires from-numbers-requires returns)
+composed-spec = tie.close (search (tie.spec, returns, needs))

@@ -5,18 +5,6 @@ use Rattle.permutations.proofs.SwapLaws.{swapped-of}
 use Rattle.permutations.proofs.rows.RowPermutation.swapped.Statement.{statement}
 use Rattle.permutations.proofs.rows.RowPermutation.swapped.Tie as tie
 
-row-requires : tie.Need-row-requires
-row-requires c κs = search needs
-
-row-requires-2 : tie.Need-row-requires-2
-row-requires-2 c κs = search needs
-
-with-requires : tie.Need-with-requires
-with-requires c κs = search needs
-
-with-requires-2 : tie.Need-with-requires-2
-with-requires-2 c κs = search needs
-
 returns : tie.Need-returns
 returns c =
     let first = c .before .before .before .row .ensures in
@@ -26,4 +14,4 @@ returns c =
     record { numbers = swapped-of _ _ _ _ _ _ _ first second (once .numbers) (twice .numbers); size = twice .size ∙ once .size }
 
 pub swapped-spec : {M : Type 1} → statement M
-swapped-spec = tie.close (tie.spec row-requires row-requires-2 with-requires with-requires-2 returns)
+swapped-spec = tie.close (search (tie.spec, returns, needs))

@@ -1,0 +1,16 @@
+-- The first no of the questions that the calls ask first. Between functions: no answer of a call is defined here.
+--
+--   limitsNo m n top    ==  the first no of questions 1, 2 and 3
+--   shapeNo m n top x y ==  the first no of questions 1, 2, 3 and 6, of two slices of lengths x and y
+use mathlib.Core.List.{[], _∷_}
+use mathlib.Core.Bool.{_&&_}
+use Prim.Native.Nat.{ℕ, _*_}
+use lib.Dec.{eqb}
+use Rattle.grids.specs.Questions.{firstNo, question1, question2, question3}
+
+unfoldable pub limitsNo : ℕ → ℕ → ℕ → ℕ
+limitsNo m n top = firstNo (question1 m ∷ question2 n ∷ question3 top ∷ [])
+
+unfoldable pub shapeNo : ℕ → ℕ → ℕ → ℕ → ℕ → ℕ
+shapeNo m n top x y =
+    firstNo (question1 m ∷ question2 n ∷ question3 top ∷ record { number = 6; answer = eqb x (m * n) && eqb y (m * n) } ∷ [])

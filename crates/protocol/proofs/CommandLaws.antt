@@ -1,0 +1,171 @@
+-- Laws of command lines: which lines are laid as document 01 says, and the calls that they make.
+--
+--   CommandLaid size k c l  ==  l is the line of the command k, 1 to 3, with the cells c: as many as the command has, none above 255
+--   laid-command       ==  then k and c are read from it
+--   laid-exactly       ==  the test of a line says yes exactly if it is the line of some command and cells
+--   laid-length        ==  how many bytes it has then
+--   inTurn low high    ==  the first of low, the first of high, the second of low, ..
+--   in-turn-parts      ==  cells of an even number are the bounds read from them, in turn
+--   enter-call, strike-call, fit-call  ==  the calls of such lines; the cells of a fit are low and high in turn
+use mathlib.Core.Path.{_≡_, refl, sym, ap, ap₂, _∙_}
+use mathlib.Core.List.{List, [], _∷_, _++_}
+use mathlib.Core.Bool.{true}
+use mathlib.Core.Logic.{_⊎_, inl, inr, _↔_}
+use Prim.Native.Nat.{ℕ, zero, suc, _+_, _-_, _*_, _≤_, _<_}
+use native.Mathlib.Nat.{mul-comm}
+use native.Mathlib.Omega.{arith}
+use lib.ListN.{length, getD, drop, length-append}
+use lib.Seq.{take-at, drop-at, ext-getD}
+use Rattle.permutations.proofs.BoolLaws.{and-yes, yes-and}
+use Rattle.permutations.proofs.ListLaws.{length-tabulate, at-tabulate, tabulate-is}
+use Rattle.grids.specs.Order.{equal}
+use Rattle.grids.specs.Grids.{capped}
+use Rattle.grids.specs.Questions.{inRange}
+use Rattle.grids.proofs.OrderLaws.{equal-eq, eq-equal}
+use Rattle.grids.proofs.QuestionLaws.{range-yes, yes-range, capped-at}
+use Rattle.layout.specs.Decimal.{field}
+use Rattle.layout.specs.Layout.{fields, numberAt, cellsOf}
+use Rattle.layout.proofs.DecimalLaws.{length-field, value-field}
+use Rattle.layout.proofs.LayoutLaws.{length-ended, fields-read}
+use Rattle.layout.proofs.LineLaws.{length-cells}
+use Rattle.machine.specs.CallLists.{enter, strike, fit}
+use Rattle.protocol.specs.Input.{commandLine, cellCount, commandIn, cellsIn, isLaid}
+use Rattle.protocol.specs.Commands.{lows, highs, callOf, callIn}
+
+-- ---- command lines
+
+pub record CommandLaid (size k : ℕ) (c l : List ℕ) : Type 0 where
+  pub command : (1 ≤ k) × (k ≤ 3)
+  pub sized : length c ≡ cellCount size k
+  pub small : capped 255 c ≡ true
+  pub bytes : l ≡ commandLine k c
+
+cells-read : (n : ℕ) (c : List ℕ) → length c ≡ n → capped 255 c ≡ true → cellsOf n (fields 3 c ++ (10 ∷ [])) ≡ c
+unfolding cellsOf numberAt
+cells-read n c e t =
+    tabulate-is 0 c n _ e λ k h. sym (rw (mul-comm 3 k) (fields-read 2 c (10 ∷ []) k (omega arith) (omega (arith, capped-at 255 c t k (omega arith)))))
+
+module _ {size k : ℕ} {c l : List ℕ} (o : CommandLaid size k c l) where
+  command-stated : commandIn l ≡ k
+  unfolding commandIn numberAt commandLine
+  command-stated =
+      rw (o .bytes, take-at (field 6 k) (fields 3 c ++ (10 ∷ [])) 6 (length-field 6 k)) (value-field 5 k (omega (arith, o .command)))
+
+  cells-stated : cellsIn size l ≡ c
+  unfolding cellsIn commandLine
+  cells-stated =
+      rw (command-stated, o .bytes, drop-at (field 6 k) (fields 3 c ++ (10 ∷ [])) 6 (length-field 6 k)) (cells-read (cellCount size k) c (o .sized) (o .small))
+
+  pub laid-command : (commandIn l ≡ k) × (cellsIn size l ≡ c)
+  laid-command = (command-stated, cells-stated)
+
+length-stated : (size : ℕ) (l : List ℕ) → length (cellsIn size l) ≡ cellCount size (commandIn l)
+unfolding cellsIn
+length-stated size l = length-cells (cellCount size (commandIn l)) (drop 6 l)
+
+pub laid-exactly : (size : ℕ) (l : List ℕ) → (isLaid size l ≡ true) ↔ ((k : ℕ) × (c : List ℕ) × CommandLaid size k c l)
+unfolding isLaid
+laid-exactly size l = (to, back)
+  where
+    to : isLaid size l ≡ true → (k : ℕ) × (c : List ℕ) × CommandLaid size k c l
+    to e =
+        let a = and-yes (inRange 1 3 (commandIn l)) _ e in
+        let b = and-yes (equal (commandLine (commandIn l) (cellsIn size l)) l) (capped 255 (cellsIn size l)) (a .1) in (
+          commandIn l,
+          cellsIn size l,
+          record {
+            command = range-yes 1 3 (commandIn l) (a .0);
+            sized = length-stated size l;
+            small = b .1;
+            bytes = sym (equal-eq (commandLine (commandIn l) (cellsIn size l)) l (b .0));
+          },
+        )
+
+    back : (k : ℕ) × (c : List ℕ) × CommandLaid size k c l → isLaid size l ≡ true
+    back h =
+        let o = h .2 in
+        rw (command-stated o, cells-stated o)
+        (yes-and (inRange 1 3 (h .0)) _ (yes-range 1 3 (h .0) (o .command))
+        (yes-and (equal (commandLine (h .0) (h .1)) l) (capped 255 (h .1)) (eq-equal (commandLine (h .0) (h .1)) l (sym (o .bytes))) (o .small)))
+
+pub laid-length : (size : ℕ) (l : List ℕ) → isLaid size l ≡ true → length l ≡ 6 + 3 * cellCount size (commandIn l) + 1
+unfolding commandLine
+laid-length size l e =
+    let h = laid-exactly size l .0 e in
+    let c = h .1 in
+    let o = h .2 in
+    ap length (o .bytes)
+    ∙ length-append (field 6 (h .0)) (fields 3 c ++ (10 ∷ []))
+    ∙ rw (command-stated o) (omega (arith, length-field 6 (h .0), length-ended 3 c, o .sized))
+
+-- ---- the calls of command lines
+
+unfoldable pub inTurn : List ℕ → List ℕ → List ℕ
+inTurn [] high = []
+inTurn (x ∷ low) [] = []
+inTurn (x ∷ low) (y ∷ high) = x ∷ y ∷ inTurn low high
+
+at-in-turn : (low high : List ℕ) (i : ℕ) → length low ≡ length high → i < length low → (getD (inTurn low high) (2 * i) 0 ≡ getD low i 0) × (getD (inTurn low high) (2 * i + 1) 0 ≡ getD high i 0)
+unfolding inTurn
+at-in-turn [] high i e h = absurd (omega arith)
+at-in-turn (x ∷ low) [] i e h = absurd (omega arith)
+at-in-turn (x ∷ low) (y ∷ high) zero e h = (refl, refl)
+at-in-turn (x ∷ low) (y ∷ high) (suc i) e h =
+    let p : 2 * suc i ≡ suc (suc (2 * i)) = omega arith in
+    let q : 2 * suc i + 1 ≡ suc (suc (2 * i + 1)) = omega arith in
+    let r = at-in-turn low high i (omega arith) (omega arith) in
+    (rw p (r .0), rw q (r .1))
+
+length-in-turn : (low high : List ℕ) → length low ≡ length high → length (inTurn low high) ≡ 2 * length low
+unfolding inTurn
+length-in-turn [] high e = refl
+length-in-turn (x ∷ low) [] e = absurd (omega arith)
+length-in-turn (x ∷ low) (y ∷ high) e = omega (arith, length-in-turn low high (omega arith))
+
+halves : (j : ℕ) → (i : ℕ) × ((j ≡ 2 * i) ⊎ (j ≡ 2 * i + 1))
+halves zero = (0, inl refl)
+halves (suc zero) = (0, inr refl)
+halves (suc (suc j)) = go (halves j)
+  where
+    go : (i : ℕ) × ((j ≡ 2 * i) ⊎ (j ≡ 2 * i + 1)) → (i : ℕ) × ((suc (suc j) ≡ 2 * i) ⊎ (suc (suc j) ≡ 2 * i + 1))
+    go (i, inl e) = (suc i, inl (omega arith))
+    go (i, inr e) = (suc i, inr (omega arith))
+
+pub in-turn-parts : (size : ℕ) (c : List ℕ) → length c ≡ 2 * size → inTurn (lows size c) (highs size c) ≡ c
+unfolding lows highs
+in-turn-parts size c e = ext-getD 0 (inTurn low high) c (whole ∙ sym e) λ j b. at j (omega (arith, whole)) (halves j)
+  where
+    low : List ℕ
+    low = lows size c
+
+    high : List ℕ
+    high = highs size c
+
+    many : length low ≡ size
+    many = length-tabulate 0 size (λ i. getD c (2 * i) 0)
+
+    same : length low ≡ length high
+    same = many ∙ sym (length-tabulate 0 size (λ i. getD c (2 * i + 1) 0))
+
+    whole : length (inTurn low high) ≡ 2 * size
+    whole = length-in-turn low high same ∙ ap (λ (n : ℕ). 2 * n) many
+
+    at : (j : ℕ) → j < 2 * size → (i : ℕ) × ((j ≡ 2 * i) ⊎ (j ≡ 2 * i + 1)) → getD (inTurn low high) j 0 ≡ getD c j 0
+    at j b (i, inl d) = rw d (at-in-turn low high i same (omega (arith, many)) .0 ∙ at-tabulate size (λ i. getD c (2 * i) 0) i 0 (omega arith))
+    at j b (i, inr d) = rw d (at-in-turn low high i same (omega (arith, many)) .1 ∙ at-tabulate size (λ i. getD c (2 * i + 1) 0) i 0 (omega arith))
+
+module _ {size : ℕ} {line : List ℕ} where
+  pub enter-call : {g : List ℕ} → CommandLaid size 1 g line → callIn size line ≡ enter g
+  unfolding callIn callOf
+  enter-call o = let q = laid-command o in rw (q .0, q .1)
+
+  pub strike-call : {g : List ℕ} → CommandLaid size 2 g line → callIn size line ≡ strike g
+  unfolding callIn callOf
+  strike-call o = let q = laid-command o in rw (q .0, q .1)
+
+  pub fit-call : (low high : List ℕ) → length low ≡ size → length high ≡ size → CommandLaid size 3 (inTurn low high) line → callIn size line ≡ fit low high
+  unfolding callIn callOf lows highs
+  fit-call low high e f o =
+      let q = laid-command o in
+      rw (q .0, q .1)
+      (ap₂ fit (tabulate-is 0 low size _ e (λ i h. sym (at-in-turn low high i (omega arith) (omega arith) .0))) (tabulate-is 0 high size _ f (λ i h. sym (at-in-turn low high i (omega arith) (omega arith) .1))))

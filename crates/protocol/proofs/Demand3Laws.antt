@@ -1,0 +1,80 @@
+-- Demand 3 of planbook: a program has it exactly if it prints what planbook prints.
+--
+--   left-follows       ==  an implementation that answers what the machine does leaves the machine's bytes
+--   prints-demand3     ==  a program that prints what planbook prints meets demand 3
+--   demand3-prints     ==  and no other program does
+--   register-counts    ==  the count of the register printed is the number of live classes
+use mathlib.Core.Path.{_≡_, refl, sym, ap, ap₂, _∙_}
+use mathlib.Core.List.{List, [], _∷_, _++_}
+use Prim.Native.Nat.{ℕ, zero, suc}
+use lib.ListN.{length, replicate, length-replicate}
+use Rattle.layout.specs.Layout.{Shape, gridSize, layoutLength, count}
+use Rattle.machine.specs.Calls.{Outcome, opened}
+use Rattle.machine.specs.CallLists.{Call, Implementation, registerCalls, run, left}
+use Rattle.machine.specs.Machine.{shown, step, outcome}
+use Rattle.machine.specs.Demand3.{live, ListsLive, Demand3}
+use Rattle.machine.proofs.MachineLaws.{afterwards}
+use Rattle.machine.proofs.Demand3Laws.{demand3}
+use Rattle.machine.proofs.FollowLaws.{Follows, after-open, follows-open, follows-call, follows-next}
+use Rattle.protocol.specs.Input.{furtherLines}
+use Rattle.protocol.specs.Transcript.{shapeIn, startNo, printedRegister, transcript}
+use Rattle.protocol.specs.Programs.{Printing, Prints}
+use Rattle.protocol.specs.Demand3.{replies, inputCalls, PrintsCalls, PrintsDemand3}
+use Rattle.protocol.proofs.StartLaws.{start-limits}
+use Rattle.protocol.proofs.RunLaws.{start-refused, register-shown, transcript-ends, set-calls, reports-replies}
+
+pub left-follows : (i : Implementation) (s : Shape) (calls : List Call) (l : List (List ℕ)) → Follows i s l → left i (shown s l) calls ≡ shown s (afterwards s l calls)
+unfolding left afterwards outcome
+left-follows i s [] l f = refl
+left-follows i s (c ∷ calls) l f =
+    ap (λ (o : Outcome). left i (o .bytes) calls) (follows-call i s l f c) ∙ left-follows i s calls (step s l c .next) (follows-next i s l f c)
+
+module _ (i : Implementation) (d : Demand3 i) (input : List ℕ) (e : startNo input ≡ 0) where
+  starts : Follows i (shapeIn input) []
+  starts = follows-open i d (shapeIn input) (start-limits input e .0)
+
+  register-left : printedRegister input ≡ left i (shown (shapeIn input) []) (inputCalls input)
+  unfolding inputCalls
+  register-left =
+      register-shown input e ∙ ap (shown (shapeIn input)) (set-calls (shapeIn input) [] (furtherLines input)) ∙ sym (left-follows i (shapeIn input) (inputCalls input) [] starts)
+
+  printed-calls : transcript input
+      ≡ replies (gridSize (shapeIn input)) (furtherLines input) (run i (shown (shapeIn input) []) (inputCalls input)) ++ left i (shown (shapeIn input) []) (inputCalls input)
+  unfolding inputCalls
+  printed-calls =
+      transcript-ends input e
+      ∙ ap₂ _++_ (reports-replies (shapeIn input) [] (furtherLines input) ∙ ap (replies (gridSize (shapeIn input)) (furtherLines input)) (sym (starts (inputCalls input)))) register-left
+
+pub prints-demand3 : (p : Printing) → Prints p → PrintsDemand3 p
+unfolding Prints
+prints-demand3 p h = record { refuses = λ input k e. h input ∙ start-refused input k e .0; follows = follows }
+  where
+    follows : (i : Implementation) → Demand3 i → (input : List ℕ) → startNo input ≡ 0 → (slice : List ℕ) → length slice ≡ layoutLength (shapeIn input) →
+        PrintsCalls p i input (i .opens (shapeIn input) slice)
+    follows i d input e slice z =
+        let o : i .opens (shapeIn input) slice .number ≡ 0 = ap (λ (x : Outcome). x .number) (d .opens (shapeIn input) slice (start-limits input e .0) z) in
+        let a = d .follows (shapeIn input) slice o (inputCalls input) in
+        record { opened = o; prints = h input ∙ rw (a .starts) (printed-calls i d input e); after = a }
+
+-- the calls as specs/Calls has them meet demand 3
+own : Demand3 registerCalls
+unfolding registerCalls
+own = demand3 registerCalls (record { opens = λ s b. refl; enters = λ b g. refl; strikes = λ b g. refl; fits = λ b low high. refl })
+
+pub demand3-prints : (p : Printing) → PrintsDemand3 p → Prints p
+unfolding Prints
+demand3-prints p h input = go (startNo input) refl
+  where
+    go : (k : ℕ) → startNo input ≡ k → p input ≡ transcript input
+    go zero e =
+        let n = layoutLength (shapeIn input) in
+        let c = h .follows registerCalls own input e (replicate n 0) (length-replicate n 0) in
+        rw (c .after .starts) at (c .prints) ∙ sym (printed-calls registerCalls own input e)
+    go (suc k) e = h .refuses input k e ∙ sym (start-refused input k e .0)
+
+pub register-counts : (input : List ℕ) → startNo input ≡ 0 → (classes : List (List ℕ))
+    × ListsLive (shapeIn input .rows) (shapeIn input .columns) (live registerCalls (shapeIn input) (shown (shapeIn input) []) (inputCalls input)) classes
+    × (count (printedRegister input) ≡ length classes)
+register-counts input e =
+    let a = after-open registerCalls own (shapeIn input) (start-limits input e .0) (inputCalls input) in
+    (a .classes, a .lists, ap count (register-left registerCalls own input e) ∙ a .counts)
