@@ -3,7 +3,7 @@
 --   passes byte before low span  ==  what the byte and the one before it state ranks above low by at most span
 --   allPass k line before lows spans  ==  the first k bytes of a line do, by tables of lows and spans; before is the line a byte earlier
 --   LineOutcome r k line before lows spans  ==  r says whether the first k bytes do, and the rank of what each states is a byte
---   OrderedBounds low high         ==  at most 128 lows and as many highs, each low at most its high by rank
+--   OrderedBounds low high   ==  at most 128 lows and as many highs, each low at most its high by rank
 --   BoundTables n low high lows spans  ==  the tables of the first n bounds: at a field's last byte the rank of the low and how far that of the high is
 --                               above it, at the other bytes what every byte passes by; the highs' ranks are bytes
 --   oneMore found within     ==  one more than found where within is true

@@ -1,12 +1,12 @@
 -- Books, whole: opens, and lists of calls on a register's bytes, with every number, every place or count, and all bytes left.
 --
---   Opening   ==  the four numbers of an open, the slice lent to it, the number, and the bytes that it leaves
---   Opens o   ==  what the definitions say of it
---   openings  ==  the table of opens
---   Book      ==  a register's bytes, calls on it, their numbers, their places or counts, and the bytes that they leave
---   KeptBook k    ==  what the definitions say of it
---   books     ==  the table of books
---   BooksKept ==  the statement: every open and every book is kept so
+--   Opening     ==  the four numbers of an open, the slice lent to it, the number, and the bytes that it leaves
+--   Opens o     ==  what the definitions say of it
+--   openings    ==  the table of opens
+--   Book        ==  a register's bytes, calls on it, their numbers, their places or counts, and the bytes that they leave
+--   KeptBook k  ==  what the definitions say of it
+--   books       ==  the table of books
+--   BooksKept   ==  the statement: every open and every book is kept so
 use mathlib.Core.Path.{_≡_}
 use mathlib.Core.List.{List, [], _∷_, map}
 use Prim.Native.Nat.{ℕ}

@@ -42,6 +42,7 @@ edges =
     record { asked = representQuestions 0 0 0 [] []; number = 1 }
     -- rows 8, columns 16, top 15, capacity 500 pass
     ∷ record { asked = representQuestions 8 16 15 (zeros 128) (zeros 128); number = 0 }
+    -- so they do to open, which asks for its slice next
     ∷ record { asked = openQuestions (shape 8 16 15 500) []; number = 6 }
     ∷ record { asked = openQuestions (shape 1 1 15 500) (zeros 2031); number = 0 }
     -- one more gives 1, 2, 3, 4

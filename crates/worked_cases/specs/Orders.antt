@@ -1,6 +1,6 @@
 -- Orders that follow each other, their reverses and the starting one, as one table: what the definitions give, and the numbers listed.
 --
---   OrderCase        ==  a list that a definition gives, and its numbers
+--   OrderCase   ==  a list that a definition gives, and its numbers
 --   starting8   ==  8 positions, each holding its own number
 --   orders      ==  the table
 --   OrdersHold  ==  the statement: every list has these numbers

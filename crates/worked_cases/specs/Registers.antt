@@ -1,7 +1,7 @@
 -- Question 5 of some byte strings, as one table: which are registers.
 --
---   RegisterCase       ==  bytes, as text, and the answer
---   registers  ==  the table
+--   RegisterCase   ==  bytes, as text, and the answer
+--   registers      ==  the table
 --   RegistersHold  ==  the statement: question 5 answers so
 use mathlib.Core.Path.{_≡_}
 use mathlib.Core.List.{List, [], _∷_}

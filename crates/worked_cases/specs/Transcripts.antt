@@ -167,7 +167,7 @@ runs =
           ∷ "            \n"
           ∷ [];
     }
-    -- 102, 101 in a full register, 9, 10, 0, and 10 again after a strike
+    -- 0, 102, 101 in a full register, 9, 10, and 10 again after a strike
     ∷ record {
       input = "     2     2     1     1\n"
           ∷ "     1  1  0  0  1\n"
