@@ -47,13 +47,23 @@ enum {
 /* The bytes of a register. The numbers are within the limits. */
 #define PLAN_REGISTER_BYTES(m, n, capacity) (31 + (size_t)(capacity) * (3 * (size_t)(m) * (size_t)(n) + 1))
 
-/* What represent and same return. The arrangement of a grid A by the orders P and Q has the cell
+/* What represent returns. The arrangement of a grid A by the orders P and Q has the cell
  * A(P(i), Q(j)) in row i, column j. With any number but 0 each position holds its own number. */
 typedef struct plan_register_arranged {
     uint32_t number;
     uint8_t rows[8];     /* P; positions past m hold their own number */
     uint8_t columns[16]; /* Q; positions past n hold their own number */
 } plan_register_arranged;
+
+/* What same returns. With 0 the arrangement of a by the orders is b; with any other number each
+ * position holds its own number. */
+typedef struct plan_register_matched {
+    uint32_t number;
+    uint32_t agreed;     /* leading cells in which the two representatives agree: m * n with 0, fewer with
+                          * 103, 0 with a refusal; agreed / n full rows and agreed % n cells of the next */
+    uint8_t rows[8];     /* P; positions past m hold their own number */
+    uint8_t columns[16]; /* Q; positions past n hold their own number */
+} plan_register_matched;
 
 /* What open, enter and strike return. */
 typedef struct plan_register_placed {
@@ -76,6 +86,10 @@ PLAN_REGISTER_ASSERT(sizeof(size_t) == 8);
 PLAN_REGISTER_ASSERT(sizeof(plan_register_arranged) == 28);
 PLAN_REGISTER_ASSERT(offsetof(plan_register_arranged, rows) == 4);
 PLAN_REGISTER_ASSERT(offsetof(plan_register_arranged, columns) == 12);
+PLAN_REGISTER_ASSERT(sizeof(plan_register_matched) == 32);
+PLAN_REGISTER_ASSERT(offsetof(plan_register_matched, agreed) == 4);
+PLAN_REGISTER_ASSERT(offsetof(plan_register_matched, rows) == 8);
+PLAN_REGISTER_ASSERT(offsetof(plan_register_matched, columns) == 16);
 PLAN_REGISTER_ASSERT(sizeof(plan_register_placed) == 8);
 PLAN_REGISTER_ASSERT(offsetof(plan_register_placed, place) == 4);
 PLAN_REGISTER_ASSERT(sizeof(plan_register_counted) == 8);
@@ -89,11 +103,11 @@ plan_register_arranged plan_register_represent(size_t m, size_t n, size_t top,
                                                uint8_t *out, size_t out_length);
 
 /* Same: are the grids a and b, of m * n bytes, in one class? Writes nothing.
- * 0 with orders by which b is the arrangement of a; 103 if they are in two classes; otherwise
- * 1, 2, 3, 6 or 7. */
-plan_register_arranged plan_register_same(size_t m, size_t n, size_t top,
-                                          const uint8_t *a, size_t a_length,
-                                          const uint8_t *b, size_t b_length);
+ * 0 with orders by which b is the arrangement of a; 103 if they are in two classes; with both, how
+ * many leading cells of their representatives agree; otherwise 1, 2, 3, 6 or 7. */
+plan_register_matched plan_register_same(size_t m, size_t n, size_t top,
+                                         const uint8_t *a, size_t a_length,
+                                         const uint8_t *b, size_t b_length);
 
 /* Prune: writes to low and high, of m * n bytes, the values that some grid within the bounds, with
  * allperm, has in each cell.

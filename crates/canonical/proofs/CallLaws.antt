@@ -6,6 +6,7 @@
 --   represent-determined ==  two answers to the same arguments have one number and one output slice
 --   same-zero, same-103  ==  where every question gets a yes: 0 exactly for grids in one class, 103 exactly for grids in two
 --   same-leasts          ==  and 0 exactly for grids with one least grid
+--   same-first-no, same-asked  ==  a refusal has its question's number; 0 is no refusal
 --   represent-answers, same-answers  ==  on all arguments there is an answer
 --   represent-refused, same-refused  ==  in a refusal and with 103: the number, orders that move nothing, and the slice as it was
 --   produces-past        ==  orders that produce a grid have 8 and 16 positions, and those past the rows and columns hold their own number
@@ -29,7 +30,7 @@ use Rattle.grids.proofs.GridLaws.{arrangement-identity, arrangement-twice, clas
 use Rattle.grids.proofs.LeastLaws.{least-is, least-in-class, one-class-one-least}
 use Rattle.grids.proofs.QuestionLaws.{grid-of, grid-capped, all-one, all-two, slices-pass}
 use Rattle.canonical.specs.Represent.{Produces, representQuestions, Represented}
-use Rattle.canonical.specs.Same.{sameQuestions, sameNumber, Compared}
+use Rattle.canonical.specs.Same.{sameQuestions, sameNumber, sameAgreed, Compared}
 use Rattle.canonical.specs.Programs.{Representing, MeetsRepresent}
 use Rattle.canonical.specs.Demand2.{RepresentLeast}
 
@@ -97,8 +98,13 @@ same-number : (m n top : ℕ) (a b : List ℕ) (t : Bool) → firstNo (sameQuest
 unfolding sameNumber
 same-number m n top a b t e f = rw (e, f, sameNumber)
 
+-- a refusal has its question's number
+pub same-first-no : (m n top : ℕ) (a b : List ℕ) (k : ℕ) → firstNo (sameQuestions m n top a b) ≡ suc k → sameNumber m n top a b ≡ suc k
+unfolding sameNumber
+same-first-no m n top a b k e = rw (e, sameNumber)
+
 -- 0 is no refusal
-same-asked : (m n top : ℕ) (a b : List ℕ) → sameNumber m n top a b ≡ 0 → firstNo (sameQuestions m n top a b) ≡ 0
+pub same-asked : (m n top : ℕ) (a b : List ℕ) → sameNumber m n top a b ≡ 0 → firstNo (sameQuestions m n top a b) ≡ 0
 unfolding sameNumber
 same-asked m n top a b = go (firstNo (sameQuestions m n top a b)) refl
   where
@@ -188,33 +194,37 @@ represent-answers m n top g out = go (ℕ-discrete (firstNo (representQuestions 
       },
     )
 
-pub same-answers : (m n top : ℕ) (a b : List ℕ) → (number : ℕ) × (rows : List ℕ) × (columns : List ℕ) × Compared m n top a b number rows columns
+pub same-answers : (m n top : ℕ) (a b : List ℕ) → (number : ℕ) × (agreed : ℕ) × (rows : List ℕ) × (columns : List ℕ) × Compared m n top a b number agreed rows columns
 unfolding sameQuestions
 same-answers m n top a b = go (ℕ-discrete (sameNumber m n top a b) 0)
   where
     k : ℕ
     k = sameNumber m n top a b
 
-    go : Dec (k ≡ 0) → (number : ℕ) × (rows : List ℕ) × (columns : List ℕ) × Compared m n top a b number rows columns
+    go : Dec (k ≡ 0) → (number : ℕ) × (agreed : ℕ) × (rows : List ℕ) × (columns : List ℕ) × Compared m n top a b number agreed rows columns
     go (yes z) =
         let e = same-asked m n top a b z in
         let c = same-zero m n top a b e .0 z in
         let h = same-pass m n top a b .0 e .0 in (
           k,
+          sameAgreed m n top a b,
           padded 8 m (c .rows),
           padded 16 n (c .columns),
           record {
             number-is = refl;
+            agreed-is = refl;
             produced = λ e. padded-produce m n a b (h .rows-limits .1) (h .column-limits .1) c;
             starting = λ ne. absurd (ne z);
           },
         )
     go (no nz) = (
       k,
+      sameAgreed m n top a b,
       identity 8,
       identity 16,
       record {
         number-is = refl;
+        agreed-is = refl;
         produced = λ e. absurd (nz e);
         starting = λ ne. record { row-identity = refl; column-identity = refl };
       },
@@ -231,9 +241,9 @@ represent-refused m n top g out k e number rows columns out′ r =
     (z, s .row-identity, s .column-identity, r .unchanged (λ h. omega arith))
 
 pub same-refused : (m n top : ℕ) (a b : List ℕ) (k : ℕ) → sameNumber m n top a b ≡ suc k →
-    (number : ℕ) (rows columns : List ℕ) → Compared m n top a b number rows columns →
+    (number agreed : ℕ) (rows columns : List ℕ) → Compared m n top a b number agreed rows columns →
     (number ≡ suc k) × (rows ≡ identity 8) × (columns ≡ identity 16)
-same-refused m n top a b k e number rows columns r =
+same-refused m n top a b k e number agreed rows columns r =
     let z = r .number-is ∙ e in
     let s = r .starting (λ h. omega arith) in
     (z, s .row-identity, s .column-identity)

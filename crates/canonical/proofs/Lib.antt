@@ -1,5 +1,6 @@
 pub mod SearchSteps
 pub mod CallLaws
+pub mod AgreedLaws
 pub mod BlockLaws
 pub mod LeadingRows
 pub mod OneRow

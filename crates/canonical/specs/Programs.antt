@@ -27,6 +27,7 @@ MeetsRepresent f =
 
 pub record SameAnswer : Type 0 where
   pub number : ℕ
+  pub agreed : ℕ
   pub rows : List ℕ
   pub columns : List ℕ
 
@@ -34,4 +35,6 @@ abbrev pub Comparing : Type 0
 Comparing = (m n top : ℕ) → (a b : List ℕ) → SameAnswer
 
 unfoldable pub MeetsSame : Comparing → Type 0
-MeetsSame f = (m n top : ℕ) (a b : List ℕ) → Compared m n top a b (f m n top a b .number) (f m n top a b .rows) (f m n top a b .columns)
+MeetsSame f =
+    (m n top : ℕ) (a b : List ℕ) →
+    Compared m n top a b (f m n top a b .number) (f m n top a b .agreed) (f m n top a b .rows) (f m n top a b .columns)

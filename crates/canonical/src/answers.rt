@@ -1,11 +1,19 @@
 // What represent and same return.
 use permutations::columns::ColumnPermutation;
 use permutations::rows::RowPermutation;
-ghost use Rattle.canonical.specs.Answers.{Refused};
+ghost use Rattle.canonical.specs.Answers.{Refused, Unmatched};
 
-// The number, and the two orders.
+// What represent returns: the number, and the two orders.
 pub struct Answer {
     pub number: u32,
+    pub rows: RowPermutation,
+    pub columns: ColumnPermutation,
+}
+
+// What same returns: the number, how many leading cells of the representatives agree, and the two orders.
+pub struct Match {
+    pub number: u32,
+    pub agreed: u32,
     pub rows: RowPermutation,
     pub columns: ColumnPermutation,
 }
@@ -16,6 +24,18 @@ pub fn refused(number: u32) -> Answer
 {
     Answer {
         number,
+        rows: RowPermutation::identity(RowPermutation::WIDTH),
+        columns: ColumnPermutation::identity(ColumnPermutation::WIDTH),
+    }
+}
+
+// A number and how many leading cells agree, with orders that move nothing.
+pub fn unmatched(number: u32, agreed: u32) -> Match
+    ensures { λ r. ⌜ Unmatched number agreed r ⌝ }
+{
+    Match {
+        number,
+        agreed,
         rows: RowPermutation::identity(RowPermutation::WIDTH),
         columns: ColumnPermutation::identity(ColumnPermutation::WIDTH),
     }

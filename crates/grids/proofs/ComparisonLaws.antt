@@ -3,16 +3,20 @@
 --   compared-equal, compared-less, compared-greater  ==  what each answer means
 --   less-yes, less-no, equal-yes, equal-no, greater-yes, greater-no  ==  what the tests of a comparison say of the two lists
 --   equal-compared, less-compared, greater-compared  ==  and where it is given
+--   decided-less, decided-greater  ==  and by the first unequal values, wherever they stand
+--   first-less, first-greater  ==  and by the first values, where those are unequal
 use mathlib.Core.Path.{_≡_, refl, sym, ap, _∙_}
-use mathlib.Core.List.{List}
+use mathlib.Core.List.{List, _∷_}
 use mathlib.Core.Bool.{Bool, true, false, true≢false}
-use Prim.Native.Nat.{ℕ}
+use Prim.Native.Nat.{ℕ, _<_}
+use native.Mathlib.Nat.{not-suc-le-zero}
 use native.Mathlib.Omega.{arith}
+use lib.ListN.{length, getD}
 use Rattle.grids.specs.declared.comparisons.Comparison.{Comparison}
 use Rattle.grids.specs.declared.comparisons.Comparison.the-variants.{Less, Equal, Greater}
-use Rattle.grids.specs.Order.{_≼_, _≺_, leq}
+use Rattle.grids.specs.Order.{rank, _≼_, _≺_, leq}
 use Rattle.grids.specs.Comparisons.{isLess, isEqual, isGreater, compared}
-use Rattle.grids.proofs.OrderLaws.{≼-refl, ≼-antisymm, ≼-dec, ≺-≼, ≼-leq, leq-yes}
+use Rattle.grids.proofs.OrderLaws.{≼-refl, ≼-antisymm, ≼-dec, ≼-at, ≺-≼, ≼-leq, leq-yes}
 
 -- the answer by the two tests
 picked : Bool → Bool → Comparison
@@ -73,6 +77,20 @@ greater-compared a b h = go (leq a b) refl
     go : (s : Bool) → leq a b ≡ s → compared a b ≡ Greater
     go true e = absurd (h (leq-yes a b e))
     go false e = compared-picks a b false (leq b a) e refl
+
+-- the values before k are equal, and those at k are not
+module _ (k : ℕ) (a b : List ℕ) (h : k < length a) (l : k < length b) (before : (i : ℕ) → i < k → getD a i 0 ≡ getD b i 0) where
+  pub decided-less : rank (getD a k 0) < rank (getD b k 0) → compared a b ≡ Less
+  decided-less r = less-compared a b (λ le. let z = ≼-at b a le k l h (λ i c. sym (before i c)) in omega arith)
+
+  pub decided-greater : rank (getD b k 0) < rank (getD a k 0) → compared a b ≡ Greater
+  decided-greater r = greater-compared a b (λ le. let z = ≼-at a b le k h l before in omega arith)
+
+pub first-less : (x y : ℕ) (a b : List ℕ) → rank x < rank y → compared (x ∷ a) (y ∷ b) ≡ Less
+first-less x y a b l = decided-less 0 (x ∷ a) (y ∷ b) (omega arith) (omega arith) (λ i k. absurd (not-suc-le-zero k)) l
+
+pub first-greater : (x y : ℕ) (a b : List ℕ) → rank y < rank x → compared (x ∷ a) (y ∷ b) ≡ Greater
+first-greater x y a b l = decided-greater 0 (x ∷ a) (y ∷ b) (omega arith) (omega arith) (λ i k. absurd (not-suc-le-zero k)) l
 
 -- ---- the tests of a comparison
 

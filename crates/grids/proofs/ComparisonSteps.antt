@@ -9,12 +9,16 @@
 --   cells-less, cells-greater, cells-equal  ==  the comparison of two cells, by their ranks
 --   left-decided, left-passed   ==  the same, by the comparison of the values at i
 --   left-equal, left-shorter, left-longer  ==  both lists end at i, or only the first, or only the second
+--   Passed i a b                ==  a and b agree before i, and what is left of them from i on decides
+--   passed-none, passed-same    ==  at the start, and past values of equal rank
+--   passed-less, passed-greater, passed-equal, passed-shorter, passed-longer  ==  what comparing the two finds, and that they agree in i values
 use mathlib.Core.Path.{_≡_, refl, sym, ap, ap₂, _∙_}
 use mathlib.Core.List.{List, [], _∷_}
 use mathlib.Core.Bool.{Bool, true, false}
 use mathlib.Core.Logic.{⊎-elim}
 use Prim.Native.Nat.{ℕ, suc, _+_, _-_, _≤_, _<_}
 use native.Mathlib.Nat.{not-suc-le-zero, sub-zero}
+use native.Mathlib.Decide.{ℕ-discrete}
 use native.Mathlib.Numerals.{add-one}
 use native.Mathlib.Omega.{arith}
 use lib.ListN.{length, getD}
@@ -24,9 +28,11 @@ use Rattle.grids.specs.declared.comparisons.Comparison.{Comparison}
 use Rattle.grids.specs.declared.comparisons.Comparison.the-variants.{Less, Equal, Greater}
 use Rattle.grids.specs.Order.{rank}
 use Rattle.grids.specs.Grids.{cell}
-use Rattle.grids.specs.Comparisons.{isEqual, compared, comparedCells}
-use Rattle.grids.proofs.OrderLaws.{rank-antisymm, trichotomy, ≼-at, leq-same}
-use Rattle.grids.proofs.ComparisonLaws.{less-compared, greater-compared, equal-compared, equal-yes, equal-no}
+use Rattle.grids.specs.CommonPrefix.{commonPrefixLength}
+use Rattle.grids.specs.Comparisons.{isEqual, compared, comparedCells, ComparesGrids}
+use Rattle.grids.proofs.OrderLaws.{rank-antisymm, trichotomy, leq-same}
+use Rattle.grids.proofs.CommonPrefixLaws.{prefix-unique}
+use Rattle.grids.proofs.ComparisonLaws.{less-compared, greater-compared, equal-compared, first-less, first-greater, equal-yes, equal-no}
 
 pub cell-rank : (n : ℕ) (g : List ℕ) {x v i j k l : ℕ} → x ≡ rank v → v ≡ cell n g i j → i ≡ k → j ≡ l → x ≡ rank (cell n g k l)
 cell-rank n g p q r s = cc
@@ -35,18 +41,6 @@ pub cells-at : (n : ℕ) (g : List ℕ) (a b : ℕ) {c : Comparison} {i k : ℕ}
 cells-at n g a b e f = rw (← e) f
 
 -- ---- by the first values
-
-first-less : (x y : ℕ) (a b : List ℕ) → rank x < rank y → compared (x ∷ a) (y ∷ b) ≡ Less
-first-less x y a b l =
-    less-compared (x ∷ a) (y ∷ b) λ h.
-    let z : rank y ≤ rank x = ≼-at (y ∷ b) (x ∷ a) h 0 (omega arith) (omega arith) (λ i k. absurd (not-suc-le-zero k)) in
-    omega arith
-
-first-greater : (x y : ℕ) (a b : List ℕ) → rank y < rank x → compared (x ∷ a) (y ∷ b) ≡ Greater
-first-greater x y a b l =
-    greater-compared (x ∷ a) (y ∷ b) λ h.
-    let z : rank x ≤ rank y = ≼-at (x ∷ a) (y ∷ b) h 0 (omega arith) (omega arith) (λ i k. absurd (not-suc-le-zero k)) in
-    omega arith
 
 first-same : (x y : ℕ) (a b : List ℕ) → x ≡ y → compared (x ∷ a) (y ∷ b) ≡ compared a b
 unfolding compared
@@ -91,7 +85,7 @@ pub record LeftFrom (i m : ℕ) (u : ℕ → ℕ) (n : ℕ) (v : ℕ → ℕ) (a
 pub left-tabulated : (m : ℕ) (u : ℕ → ℕ) (n : ℕ) (v : ℕ → ℕ) → LeftFrom 0 m u n v (tabulate 0 m u) (tabulate 0 n v)
 left-tabulated m u n v = record { left = rw (sub-zero m, sub-zero n) }
 
-pub left-lists : (a b : List ℕ) → LeftFrom 0 (length a) (λ i. getD a i 0) (length b) (λ i. getD b i 0) a b
+left-lists : (a b : List ℕ) → LeftFrom 0 (length a) (λ i. getD a i 0) (length b) (λ i. getD b i 0) a b
 left-lists a b = record { left = rw (sub-zero (length a), sub-zero (length b), tabulate-getD 0 a (length a) refl, tabulate-getD 0 b (length b) refl) }
 
 module _ {i m : ℕ} {u : ℕ → ℕ} {n : ℕ} {v : ℕ → ℕ} {a b : List ℕ} (d : LeftFrom i m u n v a b) where
@@ -101,10 +95,10 @@ module _ {i m : ℕ} {u : ℕ → ℕ} {n : ℕ} {v : ℕ → ℕ} {a b : List �
   pub left-equal : m ≤ i → n ≤ i → Equal ≡ compared a b
   left-equal h k = sym (equal-compared [] [] refl) ∙ left-as (none i m u h) (none i n v k)
 
-  pub left-shorter : m ≤ i → i < n → Less ≡ compared a b
+  left-shorter : m ≤ i → i < n → Less ≡ compared a b
   left-shorter h k = sym (less-compared [] (v i ∷ tabulate (i + 1) (n - (i + 1)) v) (λ l. l)) ∙ left-as (none i m u h) (next i n v k)
 
-  pub left-longer : i < m → n ≤ i → Greater ≡ compared a b
+  left-longer : i < m → n ≤ i → Greater ≡ compared a b
   left-longer h k = sym (greater-compared (u i ∷ tabulate (i + 1) (m - (i + 1)) u) [] (λ l. l)) ∙ left-as (next i m u h) (none i n v k)
 
   -- both have a value at i, and x and y are their ranks
@@ -127,3 +121,47 @@ module _ {i m : ℕ} {u : ℕ → ℕ} {n : ℕ} {v : ℕ → ℕ} {a b : List �
     left-passed f =
         let z = ap (λ (l : List ℕ). getD l 0 0) (equal-yes (u i ∷ []) (v i ∷ []) c true e (sym f) refl) in
         record { left = sym (first-same (u i) (v i) _ _ z) ∙ left-as (next i m u h) (next i n v k) }
+
+-- ---- two grids
+
+pub record Passed (i : ℕ) (a b : List ℕ) : Type 0 where
+  pub left : LeftFrom i (length a) (λ t. getD a t 0) (length b) (λ t. getD b t 0) a b
+  pub within : (i ≤ length a) × (i ≤ length b)
+  pub before : (t : ℕ) → t < i → getD a t 0 ≡ getD b t 0
+
+pub passed-none : (a b : List ℕ) → Passed 0 a b
+passed-none a b = record { left = left-lists a b; within = (omega arith, omega arith); before = λ t h. absurd (not-suc-le-zero h) }
+
+module _ {i : ℕ} {a b : List ℕ} (d : Passed i a b) where
+  agreed : (i < length a → i < length b → getD a i 0 ≡ getD b i 0 → ⊥) → i ≡ commonPrefixLength a b
+  agreed h = prefix-unique i a b (record { within = d .within; before = d .before; apart = h })
+
+  pub passed-equal : length a ≤ i → length b ≤ i → ComparesGrids a b (record { found = Equal; agreed = i })
+  passed-equal h k = record { found-is = left-equal (d .left) h k; agreed-is = agreed (λ l. absurd (omega arith)) }
+
+  pub passed-shorter : length a ≤ i → i < length b → ComparesGrids a b (record { found = Less; agreed = i })
+  passed-shorter h k = record { found-is = left-shorter (d .left) h k; agreed-is = agreed (λ l. absurd (omega arith)) }
+
+  pub passed-longer : i < length a → length b ≤ i → ComparesGrids a b (record { found = Greater; agreed = i })
+  passed-longer h k = record { found-is = left-longer (d .left) h k; agreed-is = agreed (λ l m. absurd (omega arith)) }
+
+  -- both have a value at i, and x and y are their ranks
+  module _ (h : i < length a) (k : i < length b) {x y : ℕ} (p : x ≡ rank (getD a i 0)) (q : y ≡ rank (getD b i 0)) where
+    unequal : (x ≡ y → ⊥) → i ≡ commonPrefixLength a b
+    unequal ne = agreed (λ l m e. ne (p ∙ ap rank e ∙ sym q))
+
+    pub passed-less : x < y → ComparesGrids a b (record { found = Less; agreed = i })
+    passed-less l = record { found-is = left-less (d .left) h k p q l; agreed-is = unequal (λ e. omega arith) }
+
+    pub passed-greater : y < x → ComparesGrids a b (record { found = Greater; agreed = i })
+    passed-greater l = record { found-is = left-greater (d .left) h k p q l; agreed-is = unequal (λ e. omega arith) }
+
+    pub passed-same : y ≤ x → x ≤ y → Passed (i + 1) a b
+    passed-same f g = record { left = left-same (d .left) h k p q f g; within = (omega arith, omega arith); before = before }
+      where
+        go : (t : ℕ) → t < i + 1 → Dec (t ≡ i) → getD a t 0 ≡ getD b t 0
+        go t l (yes e) = rw e (rank-antisymm (getD a i 0) (getD b i 0) (omega arith) (omega arith))
+        go t l (no e) = d .before t (omega arith)
+
+        before : (t : ℕ) → t < i + 1 → getD a t 0 ≡ getD b t 0
+        before t l = go t l (ℕ-discrete t i)

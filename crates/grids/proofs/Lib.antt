@@ -4,6 +4,7 @@ pub mod LeastLaws
 pub mod SortedColumns
 pub mod QuestionLaws
 pub mod ComparisonLaws
+pub mod CommonPrefixLaws
 pub mod QuestionSteps
 pub mod ComparisonSteps
 pub mod ArrangementSteps

@@ -3,12 +3,16 @@
 --   isLess c, isEqual c, isGreater c  ==  what the comparison c found
 --   compared a b  ==  Less where a comes before b, Greater where b comes before a, Equal where they are equal
 --   comparedCells x y  ==  the same of two cells
+--   ComparesGrids a b r  ==  r is what a comparison of a with b finds, and how many leading cells agree
+use mathlib.Core.Path.{_≡_}
 use mathlib.Core.List.{List, [], _∷_}
 use mathlib.Core.Bool.{Bool, true, false}
 use Prim.Native.Nat.{ℕ}
 use Rattle.grids.specs.declared.comparisons.Comparison.{Comparison}
 use Rattle.grids.specs.declared.comparisons.Comparison.the-variants.{Less, Equal, Greater}
+use Rattle.grids.specs.declared.comparisons.GridComparison.{GridComparison}
 use Rattle.grids.specs.Order.{leq}
+use Rattle.grids.specs.CommonPrefix.{commonPrefixLength}
 
 abbrev pub isLess : Comparison → Bool
 isLess Less = true
@@ -30,3 +34,7 @@ compared a b = elim (leq a b) [ true ↦ elim (leq b a) [ true ↦ Equal | false
 
 abbrev pub comparedCells : ℕ → ℕ → Comparison
 comparedCells x y = compared (x ∷ []) (y ∷ [])
+
+pub record ComparesGrids (a b : List ℕ) (r : GridComparison) : Type 0 where
+  pub found-is : r .found ≡ compared a b
+  pub agreed-is : r .agreed ≡ commonPrefixLength a b

@@ -1,4 +1,5 @@
 pub mod Order
+pub mod CommonPrefix
 pub mod Neighbours
 pub mod Grids
 pub mod Sorted

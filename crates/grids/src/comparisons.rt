@@ -10,13 +10,19 @@ ghost use Rattle.permutations.specs.Rows.{rowNumbers};
 ghost use Rattle.permutations.specs.Columns.{columnNumbers};
 ghost use Rattle.grids.specs.Sorted.{partOfColumn};
 ghost use Rattle.grids.specs.Grids.{cell, permutedRow};
-ghost use Rattle.grids.specs.Comparisons.{isLess, isEqual, isGreater, compared, comparedCells};
+ghost use Rattle.grids.specs.Comparisons.{isLess, isEqual, isGreater, compared, comparedCells, ComparesGrids};
 
 // What a comparison finds of its first argument.
 pub enum Comparison {
     Less,
     Equal,
     Greater,
+}
+
+// What comparing two grids finds, and how many leading cells agree: all of them if they are equal.
+pub struct GridComparison {
+    pub found: Comparison,
+    pub agreed: usize,
 }
 
 // Whether the first comes before the second.
@@ -127,27 +133,42 @@ pub fn compare_rows(
     Comparison::Equal
 }
 
-// Two grids, row after row; a grid comes before those that it begins.
-pub fn compare_grids(a: &[u8], b: &[u8]) -> Comparison
-    ensures { λ r. ⌜ r ≡ compared (now (a .entry)) (now (b .entry)) ⌝ }
+// Two grids, row after row, in one pass; a grid comes before those that it begins.
+pub fn compare_grids(a: &[u8], b: &[u8]) -> GridComparison
+    ensures { λ r. ⌜ ComparesGrids (now (a .entry)) (now (b .entry)) r ⌝ }
 {
     let mut i = 0;
     while i < a.len() {
         if b.len() <= i {
-            return Comparison::Greater;
+            return GridComparison {
+                found: Comparison::Greater,
+                agreed: i,
+            };
         }
         let x = cells::rank(a[i]);
         let y = cells::rank(b[i]);
         if x < y {
-            return Comparison::Less;
+            return GridComparison {
+                found: Comparison::Less,
+                agreed: i,
+            };
         }
         if y < x {
-            return Comparison::Greater;
+            return GridComparison {
+                found: Comparison::Greater,
+                agreed: i,
+            };
         }
         i += 1;
     }
     if i < b.len() {
-        return Comparison::Less;
+        return GridComparison {
+            found: Comparison::Less,
+            agreed: i,
+        };
     }
-    Comparison::Equal
+    GridComparison {
+        found: Comparison::Equal,
+        agreed: i,
+    }
 }

@@ -1,13 +1,22 @@
 -- Answers as they are exported. Between functions: no answer of a call is defined here.
 --
---   Exported answer r  ==  r holds the answer's number and the numbers of its two orders
+--   Exported answer r       ==  r holds the answer's number and the numbers of its two orders
+--   ExportedMatch answer r  ==  and how many leading cells agree
 use mathlib.Core.Path.{_≡_}
 use Rattle.permutations.specs.Rows.{rowNumbers}
 use Rattle.permutations.specs.Columns.{columnNumbers}
 use Rattle.canonical.specs.declared.answers.Answer.{Answer}
+use Rattle.canonical.specs.declared.answers.Match.{Match}
 use Rattle.plan_register.specs.declared.Arranged.{Arranged}
+use Rattle.plan_register.specs.declared.Matched.{Matched}
 
 pub record Exported (answer : Answer) (r : Arranged) : Type 0 where
   pub number : r .number ≡ answer .number
+  pub rows : r .rows ≡ rowNumbers (answer .rows)
+  pub columns : r .columns ≡ columnNumbers (answer .columns)
+
+pub record ExportedMatch (answer : Match) (r : Matched) : Type 0 where
+  pub number : r .number ≡ answer .number
+  pub agreed : r .agreed ≡ answer .agreed
   pub rows : r .rows ≡ rowNumbers (answer .rows)
   pub columns : r .columns ≡ columnNumbers (answer .columns)

@@ -2,6 +2,7 @@
 use bounds::prune;
 use bounds::prune::Counted;
 use canonical::answers::Answer;
+use canonical::answers::Match;
 use canonical::represent;
 use canonical::same;
 use register::answers::Placed;
@@ -15,7 +16,7 @@ ghost use Rattle.canonical.specs.Same.{Compared};
 ghost use Rattle.bounds.specs.Prune.{prunedTo};
 ghost use Rattle.bounds.specs.Demand2.{Prunes};
 ghost use Rattle.machine.specs.Calls.{opened, entered, struck, fitted, placed, shape};
-ghost use Rattle.plan_register.specs.Exported.{Exported};
+ghost use Rattle.plan_register.specs.Exported.{Exported, ExportedMatch};
 
 // The number, the row order and the column order.
 #[repr(C)]
@@ -36,6 +37,27 @@ fn exported(answer: Answer) -> Arranged
     }
 }
 
+// The number, how many leading cells of the two representatives agree, the row order and the column order.
+#[repr(C)]
+pub struct Matched {
+    pub number: u32,
+    pub agreed: u32,
+    pub rows: [u8; 8],
+    pub columns: [u8; 16],
+}
+
+// The same of what same returns.
+fn exported_match(answer: Match) -> Matched
+    ensures { λ r. ⌜ ExportedMatch answer r ⌝ }
+{
+    Matched {
+        number: answer.number,
+        agreed: answer.agreed,
+        rows: answer.rows.bytes(),
+        columns: answer.columns.bytes(),
+    }
+}
+
 #[no_mangle]
 pub extern "C" fn plan_register_represent(
     m: usize,
@@ -50,10 +72,10 @@ pub extern "C" fn plan_register_represent(
 }
 
 #[no_mangle]
-pub extern "C" fn plan_register_same(m: usize, n: usize, top: usize, a: &[u8], b: &[u8]) -> Arranged
-    ensures { λ r. ⌜ Compared m n top (now (a .entry)) (now (b .entry)) (r .number) (r .rows) (r .columns) ⌝ }
+pub extern "C" fn plan_register_same(m: usize, n: usize, top: usize, a: &[u8], b: &[u8]) -> Matched
+    ensures { λ r. ⌜ Compared m n top (now (a .entry)) (now (b .entry)) (r .number) (r .agreed) (r .rows) (r .columns) ⌝ }
 {
-    exported(same::same(m, n, top, a, b))
+    exported_match(same::same(m, n, top, a, b))
 }
 
 #[no_mangle]

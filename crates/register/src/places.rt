@@ -26,7 +26,8 @@ fn compare_entry(register: &[u8], e: usize, count: usize, grid: &[u8]) -> Compar
     let end = start + width;
     let mut cells = [0u8; 128];
     entries::read_line(&register[start..end], &mut cells[0..size]);
-    comparisons::compare_grids(&cells[0..size], grid)
+    let compared = comparisons::compare_grids(&cells[0..size], grid);
+    compared.found
 }
 
 // The lines among which a place is sought.

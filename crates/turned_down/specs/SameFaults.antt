@@ -7,15 +7,21 @@
 --   OrdersFromB f      ==  the orders returned produce A from B
 --   IgnoresB f         ==  the cells of B are not asked
 --   MovesWith103 f     ==  with 103 a column order is returned that moves something
+--   AgreesAsSent f     ==  with 103 the cells that agree are counted in the grids as sent
+--   CountsUnequal f    ==  with 103 the first cells that differ are counted too
+--   AgreesInNone f     ==  with 0 no cell is said to agree
+--   AgreesRefusing f   ==  with 7 some cell is said to agree
 use mathlib.Core.Path.{_≡_}
 use mathlib.Core.List.{List, foldr}
 use mathlib.Core.Bool.{true, false}
-use Prim.Native.Nat.{ℕ, _+_, _*_}
+use Prim.Native.Nat.{ℕ, suc, _+_, _*_}
 use lib.ListN.{length, take}
 use Rattle.permutations.specs.Lists.{tabulate}
 use Rattle.permutations.specs.Permutations.{identity}
 use Rattle.grids.specs.Order.{equal}
+use Rattle.grids.specs.CommonPrefix.{commonPrefixLength}
 use Rattle.grids.specs.Grids.{capped, row, arrangement}
+use Rattle.grids.specs.Least.{least}
 use Rattle.canonical.specs.Programs.{Comparing}
 use Rattle.turned_down.specs.RepresentFaults.{sortedBothWays}
 
@@ -42,3 +48,16 @@ IgnoresB f = (m n top : ℕ) (a b : List ℕ) → capped top a ≡ true → f m 
 
 unfoldable pub MovesWith103 : Comparing → Type 0
 MovesWith103 f = (m n top : ℕ) (a b : List ℕ) → f m n top a b .number ≡ 103 → f m n top a b .columns ≡ identity 16 → ⊥
+
+unfoldable pub AgreesAsSent : Comparing → Type 0
+AgreesAsSent f = (m n top : ℕ) (a b : List ℕ) → f m n top a b .number ≡ 103 → f m n top a b .agreed ≡ commonPrefixLength a b
+
+unfoldable pub CountsUnequal : Comparing → Type 0
+CountsUnequal f =
+    (m n top : ℕ) (a b : List ℕ) → f m n top a b .number ≡ 103 → f m n top a b .agreed ≡ suc (commonPrefixLength (least m n a) (least m n b))
+
+unfoldable pub AgreesInNone : Comparing → Type 0
+AgreesInNone f = (m n top : ℕ) (a b : List ℕ) → f m n top a b .number ≡ 0 → f m n top a b .agreed ≡ 0
+
+unfoldable pub AgreesRefusing : Comparing → Type 0
+AgreesRefusing f = (m n top : ℕ) (a b : List ℕ) → f m n top a b .number ≡ 7 → f m n top a b .agreed ≡ 0 → ⊥

@@ -1,5 +1,6 @@
 pub mod Orders
 pub mod Edges
+pub mod Pairs
 pub mod Registers
 pub mod Books
 pub mod Transcripts

@@ -1,6 +1,7 @@
 pub mod Text
 pub mod Orders
 pub mod Edges
+pub mod Pairs
 pub mod Registers
 pub mod Books
 pub mod Transcripts

@@ -1,14 +1,14 @@
 //! What the compared implementations have in common: the calls and their questions.
 
 use plan_register::numbers::{BOUNDS, CELL, COLUMNS, DONE, LENGTH, ROWS, TOP};
-use plan_register::{Arranged, Counted, Placed};
+use plan_register::{Arranged, Counted, Matched, Placed};
 use reference::grid::rank;
 
 /// The call represent: m, n, top, the grid, the output.
 pub type Represent = fn(usize, usize, usize, &[u8], &mut [u8]) -> Arranged;
 
 /// The call same: m, n, top, the two grids.
-pub type Same = fn(usize, usize, usize, &[u8], &[u8]) -> Arranged;
+pub type Same = fn(usize, usize, usize, &[u8], &[u8]) -> Matched;
 
 /// The call prune: m, n, top, the lows, the highs.
 pub type Prune = fn(usize, usize, usize, &mut [u8], &mut [u8]) -> Counted;
@@ -78,6 +78,17 @@ pub fn starting(number: u32) -> Arranged {
         number,
         rows: [0, 1, 2, 3, 4, 5, 6, 7],
         columns: [0, 1, 2, 3, 4, 5, 6, 7, 8, 9, 10, 11, 12, 13, 14, 15],
+    }
+}
+
+/// This number and so many cells that agree, with the starting orders.
+pub fn unmatched(number: u32, agreed: u32) -> Matched {
+    let Arranged { rows, columns, .. } = starting(number);
+    Matched {
+        number,
+        agreed,
+        rows,
+        columns,
     }
 }
 

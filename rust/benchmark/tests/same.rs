@@ -5,14 +5,17 @@ use benchmark::inputs::Input;
 use benchmark::pairs::inputs;
 use benchmark::same_search::same;
 use reference::examples::{every_grid, shapes_up_to};
-use reference::grid::{arrangement, least};
+use reference::grid::{agreed, arrangement, least};
 use reference::random::Random;
 
-/// Checks same on two grids: their classes are one or two, and the orders carry one to the other.
+/// Checks same on two grids: their classes are one or two, so many cells agree, and the orders
+/// carry one to the other.
 fn check(m: usize, n: usize, top: u8, a: &[u8], b: &[u8]) {
-    let one_class = least(m, n, a) == least(m, n, b);
+    let (of_a, of_b) = (least(m, n, a), least(m, n, b));
+    let one_class = of_a == of_b;
     let found = same(m, n, top.into(), a, b);
     assert_eq!(found.number, if one_class { 0 } else { 103 });
+    assert_eq!(found.agreed as usize, agreed(&of_a, &of_b));
     let carried = arrangement(m, n, &found.rows, &found.columns, a);
     assert_eq!(carried == b, one_class, "{m}x{n}: {a:?} {b:?}");
 }

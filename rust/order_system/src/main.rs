@@ -43,6 +43,7 @@ fn run() -> Result<(), Box<dyn Error>> {
     println!("{WITHDRAWN:?} withdrawn from place {place}");
     count(&register)?;
     compare(&ORDERS[0], &ORDERS[1])?;
+    compare(&ORDERS[2], &ORDERS[3])?;
     Ok(())
 }
 
@@ -99,16 +100,20 @@ fn count(register: &Register) -> Result<(), Refusal> {
     Ok(())
 }
 
-/// Prints a plan's least arrangement, and the orders by which another plan is one of it.
+/// Prints a plan's least arrangement, and whether another plan is the same: then by which
+/// orders, else how far their least arrangements agree.
 fn compare(plan: &[u8], other: &[u8]) -> Result<(), Refusal> {
     let mut least = [0; CELLS];
     passed(represent(ROWS, COLUMNS, TOP, plan, &mut least).number)?;
     let found = same(ROWS, COLUMNS, TOP, plan, other);
     passed(found.number)?;
-    let (rows, columns) = (&found.rows[..ROWS], &found.columns[..COLUMNS]);
-    let two = found.number == TWO_CLASSES;
-    let plans = if two { "two plans" } else { "one plan" };
-    println!("least {least:?}; {plans}, by rows {rows:?} and columns {columns:?}");
+    if found.number == TWO_CLASSES {
+        let agreement = found.agreement(COLUMNS);
+        println!("least {least:?}; two plans, which agree in {agreement}");
+    } else {
+        let (rows, columns) = (&found.rows[..ROWS], &found.columns[..COLUMNS]);
+        println!("least {least:?}; one plan, by rows {rows:?} and columns {columns:?}");
+    }
     Ok(())
 }
 

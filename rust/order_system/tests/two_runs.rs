@@ -46,6 +46,7 @@ const FIRST: &str = "\
 1 of 2 entries are in bounds
 pruned of 3 values: [1, 0, 0, 1, 1, 1] to [3, 3, 3, 3, 3, 3]
 least [1, 2, 3, 3, 2, 2]; one plan, by rows [1, 0] and columns [0, 2, 1]
+least [0, 0, 1, 1, 2, 1]; two plans, which agree in 2 cells of the first row
 ";
 
 const SECOND: &str = "\
@@ -60,6 +61,7 @@ const SECOND: &str = "\
 1 of 2 entries are in bounds
 pruned of 3 values: [1, 0, 0, 1, 1, 1] to [3, 3, 3, 3, 3, 3]
 least [1, 2, 3, 3, 2, 2]; one plan, by rows [1, 0] and columns [0, 2, 1]
+least [0, 0, 1, 1, 2, 1]; two plans, which agree in 2 cells of the first row
 ";
 
 const LEFT: &str = "     2     3     3     3     2

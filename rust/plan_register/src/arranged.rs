@@ -1,18 +1,17 @@
-//! What represent and same return.
+//! What represent returns.
 
 /// A number, a row order P and a column order Q.
 ///
 /// The arrangement of a grid A by P and Q has the cell A(P(i), Q(j)) in row i, column j.
 ///
-/// | `number` | what it means                                             | by which call |
-/// |----------|-----------------------------------------------------------|---------------|
-/// | 0        | done: the orders are the call's answer                    | both          |
-/// | 1        | refused: the rows are not 1 to 8                          | both          |
-/// | 2        | refused: the columns are not 1 to 16                      | both          |
-/// | 3        | refused: top is not 0 to 15                               | both          |
-/// | 6        | refused: a slice has not exactly rows times columns bytes | both          |
-/// | 7        | refused: a cell is above top                              | both          |
-/// | 103      | the two grids are in two classes; this is no refusal      | same          |
+/// | `number` | what it means                                             |
+/// |----------|-----------------------------------------------------------|
+/// | 0        | done: the orders are the call's answer                    |
+/// | 1        | refused: the rows are not 1 to 8                          |
+/// | 2        | refused: the columns are not 1 to 16                      |
+/// | 3        | refused: top is not 0 to 15                               |
+/// | 6        | refused: a slice has not exactly rows times columns bytes |
+/// | 7        | refused: a cell is above top                              |
 ///
 /// Of several refusals the first in this list is returned. With any number but 0 both
 /// orders are the starting ones: each position holds its own number.

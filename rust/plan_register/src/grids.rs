@@ -2,7 +2,7 @@
 #![allow(unsafe_code)]
 
 use crate::sys::{plan_register_represent, plan_register_same};
-use crate::Arranged;
+use crate::{Arranged, Matched};
 
 /// Represent: writes the least arrangement of the grid's class to `out`.
 ///
@@ -30,19 +30,19 @@ pub fn represent(m: usize, n: usize, top: usize, grid: &[u8], out: &mut [u8]) ->
 /// Same: are the grids `a` and `b` in one class?
 ///
 /// The numbers and the slices are as for [`represent`]. Number 0 with orders by which `b` is
-/// the arrangement of `a`, any such pair; 103 where the grids are in two classes. Otherwise
-/// a refusal, 1, 2, 3, 6 or 7.
+/// the arrangement of `a`, any such pair; 103 where the grids are in two classes. With both, how
+/// many leading cells of the two representatives agree. Otherwise a refusal, 1, 2, 3, 6 or 7.
 ///
 /// ```
 /// use plan_register::numbers::{DONE, TWO_CLASSES};
 ///
-/// let arranged = plan_register::same(1, 3, 3, &[3, 0, 2], &[0, 2, 3]);
-/// assert_eq!(arranged.number, DONE);
-/// assert_eq!(arranged.columns[..3], [1, 2, 0]);
+/// let one = plan_register::same(1, 3, 3, &[3, 0, 2], &[0, 2, 3]);
+/// assert_eq!((one.number, one.agreed), (DONE, 3));
+/// assert_eq!(one.columns[..3], [1, 2, 0]);
 /// let two = plan_register::same(2, 2, 1, &[0, 0, 1, 1], &[0, 1, 0, 1]);
-/// assert_eq!(two.number, TWO_CLASSES);
+/// assert_eq!((two.number, two.agreed), (TWO_CLASSES, 1));
 /// ```
-pub fn same(m: usize, n: usize, top: usize, a: &[u8], b: &[u8]) -> Arranged {
+pub fn same(m: usize, n: usize, top: usize, a: &[u8], b: &[u8]) -> Matched {
     // SAFETY: as `sys` says of every call.
     unsafe { plan_register_same(m, n, top, a.as_ptr(), a.len(), b.as_ptr(), b.len()) }
 }

@@ -6,23 +6,26 @@
 //! not pass a call's questions is refused by number, and a refusal changes no byte.
 //! `docs/GUIDE.md` tells how to use them.
 //!
-//! | module     | what                                                      |
-//! |------------|-----------------------------------------------------------|
-//! | `numbers`  | the numbers that the calls answer                         |
-//! | `grids`    | represent and same                                        |
-//! | `arranged` | what these return                                         |
-//! | `bounds`   | prune                                                     |
-//! | `bytes`    | open, enter, strike and fit                               |
-//! | `placed`   | what the first three return                               |
-//! | `counted`  | what prune and fit return                                 |
-//! | `register` | a register that owns its bytes                            |
-//! | `entered`  | what it returns for a class entered                       |
-//! | `fields`   | the numbers that it reads from its bytes                  |
-//! | `refusal`  | the numbers of refusals, as errors                        |
-//! | `sys`      | the library's declarations, and why calling them is sound |
+//! | module      | what                                                      |
+//! |-------------|-----------------------------------------------------------|
+//! | `numbers`   | the numbers that the calls answer                         |
+//! | `grids`     | represent and same                                        |
+//! | `arranged`  | what represent returns                                    |
+//! | `matched`   | what same returns                                         |
+//! | `agreement` | how far two plans agree, in words                         |
+//! | `bounds`    | prune                                                     |
+//! | `bytes`     | open, enter, strike and fit                               |
+//! | `placed`    | what the first three return                               |
+//! | `counted`   | what prune and fit return                                 |
+//! | `register`  | a register that owns its bytes                            |
+//! | `entered`   | what it returns for a class entered                       |
+//! | `fields`    | the numbers that it reads from its bytes                  |
+//! | `refusal`   | the numbers of refusals, as errors                        |
+//! | `sys`       | the library's declarations, and why calling them is sound |
 
 #![deny(unsafe_code)]
 
+mod agreement;
 mod arranged;
 mod bounds;
 mod bytes;
@@ -30,6 +33,7 @@ mod counted;
 mod entered;
 mod fields;
 mod grids;
+mod matched;
 pub mod numbers;
 mod placed;
 mod refusal;
@@ -37,12 +41,14 @@ mod register;
 #[allow(unsafe_code)]
 mod sys;
 
+pub use agreement::Agreement;
 pub use arranged::Arranged;
 pub use bounds::prune;
 pub use bytes::{enter, fit, open, strike};
 pub use counted::Counted;
 pub use entered::Entered;
 pub use grids::{represent, same};
+pub use matched::Matched;
 pub use placed::Placed;
 pub use refusal::Refusal;
 pub use register::Register;

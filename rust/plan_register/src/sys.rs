@@ -9,7 +9,7 @@
 //! come from one slice, which is lent until the call returns. A slice lent mutably overlaps no
 //! other.
 
-use crate::{Arranged, Counted, Placed};
+use crate::{Arranged, Counted, Matched, Placed};
 use std::mem::{align_of, offset_of, size_of};
 
 unsafe extern "C" {
@@ -31,7 +31,7 @@ unsafe extern "C" {
         a_length: usize,
         b: *const u8,
         b_length: usize,
-    ) -> Arranged;
+    ) -> Matched;
 
     pub fn plan_register_prune(
         m: usize,
@@ -82,6 +82,12 @@ const _: () = {
     assert!(offset_of!(Arranged, number) == 0);
     assert!(offset_of!(Arranged, rows) == 4);
     assert!(offset_of!(Arranged, columns) == 12);
+
+    assert!(size_of::<Matched>() == 32 && align_of::<Matched>() == 4);
+    assert!(offset_of!(Matched, number) == 0);
+    assert!(offset_of!(Matched, agreed) == 4);
+    assert!(offset_of!(Matched, rows) == 8);
+    assert!(offset_of!(Matched, columns) == 16);
 
     assert!(size_of::<Placed>() == 8 && align_of::<Placed>() == 4);
     assert!(offset_of!(Placed, number) == 0);

@@ -4,7 +4,7 @@
 mod common;
 
 use common::limits::{BIT_32, BIT_63, COLUMNS, ROWS, TOPS};
-use common::{check_one_class, check_prune, check_pruned, represented, starting, Lent};
+use common::{check_one_class, check_prune, check_pruned, represented, starting, unmatched, Lent};
 use plan_register::{represent, same, Counted};
 use reference::questions::{self, Asked};
 use std::collections::BTreeSet;
@@ -117,7 +117,7 @@ fn check_same(numbers: Numbers, a: &[u8], b: &[u8]) -> Vec<u32> {
         None => check_one_class(m, n, top as u8, a, b),
         Some(&number) => {
             let orders = same(m, n, top, lent_a.slice(), lent_b.slice());
-            assert_eq!(orders, starting(number), "{numbers:?} {a:?} {b:?}");
+            assert_eq!(orders, unmatched(number, 0), "{numbers:?} {a:?} {b:?}");
             lent_a.check(a);
             lent_b.check(b);
         }

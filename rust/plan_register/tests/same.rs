@@ -2,10 +2,11 @@
 
 mod common;
 
-use common::{check_one_class, check_same, check_two_classes, random_shape, represented, shuffled};
+use common::{check_one_class, check_parting, check_same};
+use common::{random_shape, represented, shuffled};
 use plan_register::same;
-use reference::examples::{every_grid, plan};
-use reference::grid::{arrangement, least};
+use reference::examples::{every_grid, plan, shapes_up_to};
+use reference::grid::{agreed, arrangement, least};
 use reference::random::Random;
 
 /// Checks same on all pairs of grids of this shape and top.
@@ -17,7 +18,7 @@ fn check_every_pair(m: usize, n: usize, top: u8) {
             if least_of_a == least_of_b {
                 check_one_class(m, n, top, a, b);
             } else {
-                check_two_classes(m, n, top, a, b);
+                check_parting(m, n, top, a, b, agreed(least_of_a, least_of_b));
             }
         }
     }
@@ -79,6 +80,79 @@ fn random_grids_are_in_one_class_where_the_reference_says_so() {
     assert!((1000..19_000).contains(&one_class), "{one_class}");
 }
 
+/// A representative: so many cells are 0, and the others, which follow, are 1.
+fn zeros_then_ones(cells: usize, zeros: usize) -> Vec<u8> {
+    (0..cells).map(|k| u8::from(k >= zeros)).collect()
+}
+
+#[test]
+fn plans_of_every_shape_agree_in_every_number_of_cells() {
+    let mut random = Random::new(34);
+    for (m, n) in shapes_up_to(128) {
+        let zeros = vec![0; m * n];
+        check_one_class(m, n, 1, &zeros, &zeros);
+        for k in 0..m * n {
+            let other = shuffled(&mut random, m, n, &zeros_then_ones(m * n, k));
+            check_parting(m, n, 1, &zeros, &other, k);
+        }
+    }
+}
+
+#[test]
+fn plans_that_differ_in_the_last_cell_only() {
+    let mut random = Random::new(35);
+    for (m, n) in shapes_up_to(128) {
+        let (mut a, mut b) = (vec![0; m * n], vec![0; m * n]);
+        (a[m * n - 1], b[m * n - 1]) = (14, 15);
+        let (a, b) = (
+            shuffled(&mut random, m, n, &a),
+            shuffled(&mut random, m, n, &b),
+        );
+        check_parting(m, n, 15, &a, &b, m * n - 1);
+    }
+}
+
+#[test]
+fn the_cells_are_counted_in_the_representatives() {
+    // As sent the first two agree in 5 cells; their representatives are 001/121 and 002/121.
+    check_parting(2, 3, 2, &[1, 2, 1, 0, 0, 1], &[1, 2, 1, 0, 0, 2], 2);
+    check_parting(1, 2, 2, &[1, 0], &[1, 2], 0);
+    check_parting(1, 3, 2, &[1, 0, 0], &[0, 2, 0], 2);
+}
+
+#[test]
+fn arranging_the_plans_anew_changes_no_number() {
+    let mut random = Random::new(36);
+    for _ in 0..2000 {
+        let (m, n) = random_shape(&mut random, 8);
+        let top = random.between(0, 2) as u8;
+        let (a, b) = (random.cells(m * n, top), random.cells(m * n, top));
+        let found = same(m, n, top.into(), &a, &b);
+        let (c, d) = (
+            shuffled(&mut random, m, n, &a),
+            shuffled(&mut random, m, n, &b),
+        );
+        for (a, b) in [(&c, &d), (&d, &c), (&a, &d), (&c, &b)] {
+            let again = same(m, n, top.into(), a, b);
+            assert_eq!((again.number, again.agreed), (found.number, found.agreed));
+        }
+    }
+}
+
+#[test]
+fn what_agrees_in_rows_and_cells() {
+    let mut random = Random::new(37);
+    for (m, n) in shapes_up_to(128) {
+        let (a, b) = (random.cells(m * n, 1), random.cells(m * n, 1));
+        let found = same(m, n, 1, &a, &b);
+        let agreement = found.agreement(n);
+        assert!(agreement.cells < n);
+        assert_eq!(agreement.rows * n + agreement.cells, found.agreed as usize);
+    }
+    let refused = same(1, 0, 0, &[], &[]);
+    assert_eq!(refused.agreement(0).to_string(), "no cell");
+}
+
 #[test]
 fn one_slice_may_be_lent_as_both_grids() {
     let mut random = Random::new(33);
@@ -86,7 +160,7 @@ fn one_slice_may_be_lent_as_both_grids() {
         let (m, n) = random_shape(&mut random, 8);
         let grid = random.cells(m * n, 2);
         let orders = same(m, n, 2, &grid, &grid);
-        assert_eq!(orders.number, 0);
+        assert_eq!((orders.number, orders.agreed as usize), (0, m * n));
         let carried = arrangement(m, n, &orders.rows, &orders.columns, &grid);
         assert_eq!(carried, grid);
     }

@@ -4,8 +4,18 @@ mod common;
 
 use common::calls::{answer, check_answer, placed};
 use common::Lent;
-use plan_register::{open, Register};
-use reference::worked_cases::{books, openings, registers};
+use plan_register::{open, same, Register};
+use reference::worked_cases::{books, openings, pairs, registers};
+
+#[test]
+fn same_answers_as_the_table_says() {
+    for pair in pairs() {
+        let [m, n, top] = pair.shape.map(|number| number as usize);
+        let found = same(m, n, top, &pair.a, &pair.b);
+        let expected = (pair.number, pair.agreed);
+        assert_eq!((found.number, found.agreed), expected, "{pair:?}");
+    }
+}
 
 #[test]
 fn question_5_answers_as_the_table_says() {

@@ -26,6 +26,12 @@ pub fn compare(a: &[u8], b: &[u8]) -> Ordering {
     Ordering::Equal
 }
 
+/// How many leading cells of two grids agree.
+pub fn agreed(a: &[u8], b: &[u8]) -> usize {
+    let differ = a.iter().zip(b).position(|(x, y)| x != y);
+    differ.unwrap_or(a.len().min(b.len()))
+}
+
 /// The comparison of columns `a` and `b`: their top cells, and if equal the rows beneath.
 pub fn compare_columns(m: usize, n: usize, grid: &[u8], a: usize, b: usize) -> Ordering {
     for i in 0..m {

@@ -11,6 +11,16 @@ pub struct Bytes {
     pub answer: bool,
 }
 
+/// Two grids with their rows, columns and top, same's number, and how many cells agree.
+#[derive(Clone, Debug)]
+pub struct Pair {
+    pub shape: [u64; 3],
+    pub a: Vec<u8>,
+    pub b: Vec<u8>,
+    pub number: u32,
+    pub agreed: u32,
+}
+
 /// An open: its four numbers, the slice lent to it, its number, and the bytes that it leaves.
 #[derive(Clone, Debug)]
 pub struct Opening {
@@ -33,6 +43,19 @@ pub struct Book {
 pub struct Run {
     pub input: Vec<u8>,
     pub output: Vec<u8>,
+}
+
+/// The pairs of grids.
+pub fn pairs() -> Vec<Pair> {
+    let cases = table("Pairs", "pairs", " number = ");
+    let read = |case: &String| Pair {
+        shape: ["m", "n", "top"].map(|name| numbers(field(case, name))[0]),
+        a: cells(field(case, "a")),
+        b: cells(field(case, "b")),
+        number: numbers(field(case, "number"))[0] as u32,
+        agreed: numbers(field(case, "agreed"))[0] as u32,
+    };
+    cases.iter().map(read).collect()
 }
 
 /// The byte strings of question 5.
@@ -135,6 +158,10 @@ fn call(text: &str) -> Call {
 
 /// The grids or bounds in a text, each in parentheses.
 fn grids(value: &str) -> Vec<Vec<u8>> {
-    let grid = |part: &str| numbers(part).iter().map(|&v| v as u8).collect();
-    value.split('(').skip(1).map(grid).collect()
+    value.split('(').skip(1).map(cells).collect()
+}
+
+/// The cells in a text.
+fn cells(value: &str) -> Vec<u8> {
+    numbers(value).iter().map(|&v| v as u8).collect()
 }

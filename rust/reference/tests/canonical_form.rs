@@ -8,7 +8,7 @@ use reference::grid::{
     arrangement, arrangements, canonical, compare, compare_columns, identity, is_permutation,
     least, least_brute,
 };
-use reference::grid_calls::{represent, same, Arranged};
+use reference::grid_calls::{represent, same, Matched};
 use reference::random::Random;
 use std::cmp::Ordering;
 
@@ -17,23 +17,23 @@ fn represented(m: usize, n: usize, top: u8, grid: &[u8]) -> Vec<u8> {
     let mut out = vec![255; m * n];
     let orders = represent(m as u64, n as u64, top.into(), grid, &mut out);
     assert_eq!(orders.number, 0);
-    check_orders(m, n, &orders);
+    check_orders(m, n, orders.rows, orders.columns);
     assert_eq!(arrangement(m, n, &orders.rows, &orders.columns, grid), out);
     out
 }
 
-fn check_orders(m: usize, n: usize, orders: &Arranged) {
-    assert!(is_permutation(&orders.rows[..m]));
-    assert!(is_permutation(&orders.columns[..n]));
-    assert_eq!(orders.rows[m..], identity(8)[m..]);
-    assert_eq!(orders.columns[n..], identity(16)[n..]);
+fn check_orders(m: usize, n: usize, rows: [u8; 8], columns: [u8; 16]) {
+    assert!(is_permutation(&rows[..m]));
+    assert!(is_permutation(&columns[..n]));
+    assert_eq!(rows[m..], identity(8)[m..]);
+    assert_eq!(columns[n..], identity(16)[n..]);
 }
 
-/// Calls same on two grids of one class and checks its orders.
+/// Calls same on two grids of one class. Checks that all cells agree, and its orders.
 fn check_same(m: usize, n: usize, top: u8, a: &[u8], b: &[u8]) {
     let orders = same(m as u64, n as u64, top.into(), a, b);
-    assert_eq!(orders.number, 0);
-    check_orders(m, n, &orders);
+    assert_eq!((orders.number, orders.agreed as usize), (0, m * n));
+    check_orders(m, n, orders.rows, orders.columns);
     assert_eq!(arrangement(m, n, &orders.rows, &orders.columns, a), b);
 }
 
@@ -156,7 +156,11 @@ fn same_is_0_exactly_within_a_class() {
                     check_same(m, n, top, a, b);
                 } else {
                     let orders = same(m as u64, n as u64, top.into(), a, b);
-                    assert_eq!(orders, Arranged::starting(103));
+                    let k = orders.agreed as usize;
+                    assert_eq!(orders, Matched::starting(103, orders.agreed));
+                    let (of_a, of_b) = (least_brute(m, n, a), least_brute(m, n, b));
+                    assert_eq!(of_a[..k], of_b[..k]);
+                    assert_ne!(of_a[k], of_b[k]);
                 }
             }
         }

@@ -5,7 +5,7 @@ mod common;
 use common::{cells, form, plan};
 use reference::bounds::{allperm, allperm_by_listing, allperm_by_sorting, prune, Counted};
 use reference::grid::arrangement;
-use reference::grid_calls::{represent, same, Arranged};
+use reference::grid_calls::{represent, same, Arranged, Matched};
 
 /// The representative and the orders of a grid with top 3.
 fn represented(text: &str) -> (Vec<u8>, Arranged) {
@@ -57,7 +57,7 @@ fn m5_302_gives_023() {
 #[test]
 fn m6_same_of_00_11_and_01_01_is_103() {
     let orders = same(2, 2, 3, &cells("00/11"), &cells("01/01"));
-    assert_eq!(orders, Arranged::starting(103));
+    assert_eq!(orders, Matched::starting(103, 1));
 }
 
 #[test]

@@ -4,7 +4,7 @@ mod common;
 
 use common::{cells, register, unopened};
 use reference::bounds::{prune, Counted};
-use reference::grid_calls::{represent, same, Arranged};
+use reference::grid_calls::{represent, same, Arranged, Matched};
 use reference::layout::{register_length, Contents};
 use reference::register::{enter, fit, open, strike, Answer};
 
@@ -88,7 +88,7 @@ fn same_asks_1_2_3_6_7_in_order() {
         for (a, b) in [(&good, &bad), (&bad, &good)] {
             let orders = same(m, n, top, a, b);
             assert_eq!(orders.number, number, "{failed:?}");
-            assert!(number == 0 || orders == Arranged::starting(number));
+            assert!(number == 0 || orders == Matched::starting(number, 0));
         }
     }
 }
@@ -96,8 +96,8 @@ fn same_asks_1_2_3_6_7_in_order() {
 #[test]
 fn same_asks_all_lengths_before_all_cells() {
     let (short, high) = (vec![1; 5], vec![9; 6]);
-    assert_eq!(same(2, 3, 3, &short, &high), Arranged::starting(6));
-    assert_eq!(same(2, 3, 3, &high, &short), Arranged::starting(6));
+    assert_eq!(same(2, 3, 3, &short, &high), Matched::starting(6, 0));
+    assert_eq!(same(2, 3, 3, &high, &short), Matched::starting(6, 0));
 }
 
 #[test]
@@ -223,13 +223,13 @@ fn fit_and_prune_ask_both_lengths() {
 fn rows_0_and_columns_0_give_1() {
     for (m, n) in [(0, 0), (0, 5), (9, 0), (9, 17), (u64::MAX, u64::MAX)] {
         assert_eq!(represent(m, n, 16, &[], &mut []), Arranged::starting(1));
-        assert_eq!(same(m, n, 16, &[], &[]), Arranged::starting(1));
+        assert_eq!(same(m, n, 16, &[], &[]), Matched::starting(1, 0));
         assert_eq!(prune(m, n, 16, &mut [], &mut []).number, 1);
         assert_eq!(open(m, n, 16, 0, &mut []), refusal(1));
     }
     for n in [0, 17, u64::MAX] {
         assert_eq!(represent(8, n, 16, &[], &mut []), Arranged::starting(2));
-        assert_eq!(same(8, n, 16, &[], &[]), Arranged::starting(2));
+        assert_eq!(same(8, n, 16, &[], &[]), Matched::starting(2, 0));
         assert_eq!(prune(8, n, 16, &mut [], &mut []).number, 2);
         assert_eq!(open(8, n, 16, 0, &mut []), refusal(2));
     }
@@ -338,8 +338,8 @@ fn a_grid_of_another_length_gives_6() {
         let mut out = vec![200; 4];
         assert_eq!(represent(2, 2, 3, &grid, &mut out), Arranged::starting(6));
         assert_eq!(out, [200; 4]);
-        assert_eq!(same(2, 2, 3, &grid, &[0; 4]), Arranged::starting(6));
-        assert_eq!(same(2, 2, 3, &[0; 4], &grid), Arranged::starting(6));
+        assert_eq!(same(2, 2, 3, &grid, &[0; 4]), Matched::starting(6, 0));
+        assert_eq!(same(2, 2, 3, &[0; 4], &grid), Matched::starting(6, 0));
         assert_eq!(enter(&mut bytes, &grid), refusal(6));
         assert_eq!(strike(&mut bytes, &grid), refusal(6));
         assert_eq!(bytes, before);

@@ -1,9 +1,20 @@
 //! The worked cases of the definitions, answered by the reference.
 
+use reference::grid_calls::same;
 use reference::layout::Contents;
 use reference::planbook::transcript;
 use reference::register::{open, Answer};
-use reference::worked_cases::{books, openings, registers, transcripts};
+use reference::worked_cases::{books, openings, pairs, registers, transcripts};
+
+#[test]
+fn same_answers_as_the_table_says() {
+    for pair in pairs() {
+        let [m, n, top] = pair.shape;
+        let found = same(m, n, top, &pair.a, &pair.b);
+        let expected = (pair.number, pair.agreed);
+        assert_eq!((found.number, found.agreed), expected, "{pair:?}");
+    }
+}
 
 #[test]
 fn question_5_answers_as_the_table_says() {

@@ -18,6 +18,13 @@ static void print_arranged(const char *call, plan_register_arranged arranged)
     print_bytes(arranged.columns, sizeof arranged.columns);
 }
 
+static void print_matched(const char *call, plan_register_matched matched)
+{
+    printf("%s %u, agreed %u:", call, (unsigned)matched.number, (unsigned)matched.agreed);
+    print_bytes(matched.rows, sizeof matched.rows);
+    print_bytes(matched.columns, sizeof matched.columns);
+}
+
 static void print_placed(const char *call, plan_register_placed placed)
 {
     printf("%s %u, place %u\n", call, (unsigned)placed.number, (unsigned)placed.place);
@@ -37,10 +44,10 @@ static void call_on_grids(void)
     print_bytes(out, 6);
     print_arranged("represent", plan_register_represent(2, 3, 3, grid, 6, out, 6));
     print_bytes(out, 6);
-    print_arranged("same", plan_register_same(2, 3, 3, grid, 6, out, 6));
-    print_arranged("same", plan_register_same(2, 3, 3, grid, 6, out, 5));
-    out[0] = 0;
-    print_arranged("same", plan_register_same(2, 3, 3, grid, 6, out, 6));
+    print_matched("same", plan_register_same(2, 3, 3, grid, 6, out, 6));
+    print_matched("same", plan_register_same(2, 3, 3, grid, 6, out, 5));
+    out[5] = 3;
+    print_matched("same", plan_register_same(2, 3, 3, grid, 6, out, 6));
 }
 
 static void call_on_bounds(void)

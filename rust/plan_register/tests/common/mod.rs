@@ -8,8 +8,8 @@ pub mod limits;
 pub mod question_5;
 
 pub use lent::Lent;
-use plan_register::{prune, represent, same, Arranged, Counted};
-use reference::grid::{arrangement, identity, is_permutation, least};
+use plan_register::{prune, represent, same, Arranged, Counted, Matched};
+use reference::grid::{agreed, arrangement, identity, is_permutation, least};
 use reference::random::Random;
 
 /// Calls represent on a grid that passes. Checks that its orders are two permutations with
@@ -19,7 +19,7 @@ pub fn represented(m: usize, n: usize, top: u8, grid: &[u8]) -> Vec<u8> {
     let (lent, mut out) = (Lent::holding(grid), Lent::sentinels(m * n));
     let orders = represent(m, n, top.into(), lent.slice(), out.slice_mut());
     assert_eq!(orders.number, 0, "{m}x{n} top {top}: {grid:?}");
-    check_orders(m, n, &orders);
+    check_orders(m, n, orders.rows, orders.columns);
     let produced = arrangement(m, n, &orders.rows, &orders.columns, grid);
     lent.check(grid);
     out.check(&produced);
@@ -28,32 +28,44 @@ pub fn represented(m: usize, n: usize, top: u8, grid: &[u8]) -> Vec<u8> {
 
 /// Checks same on two grids that pass, against the reference. Are they in one class?
 pub fn check_same(m: usize, n: usize, top: u8, a: &[u8], b: &[u8]) -> bool {
-    let one_class = least(m, n, a) == least(m, n, b);
-    if one_class {
+    let (of_a, of_b) = (least(m, n, a), least(m, n, b));
+    if of_a == of_b {
         check_one_class(m, n, top, a, b);
     } else {
-        check_two_classes(m, n, top, a, b);
+        check_parting(m, n, top, a, b, agreed(&of_a, &of_b));
     }
-    one_class
+    of_a == of_b
 }
 
-/// Calls same on two grids of one class. Checks that its orders are two permutations with
-/// their own numbers past m and n, that they carry `a` to `b`, and that no byte changed.
+/// Calls same on two grids of one class. Checks that all cells agree, that its orders are two
+/// permutations with their own numbers past m and n, that they carry `a` to `b`, and that no
+/// byte changed.
 pub fn check_one_class(m: usize, n: usize, top: u8, a: &[u8], b: &[u8]) {
     let orders = unchanging_same(m, n, top, a, b);
     assert_eq!(orders.number, 0, "{m}x{n} top {top}: {a:?} {b:?}");
-    check_orders(m, n, &orders);
+    assert_eq!(orders.agreed as usize, m * n);
+    check_orders(m, n, orders.rows, orders.columns);
     assert_eq!(arrangement(m, n, &orders.rows, &orders.columns, a), b);
 }
 
-/// Calls same on two grids of two classes. Checks that it answers 103 with the starting
-/// orders, and that no byte changed.
+/// Calls same on two grids of two classes. Checks its answer by what represent writes for them.
 pub fn check_two_classes(m: usize, n: usize, top: u8, a: &[u8], b: &[u8]) {
-    let orders = unchanging_same(m, n, top, a, b);
-    assert_eq!(orders, starting(103), "{m}x{n} top {top}: {a:?} {b:?}");
+    let (of_a, of_b) = (represented(m, n, top, a), represented(m, n, top, b));
+    check_parting(m, n, top, a, b, agreed(&of_a, &of_b));
 }
 
-fn unchanging_same(m: usize, n: usize, top: u8, a: &[u8], b: &[u8]) -> Arranged {
+/// Calls same on two grids of two classes, in either order. Checks that it answers 103 with the
+/// starting orders and that so many cells agree, fewer than there are; and that no byte changed.
+pub fn check_parting(m: usize, n: usize, top: u8, a: &[u8], b: &[u8], agreed: usize) {
+    assert!(agreed < m * n);
+    for (a, b) in [(a, b), (b, a)] {
+        let found = unchanging_same(m, n, top, a, b);
+        let expected = unmatched(103, agreed as u32);
+        assert_eq!(found, expected, "{m}x{n} top {top}: {a:?} {b:?}");
+    }
+}
+
+fn unchanging_same(m: usize, n: usize, top: u8, a: &[u8], b: &[u8]) -> Matched {
     let (lent_a, lent_b) = (Lent::holding(a), Lent::holding(b));
     let orders = same(m, n, top.into(), lent_a.slice(), lent_b.slice());
     lent_a.check(a);
@@ -95,11 +107,11 @@ pub fn check_pruned(
     lent_high.check(new_high);
 }
 
-fn check_orders(m: usize, n: usize, orders: &Arranged) {
-    assert!(is_permutation(&orders.rows[..m]), "{orders:?}");
-    assert!(is_permutation(&orders.columns[..n]), "{orders:?}");
-    assert_eq!(orders.rows[m..], identity(8)[m..]);
-    assert_eq!(orders.columns[n..], identity(16)[n..]);
+fn check_orders(m: usize, n: usize, rows: [u8; 8], columns: [u8; 16]) {
+    assert!(is_permutation(&rows[..m]), "{rows:?}");
+    assert!(is_permutation(&columns[..n]), "{columns:?}");
+    assert_eq!(rows[m..], identity(8)[m..]);
+    assert_eq!(columns[n..], identity(16)[n..]);
 }
 
 /// This number with the starting orders.
@@ -109,6 +121,18 @@ pub fn starting(number: u32) -> Arranged {
         number: reference.number,
         rows: reference.rows,
         columns: reference.columns,
+    }
+}
+
+/// Same's answer where the grids are not carried to each other: this number, so many cells, and
+/// the starting orders.
+pub fn unmatched(number: u32, agreed: u32) -> Matched {
+    let Arranged { rows, columns, .. } = starting(number);
+    Matched {
+        number,
+        agreed,
+        rows,
+        columns,
     }
 }
 

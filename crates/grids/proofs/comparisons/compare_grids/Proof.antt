@@ -1,24 +1,24 @@
--- `compare_grids` meets its contract. The loop's invariant: what is left of the two grids from `i` on decides.
+-- `compare_grids` meets its contract. The loop's invariant: the two grids agree before `i`, and what is left from there on decides.
 -- The measure is what is left of the first.
 use Prim.Native.Nat.{_-_}
 use native.Mathlib.Omega.{arith}
 use borrow.Author.Needs.{needs}
-use lib.ListN.{length, getD}
-use Rattle.grids.proofs.ComparisonSteps.{LeftFrom, left-lists, left-less, left-greater, left-same, left-equal, left-shorter, left-longer}
+use lib.ListN.{length}
+use Rattle.grids.proofs.ComparisonSteps.{Passed, passed-none, passed-less, passed-greater, passed-same, passed-equal, passed-shorter, passed-longer}
 use Rattle.grids.proofs.comparisons.compare_grids.Statement.{statement}
 use Rattle.grids.proofs.comparisons.compare_grids.Tie as tie
 
 abbrev Inv-loop : tie.InvT-loop
-Inv-loop a b i₀ i = LeftFrom i (length a) (λ t. getD a t 0) (length b) (λ t. getD b t 0) a b
+Inv-loop a b i₀ i = Passed i a b
 
 abbrev μ-loop : tie.MeasureT-loop
 μ-loop a b i₀ i = length a - i
 
 loop-holds : tie.Need-loop-holds Inv-loop μ-loop
-loop-holds c = left-lists _ _
+loop-holds c = passed-none _ _
 
 returns : tie.Need-returns Inv-loop μ-loop
-returns c = left-longer (c .before .before .loop .inv) (omega arith) (c .if1 .taken)
+returns c = passed-longer (c .before .before .loop .inv) (omega arith) (c .if1 .taken)
 
 shared-slice-read-rank : tie.Need-shared-slice-read-rank Inv-loop μ-loop
 shared-slice-read-rank c = omega arith
@@ -29,12 +29,12 @@ shared-slice-read-rank-2 c = omega arith
 returns-2 : tie.Need-returns-2 Inv-loop μ-loop
 returns-2 c =
     let s = c .before in
-    left-less (s .before .before .before .before .before .before .loop .inv) (omega arith) (omega arith) (s .before .before .rank .ensures) (s .rank2 .ensures) (c .if2 .taken)
+    passed-less (s .before .before .before .before .before .before .loop .inv) (omega arith) (omega arith) (s .before .before .rank .ensures) (s .rank2 .ensures) (c .if2 .taken)
 
 returns-3 : tie.Need-returns-3 Inv-loop μ-loop
 returns-3 c =
     let s = c .before .before in
-    left-greater (s .before .before .before .before .before .before .loop .inv) (omega arith) (omega arith) (s .before .before .rank .ensures) (s .rank2 .ensures) (c .if3 .taken)
+    passed-greater (s .before .before .before .before .before .before .loop .inv) (omega arith) (omega arith) (s .before .before .rank .ensures) (s .rank2 .ensures) (c .if3 .taken)
 
 add-i : tie.Need-add-i Inv-loop μ-loop
 add-i c = omega arith
@@ -45,13 +45,13 @@ loop-less c = omega arith
 loop-again : tie.Need-loop-again Inv-loop μ-loop
 loop-again c =
     let s = c .before .before in
-    left-same (s .before .before .before .before .before .before .loop .inv) (omega arith) (omega arith) (s .before .before .rank .ensures) (s .rank2 .ensures) (c .before .if2 .left) (c .if3 .left)
+    passed-same (s .before .before .before .before .before .before .loop .inv) (omega arith) (omega arith) (s .before .before .rank .ensures) (s .rank2 .ensures) (c .before .if2 .left) (c .if3 .left)
 
 returns-4 : tie.Need-returns-4 Inv-loop μ-loop
-returns-4 c = left-shorter (c .before .before .loop .inv) (omega arith) (omega arith)
+returns-4 c = passed-shorter (c .before .before .loop .inv) (omega arith) (omega arith)
 
 returns-5 : tie.Need-returns-5 Inv-loop μ-loop
-returns-5 c = left-equal (c .before .before .loop .inv) (omega arith) (omega arith)
+returns-5 c = passed-equal (c .before .before .loop .inv) (omega arith) (omega arith)
 
 pub compare-grids-spec : {M : Type 1} → statement M
 compare-grids-spec {M} =

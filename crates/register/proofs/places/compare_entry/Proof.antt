@@ -73,7 +73,7 @@ returns c =
     let a = c .before .before .before .before .before .before .before .before .before .before in
     let l = c .before .before .before .before .before .before .before .line-length in
     let d = c .before .before .before .before .read-line in
-    entry-compared (a .pre .0) (a .args .e) (l .result) (a .pre .1) (l .ensures .0) (d .last .1 .0) _ (a .args .grid .now) (part-length _ (length (a .args .grid .now)) (valid-sizes (a .pre .0) .cells-fit)) (d .ensures) (c .compare-grids .ensures)
+    entry-compared (a .pre .0) (a .args .e) (l .result) (a .pre .1) (l .ensures .0) (d .last .1 .0) _ (a .args .grid .now) (part-length _ (length (a .args .grid .now)) (valid-sizes (a .pre .0) .cells-fit)) (d .ensures) (c .compare-grids .ensures .found-is)
 
 pub compare-entry-spec : {M : Type 1} → statement M
 compare-entry-spec =

@@ -1,10 +1,10 @@
--- `meet` meets its contract: the two arrangements are written side by side, each at its array's beginning, and compared.
+-- `compare_arrangements` meets its contract: the two arrangements are written side by side, each at its array's beginning, and compared.
 use native.Mathlib.Omega.{arith}
 use borrow.Author.Needs.{needs}
 use Rattle.grids.proofs.QuestionLaws.{size-fits}
-use Rattle.canonical.proofs.CallSteps.{written-within, meet-equals}
-use Rattle.canonical.proofs.same.meet.Statement.{statement}
-use Rattle.canonical.proofs.same.meet.Tie as tie
+use Rattle.canonical.proofs.CallSteps.{written-within, arrangements-compared}
+use Rattle.canonical.proofs.same.compare_arrangements.Statement.{statement}
+use Rattle.canonical.proofs.same.compare_arrangements.Tie as tie
 
 mul-size : tie.Need-mul-size
 mul-size c = let a = c .before .before .args in omega (arith, size-fits (a .m) (a .n) (omega arith) (omega arith))
@@ -29,9 +29,8 @@ part-compare-grids-end-2 c = written-within _ _ _ _ _ _ _ (c .before .before .be
 
 returns : tie.Need-returns
 returns c =
-    let w = c .before .before .before .before .before .before .before in
-    meet-equals _ _ _ _ _ _ _ _ _ _ _ _ (w .before .before .before .write-arrangement .ensures) (w .write-arrangement2 .ensures) (c .before .compare-grids .ensures)
-    (c .is-equal .ensures)
+    let w = c .before .before .before .before .before .before in
+    arrangements-compared _ _ _ _ _ _ _ _ _ _ _ (w .before .before .before .write-arrangement .ensures) (w .write-arrangement2 .ensures) (c .compare-grids .ensures)
 
-pub meet-spec : {M : Type 1} → statement M
-meet-spec = tie.close (search (tie.spec, mul-size, part-x-end, write-arrangement-requires, part-y-end, write-arrangement-requires-2, part-compare-grids-end, part-compare-grids-end-2, returns, needs))
+pub compare-arrangements-spec : {M : Type 1} → statement M
+compare-arrangements-spec = tie.close (search (tie.spec, mul-size, part-x-end, write-arrangement-requires, part-y-end, write-arrangement-requires-2, part-compare-grids-end, part-compare-grids-end-2, returns, needs))
