@@ -59,8 +59,9 @@ typedef struct plan_register_arranged {
  * position holds its own number. */
 typedef struct plan_register_matched {
     uint32_t number;
-    uint32_t agreed;     /* leading cells in which the two representatives agree: m * n with 0, fewer with
-                          * 103, 0 with a refusal; agreed / n full rows and agreed % n cells of the next */
+    uint32_t agreed;     /* leading cells in which the least arrangements of a and b agree: m * n with 0,
+                          * fewer with 103, 0 with a refusal. Unless refused, these are agreed / n full
+                          * rows and agreed % n cells of the next row */
     uint8_t rows[8];     /* P; positions past m hold their own number */
     uint8_t columns[16]; /* Q; positions past n hold their own number */
 } plan_register_matched;
@@ -103,8 +104,8 @@ plan_register_arranged plan_register_represent(size_t m, size_t n, size_t top,
                                                uint8_t *out, size_t out_length);
 
 /* Same: are the grids a and b, of m * n bytes, in one class? Writes nothing.
- * 0 with orders by which b is the arrangement of a; 103 if they are in two classes; with both, how
- * many leading cells of their representatives agree; otherwise 1, 2, 3, 6 or 7. */
+ * 0 with orders by which b is the arrangement of a; 103 if they are in two classes; otherwise
+ * 1, 2, 3, 6 or 7. With 0 and with 103, agreed says how far their least arrangements agree. */
 plan_register_matched plan_register_same(size_t m, size_t n, size_t top,
                                          const uint8_t *a, size_t a_length,
                                          const uint8_t *b, size_t b_length);

@@ -80,7 +80,7 @@ same-parts m n top a b z =
 
 -- ---- of the classes
 
--- numbers of grids with the same answer to whether they have one least grid
+-- two pairs of grids get one number if both pairs, or neither, have one least grid
 same-number-by : (m n top : ℕ) (a b a′ b′ : List ℕ) → firstNo (sameQuestions m n top a b) ≡ 0 → firstNo (sameQuestions m n top a′ b′) ≡ 0 →
     ((least m n a ≡ least m n b) ↔ (least m n a′ ≡ least m n b′)) → sameNumber m n top a b ≡ sameNumber m n top a′ b′
 same-number-by m n top a b a′ b′ e f h = go (ℕ-discrete (sameNumber m n top a b) 0)

@@ -6,7 +6,7 @@
 --   represent-refuses, represent-gives  ==  represent's answers: where a question gets a no, and past the questions
 --   written-within           ==  an arrangement at the beginning of an array is within it
 --   arrangements-compared    ==  two arrangements, each at the beginning of an array, are compared
---   agreed-small             ==  the number of cells that agree is small
+--   agreed-small             ==  the number of cells that agree is at most 128
 --   same-refuses, same-differs, same-gives  ==  same's answers: where a question gets a no, and for grids in two classes and in one
 use mathlib.Core.Path.{_≡_, refl, sym, ap, ap₂, _∙_}
 use mathlib.Core.List.{List, [], _∷_, _++_}
@@ -93,7 +93,7 @@ module _ (m n top : ℕ) (g out : List ℕ) where
     starting = λ nz. absurd (nz refl);
   }
 
--- ---- meet
+-- ---- two arrangements compared
 
 -- an arrangement x that is written at the beginning of an array, before the rest x′
 module _ (m n : ℕ) (g p q x x′ : List ℕ) (e : x ≡ arrangement m n p q g) where

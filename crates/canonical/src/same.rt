@@ -36,7 +36,7 @@ fn compare_arrangements(
 
 // The orders by which b is the arrangement of a: those that produce a's least arrangement, followed by the inverses of those
 // that produce b's. 103 where the two are in two classes. In both cases, how many leading cells of the least arrangements agree.
-// Where a question gets a no: its number, and orders that move nothing.
+// Where a question gets a no: its number, 0, and orders that move nothing.
 pub fn same(m: usize, n: usize, top: usize, a: &[u8], b: &[u8]) -> Match
     ensures { λ r. ⌜ Compared m n top (now (a .entry)) (now (b .entry)) (r .number) (r .agreed) (rowNumbers (r .rows)) (columnNumbers (r .columns)) ⌝ }
 {

@@ -1,5 +1,6 @@
 -- Laws of the length of the common prefix.
 --
+--   PartAt k a b      ==  a and b part at k: the k values before are equal, and those at k are not, or a list has ended
 --   prefix-part, prefix-unique  ==  two lists part where their common prefix ends, and nowhere else
 --   prefix-sym        ==  exchanging the lists changes nothing
 --   prefix-all        ==  two lists of one length are equal exactly where all values agree
@@ -8,7 +9,7 @@
 use mathlib.Core.Path.{_≡_, refl, sym, ap, _∙_}
 use mathlib.Core.List.{List, [], _∷_}
 use mathlib.Core.Logic.{_⊎_, inl, inr, _↔_}
-use Prim.Native.Nat.{ℕ, zero, suc, _<_}
+use Prim.Native.Nat.{ℕ, zero, suc, _≤_, _<_}
 use native.Mathlib.Nat.{not-suc-le-zero}
 use native.Mathlib.Decide.{ℕ-discrete}
 use native.Mathlib.Omega.{arith}
@@ -16,7 +17,7 @@ use lib.ListN.{length, getD}
 use borrow.Author.Tests.{eq-eqb, ne-eqb}
 use Rattle.permutations.proofs.ListLaws.{tabulate-getD, tabulate-is}
 use Rattle.grids.specs.Order.{rank}
-use Rattle.grids.specs.CommonPrefix.{commonPrefixLength, PartAt}
+use Rattle.grids.specs.CommonPrefix.{commonPrefixLength}
 use Rattle.grids.specs.Comparisons.{compared, comparedCells}
 use Rattle.grids.proofs.OrderLaws.{trichotomy}
 use Rattle.grids.proofs.ComparisonLaws.{decided-less, decided-greater, first-less, first-greater}
@@ -32,6 +33,11 @@ unfolding commonPrefixLength
 prefix-none x y a b h = rw (ne-eqb x y h, commonPrefixLength)
 
 -- ---- where two lists part
+
+pub record PartAt (k : ℕ) (a b : List ℕ) : Type 0 where
+  pub within : (k ≤ length a) × (k ≤ length b)
+  pub before : (i : ℕ) → i < k → getD a i 0 ≡ getD b i 0
+  pub apart : k < length a → k < length b → getD a k 0 ≡ getD b k 0 → ⊥
 
 pub prefix-unique : (k : ℕ) (a b : List ℕ) → PartAt k a b → k ≡ commonPrefixLength a b
 unfolding commonPrefixLength

@@ -46,7 +46,7 @@ pub struct Matched {
     pub columns: [u8; 16],
 }
 
-// The same of what same returns.
+// What same returns, likewise without these types.
 fn exported_match(answer: Match) -> Matched
     ensures { λ r. ⌜ ExportedMatch answer r ⌝ }
 {

@@ -7,6 +7,7 @@
 use mathlib.Core.Path.{_≡_, refl, sym, ap, _∙_}
 use mathlib.Core.List.{List, [], _∷_, flatMap}
 use mathlib.Core.Bool.{Bool, true, false, true≢false}
+use mathlib.Core.Logic.{inl, ⊎-elim}
 use Prim.Native.Nat.{ℕ, suc}
 use native.Mathlib.Omega.{arith}
 use lib.ListN.{length}
@@ -21,11 +22,18 @@ use Rattle.grids.proofs.OrderLaws.{equal-eq}
 use Rattle.canonical.specs.Same.{sameQuestions, sameNumber, sameAgreed}
 use Rattle.canonical.specs.Programs.{Comparing, MeetsSame}
 use Rattle.turned_down.specs.RepresentFaults.{sortedBothWays}
-use Rattle.turned_down.specs.SameFaults.{NeverSame, rowSums, JudgesByRowSums, ComparesSorted, OrdersFromB, IgnoresB, MovesWith103, AgreesAsSent, CountsUnequal, AgreesInNone, AgreesRefusing}
+use Rattle.turned_down.specs.SameFaults.{NeverSame, rowSums, JudgesByRowSums, ComparesSorted, OrdersFromB, IgnoresB, MovesWith103, AgreesAsSent, MiscountsByOne, AgreesInNone, AgreesRefusing}
 use Rattle.turned_down.specs.TurnedDown.{fault, Turned}
 use Rattle.turned_down.proofs.Differences.{unequal}
 use Rattle.turned_down.proofs.Plans.{m1, m1-least, m5, m5-least}
 use Rattle.turned_down.proofs.BothWays.{someBothWays, one-way, starting-produces}
+
+-- the plans of M6
+abbrev m6-a : List ℕ
+m6-a = 0 ∷ 0 ∷ 1 ∷ 1 ∷ []
+
+abbrev m6-b : List ℕ
+m6-b = 0 ∷ 1 ∷ 0 ∷ 1 ∷ []
 
 record Computed : Type 0 where
   m1-same : sameNumber 2 3 3 m1 m1-least ≡ 0
@@ -42,7 +50,9 @@ record Computed : Type 0 where
   parting : sameNumber 1 2 2 (1 ∷ 0 ∷ []) (1 ∷ 2 ∷ []) ≡ 103
   parting-agreed : sameAgreed 1 2 2 (1 ∷ 0 ∷ []) (1 ∷ 2 ∷ []) ≡ 0
   parting-as-sent : commonPrefixLength (1 ∷ 0 ∷ []) (1 ∷ 2 ∷ []) ≡ 1
-  parting-leasts : commonPrefixLength (least 1 2 (1 ∷ 0 ∷ [])) (least 1 2 (1 ∷ 2 ∷ [])) ≡ 0
+  m6-two : sameNumber 2 2 1 m6-a m6-b ≡ 103
+  m6-agreed : sameAgreed 2 2 1 m6-a m6-b ≡ 1
+  m6-leasts : commonPrefixLength (least 2 2 m6-a) (least 2 2 m6-b) ≡ 1
   m5-agreed : sameAgreed 1 3 3 m5 m5-least ≡ 3
   b-agreed : sameAgreed 1 1 0 (0 ∷ []) (1 ∷ []) ≡ 0
 
@@ -63,7 +73,9 @@ computed = record {
   parting = refl;
   parting-agreed = refl;
   parting-as-sent = refl;
-  parting-leasts = refl;
+  m6-two = refl;
+  m6-agreed = refl;
+  m6-leasts = refl;
   m5-agreed = refl;
   b-agreed = refl;
 }
@@ -155,15 +167,15 @@ agrees-as-sent = record {
       omega arith;
 }
 
-pub counts-unequal : Turned (fault MeetsSame CountsUnequal)
-unfolding CountsUnequal
-counts-unequal = record {
+pub miscounts-by-one : Turned (fault MeetsSame MiscountsByOne)
+unfolding MiscountsByOne
+miscounts-by-one = record {
   example = λ m n top a b. record { number = 103; agreed = suc (commonPrefixLength (least m n a) (least m n b)); rows = []; columns = [] };
-  done = λ m n top a b z. refl;
+  done = λ m n top a b z. inl refl;
   refused = λ f d c.
-      let x = d 1 2 2 (1 ∷ 0 ∷ []) (1 ∷ 2 ∷ []) (answers f c 1 2 2 (1 ∷ 0 ∷ []) (1 ∷ 2 ∷ []) ∙ computed .parting) ∙ ap suc (computed .parting-leasts) in
-      let y = agrees f c 1 2 2 (1 ∷ 0 ∷ []) (1 ∷ 2 ∷ []) ∙ computed .parting-agreed in
-      omega arith;
+      let y = agrees f c 2 2 1 m6-a m6-b ∙ computed .m6-agreed in
+      let k = computed .m6-leasts in
+      ⊎-elim (λ x. omega arith) (λ x. omega arith) (d 2 2 1 m6-a m6-b (answers f c 2 2 1 m6-a m6-b ∙ computed .m6-two));
 }
 
 pub agrees-in-none : Turned (fault MeetsSame AgreesInNone)

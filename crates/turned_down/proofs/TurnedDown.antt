@@ -21,7 +21,7 @@ use Rattle.turned_down.specs.PermutationFaults.{Composes, Inverts, Tests
 use Rattle.turned_down.specs.TurnedDown.{Turned, orderFaults, table, TurnedDown, Met}
 use Rattle.turned_down.proofs.Permutations.{orders-turned}
 use Rattle.turned_down.proofs.Represent.{hands-back, one-for-all, refuses-all, sorts-by-turns, follows-first, orders-backwards, pads-with-zeros, ignores-length, ignores-cells, writes-refusing, moves-refusing}
-use Rattle.turned_down.proofs.Same.{never-same, judges-by-row-sums, compares-sorted, orders-from-b, ignores-b, moves-with-103, agrees-as-sent, counts-unequal, agrees-in-none, agrees-refusing}
+use Rattle.turned_down.proofs.Same.{never-same, judges-by-row-sums, compares-sorted, orders-from-b, ignores-b, moves-with-103, agrees-as-sent, miscounts-by-one, agrees-in-none, agrees-refusing}
 use Rattle.turned_down.proofs.Prune.{never-prunes, never-empty, removes-nothing, raises-no-low, lowers-no-high, prunes-unsorted, invents-removed, writes-empty, shortens-bounds, leaves-above-top, ignores-order, prune-writes-refusing}
 use Rattle.turned_down.proofs.Demand3.{stores-first, full-unlooked, not-held-unlooked, invents-count, invents-fit, leaves-last-line, appends-entries, places-from-zero, inserts-late, opens-nothing, enters-nothing, opens-any-slice, refuses-own-bytes}
 use Rattle.turned_down.proofs.Demand1.{refuses-opens, refuses-enters, grows-slice, open-grows-slice, fit-writes, held-writes, open-writes-refusing, opens-capacity-0, asks-cells-first, asks-register-last, trusts-bytes}
@@ -30,7 +30,7 @@ use Rattle.turned_down.proofs.Planbook.{goes-on-after-13, prints-regist
 
 pub turned-down : TurnedDown
 unfolding TurnedDown table
-turned-down = (hands-back, (one-for-all, (refuses-all, (sorts-by-turns, (follows-first, (orders-backwards, (pads-with-zeros, (ignores-length, (ignores-cells, (writes-refusing, (moves-refusing, (never-same, (judges-by-row-sums, (compares-sorted, (orders-from-b, (ignores-b, (moves-with-103, (agrees-as-sent, (counts-unequal, (agrees-in-none, (agrees-refusing, (never-prunes, (never-empty, (removes-nothing, (raises-no-low, (lowers-no-high, (prunes-unsorted, (invents-removed, (writes-empty, (shortens-bounds, (leaves-above-top, (ignores-order, (prune-writes-refusing, (stores-first, (full-unlooked, (not-held-unlooked, (invents-count, (invents-fit, (leaves-last-line, (appends-entries, (places-from-zero, (inserts-late, (opens-nothing, (enters-nothing, (opens-any-slice, (refuses-own-bytes, (refuses-opens, (refuses-enters, (grows-slice, (open-grows-slice, (fit-writes, (held-writes, (open-writes-refusing, (opens-capacity-0, (asks-cells-first, (asks-register-last, (trusts-bytes, (fits-as-sent, (prunes-lent-bounds, (goes-on-after-13, (prints-register-after-11, (ends-at-malformed, (prints-under-zero, (malformed-reaches, (refuses-cells-as-malformed, (asks-length-first, (silent-without-commands, (takes-unended, (counts-without-room, (clears-rest, all-append Turned (orderFaults 8) (orderFaults 16) (orders-turned 8 (omega arith)) (orders-turned 16 (omega arith))))))))))))))))))))))))))))))))))))))))))))))))))))))))))))))))))))))))
+turned-down = (hands-back, (one-for-all, (refuses-all, (sorts-by-turns, (follows-first, (orders-backwards, (pads-with-zeros, (ignores-length, (ignores-cells, (writes-refusing, (moves-refusing, (never-same, (judges-by-row-sums, (compares-sorted, (orders-from-b, (ignores-b, (moves-with-103, (agrees-as-sent, (miscounts-by-one, (agrees-in-none, (agrees-refusing, (never-prunes, (never-empty, (removes-nothing, (raises-no-low, (lowers-no-high, (prunes-unsorted, (invents-removed, (writes-empty, (shortens-bounds, (leaves-above-top, (ignores-order, (prune-writes-refusing, (stores-first, (full-unlooked, (not-held-unlooked, (invents-count, (invents-fit, (leaves-last-line, (appends-entries, (places-from-zero, (inserts-late, (opens-nothing, (enters-nothing, (opens-any-slice, (refuses-own-bytes, (refuses-opens, (refuses-enters, (grows-slice, (open-grows-slice, (fit-writes, (held-writes, (open-writes-refusing, (opens-capacity-0, (asks-cells-first, (asks-register-last, (trusts-bytes, (fits-as-sent, (prunes-lent-bounds, (goes-on-after-13, (prints-register-after-11, (ends-at-malformed, (prints-under-zero, (malformed-reaches, (refuses-cells-as-malformed, (asks-length-first, (silent-without-commands, (takes-unended, (counts-without-room, (clears-rest, all-append Turned (orderFaults 8) (orderFaults 16) (orders-turned 8 (omega arith)) (orders-turned 16 (omega arith))))))))))))))))))))))))))))))))))))))))))))))))))))))))))))))))))))))))
 
 ours : Meets registerCalls
 unfolding registerCalls

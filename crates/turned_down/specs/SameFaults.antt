@@ -8,13 +8,14 @@
 --   IgnoresB f         ==  the cells of B are not asked
 --   MovesWith103 f     ==  with 103 a column order is returned that moves something
 --   AgreesAsSent f     ==  with 103 the cells that agree are counted in the grids as sent
---   CountsUnequal f    ==  with 103 the first cells that differ are counted too
+--   MiscountsByOne f   ==  with 103 one cell too many is counted, or one too few
 --   AgreesInNone f     ==  with 0 no cell is said to agree
 --   AgreesRefusing f   ==  with 7 some cell is said to agree
 use mathlib.Core.Path.{_≡_}
 use mathlib.Core.List.{List, foldr}
 use mathlib.Core.Bool.{true, false}
-use Prim.Native.Nat.{ℕ, suc, _+_, _*_}
+use mathlib.Core.Logic.{_⊎_}
+use Prim.Native.Nat.{ℕ, suc, _+_, _-_, _*_}
 use lib.ListN.{length, take}
 use Rattle.permutations.specs.Lists.{tabulate}
 use Rattle.permutations.specs.Permutations.{identity}
@@ -52,9 +53,11 @@ MovesWith103 f = (m n top : ℕ) (a b : List ℕ) → f m n top a b .number ≡ 
 unfoldable pub AgreesAsSent : Comparing → Type 0
 AgreesAsSent f = (m n top : ℕ) (a b : List ℕ) → f m n top a b .number ≡ 103 → f m n top a b .agreed ≡ commonPrefixLength a b
 
-unfoldable pub CountsUnequal : Comparing → Type 0
-CountsUnequal f =
-    (m n top : ℕ) (a b : List ℕ) → f m n top a b .number ≡ 103 → f m n top a b .agreed ≡ suc (commonPrefixLength (least m n a) (least m n b))
+unfoldable pub MiscountsByOne : Comparing → Type 0
+MiscountsByOne f =
+    (m n top : ℕ) (a b : List ℕ) → f m n top a b .number ≡ 103 →
+    let k = commonPrefixLength (least m n a) (least m n b) in
+    (f m n top a b .agreed ≡ suc k) ⊎ (f m n top a b .agreed ≡ k - 1)
 
 unfoldable pub AgreesInNone : Comparing → Type 0
 AgreesInNone f = (m n top : ℕ) (a b : List ℕ) → f m n top a b .number ≡ 0 → f m n top a b .agreed ≡ 0

@@ -20,7 +20,7 @@ use Rattle.machine.specs.Demand3.{Demand3}
 use Rattle.protocol.specs.Programs.{Printing, Prints, Transcribing, MeetsTranscribe}
 use Rattle.turned_down.specs.PermutationFaults.{Composing, Inverting, Testing, Composes, Inverts, Tests, ComposesBackwards, AcceptsRepeats, AcceptsTooLarge, AcceptsOtherSizes, ReturnsArgument, AcceptsSize0, AcceptsPast}
 use Rattle.turned_down.specs.RepresentFaults.{HandsBack, OneForAll, RefusesAll, SortsByTurns, FollowsFirst, OrdersBackwards, PadsWithZeros, IgnoresLength, IgnoresCells, WritesRefusing, MovesRefusing}
-use Rattle.turned_down.specs.SameFaults.{NeverSame, JudgesByRowSums, ComparesSorted, OrdersFromB, IgnoresB, MovesWith103, AgreesAsSent, CountsUnequal, AgreesInNone, AgreesRefusing}
+use Rattle.turned_down.specs.SameFaults.{NeverSame, JudgesByRowSums, ComparesSorted, OrdersFromB, IgnoresB, MovesWith103, AgreesAsSent, MiscountsByOne, AgreesInNone, AgreesRefusing}
 use Rattle.turned_down.specs.PruneFaults.{NeverPrunes, NeverEmpty, RemovesNothing, RaisesNoLow, LowersNoHigh, PrunesUnsorted, InventsRemoved, WritesEmpty, ShortensBounds, LeavesAboveTop, IgnoresOrder, PruneWritesRefusing}
 use Rattle.turned_down.specs.RegisterFaults.{StoresFirst, FullUnlooked, NotHeldUnlooked, InventsCount, InventsFit, LeavesLastLine, AppendsEntries, PlacesFromZero, InsertsLate, OpensNothing, EntersNothing, OpensAnySlice, RefusesOwnBytes, GrowsSlice, OpenGrowsSlice, FitWrites, HeldWrites, OpenWritesRefusing, OpensCapacity0, AsksCellsFirst, AsksRegisterLast, TrustsBytes, FitsAsSent, PrunesLentBounds}
 use Rattle.turned_down.specs.PlanbookFaults.{GoesOnAfter13, PrintsRegisterAfter11, EndsAtMalformed, PrintsUnderZero, MalformedReaches, RefusesCellsAsMalformed, AsksLengthFirst, SilentWithoutCommands, TakesUnended, CountsWithoutRoom, ClearsRest}
@@ -74,9 +74,9 @@ table =
     ∷ fault MeetsSame OrdersFromB
     ∷ fault MeetsSame IgnoresB
     ∷ fault MeetsSame MovesWith103
-    -- the cells that agree: in the grids as sent, one too many, none where the plans are one, some after a refusal
+    -- the cells that agree: in the grids as sent, one too many or too few, none where the plans are one, some after a refusal
     ∷ fault MeetsSame AgreesAsSent
-    ∷ fault MeetsSame CountsUnequal
+    ∷ fault MeetsSame MiscountsByOne
     ∷ fault MeetsSame AgreesInNone
     ∷ fault MeetsSame AgreesRefusing
     -- by demand 2: every form called empty, nothing removed; the other row unsorted; what is left and counted

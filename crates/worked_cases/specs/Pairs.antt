@@ -59,12 +59,13 @@ pairs =
     ∷ record { m = 2; n = 3; top = 3; a = 2 ∷ 2 ∷ 3 ∷ 2 ∷ 3 ∷ 1 ∷ []; b = 1 ∷ 2 ∷ 3 ∷ 3 ∷ 2 ∷ 2 ∷ []; number = 0; agreed = 6 }
     ∷ record { m = 1; n = 3; top = 3; a = 3 ∷ 0 ∷ 2 ∷ []; b = 0 ∷ 2 ∷ 3 ∷ []; number = 0; agreed = 3 }
     ∷ record { m = 2; n = 2; top = 1; a = 0 ∷ 1 ∷ 1 ∷ 0 ∷ []; b = 1 ∷ 0 ∷ 0 ∷ 1 ∷ []; number = 0; agreed = 4 }
-    -- a refusal has 0, equal grids or not
+    -- a refusal has 0, though the grids agree in part or in whole
     ∷ record { m = 0; n = 1; top = 0; a = []; b = []; number = 1; agreed = 0 }
     ∷ record { m = 1; n = 0; top = 0; a = []; b = []; number = 2; agreed = 0 }
     ∷ record { m = 1; n = 1; top = 16; a = 0 ∷ []; b = 0 ∷ []; number = 3; agreed = 0 }
     ∷ record { m = 1; n = 1; top = 0; a = 0 ∷ 0 ∷ []; b = 0 ∷ 0 ∷ []; number = 6; agreed = 0 }
     ∷ record { m = 1; n = 2; top = 0; a = 0 ∷ 1 ∷ []; b = 0 ∷ 1 ∷ []; number = 7; agreed = 0 }
+    ∷ record { m = 1; n = 2; top = 1; a = 0 ∷ 1 ∷ []; b = 0 ∷ 2 ∷ []; number = 7; agreed = 0 }
     ∷ []
 
 unfoldable pub PairsHold : Type 0

@@ -82,7 +82,7 @@ pub fn starting(number: u32) -> Arranged {
 }
 
 /// This number and so many cells that agree, with the starting orders.
-pub fn unmatched(number: u32, agreed: u32) -> Matched {
+pub fn starting_match(number: u32, agreed: u32) -> Matched {
     let Arranged { rows, columns, .. } = starting(number);
     Matched {
         number,

@@ -6,7 +6,7 @@
 //! least candidate. Of equal rows only the first is placed. Where an arrangement equals the best,
 //! the two row orders show a symmetry of the grid, and the search goes back to where they part.
 
-use crate::call::{first_no, first_no_of_two, starting, unmatched};
+use crate::call::{first_no, first_no_of_two, starting, starting_match};
 use plan_register::numbers::{DONE, TWO_CLASSES};
 use plan_register::{Arranged, Matched};
 use std::cmp::Ordering;
@@ -27,15 +27,15 @@ pub fn represent(m: usize, n: usize, top: usize, grid: &[u8], out: &mut [u8]) ->
 pub fn same(m: usize, n: usize, top: usize, a: &[u8], b: &[u8]) -> Matched {
     let number = first_no_of_two(m, n, top, a, b);
     if number != DONE {
-        return unmatched(number, 0);
+        return starting_match(number, 0);
     }
     let (mut least_a, mut least_b) = ([0; 128], [0; 128]);
     let from_a = represent(m, n, top, a, &mut least_a[..m * n]);
     let from_b = represent(m, n, top, b, &mut least_b[..m * n]);
     if let Some(agreed) = least_a.iter().zip(&least_b).position(|(x, y)| x != y) {
-        return unmatched(TWO_CLASSES, agreed as u32);
+        return starting_match(TWO_CLASSES, agreed as u32);
     }
-    let mut carried = unmatched(DONE, (m * n) as u32);
+    let mut carried = starting_match(DONE, (m * n) as u32);
     for (&row, &of_a) in from_b.rows.iter().zip(&from_a.rows) {
         carried.rows[usize::from(row)] = of_a;
     }

@@ -30,8 +30,8 @@ pub fn represent(m: usize, n: usize, top: usize, grid: &[u8], out: &mut [u8]) ->
 /// Same: are the grids `a` and `b` in one class?
 ///
 /// The numbers and the slices are as for [`represent`]. Number 0 with orders by which `b` is
-/// the arrangement of `a`, any such pair; 103 where the grids are in two classes. With both, how
-/// many leading cells of the two representatives agree. Otherwise a refusal, 1, 2, 3, 6 or 7.
+/// the arrangement of `a`, any such pair; 103 where the grids are in two classes. With either, how
+/// many leading cells of the two least arrangements agree. Otherwise a refusal, 1, 2, 3, 6 or 7.
 ///
 /// ```
 /// use plan_register::numbers::{DONE, TWO_CLASSES};

@@ -2,10 +2,10 @@
 
 use crate::Agreement;
 
-/// A number, how many leading cells of the two representatives agree, a row order P and a
+/// A number, how many leading cells of the two least arrangements agree, a row order P and a
 /// column order Q.
 ///
-/// By the orders the grid B is the arrangement of A: its cell in row i, column j is A(P(i), Q(j)).
+/// With 0 the grid B is the arrangement of A by P and Q: its cell in row i, column j is A(P(i), Q(j)).
 ///
 /// | `number` | what it means                                             | `agreed`          |
 /// |----------|-----------------------------------------------------------|-------------------|
@@ -25,7 +25,7 @@ use crate::Agreement;
 pub struct Matched {
     /// 0, 103, or what kept the call from an answer.
     pub number: u32,
-    /// How many leading cells of the representatives agree, row after row. However A and B are
+    /// How many leading cells of the least arrangements agree, row after row. However A and B are
     /// arranged, it is the same.
     pub agreed: u32,
     /// P: the first m positions list each row number below m once.
@@ -37,7 +37,8 @@ pub struct Matched {
 }
 
 impl Matched {
-    /// How far the representatives agree, in rows of `n` columns, to be told to a person.
+    /// How far the least arrangements agree, in rows of `n` columns, to be told to a person. With a
+    /// refusal it is no cell.
     ///
     /// ```
     /// let two = plan_register::same(2, 3, 2, &[0, 0, 1, 1, 2, 1], &[0, 0, 1, 1, 2, 2]);

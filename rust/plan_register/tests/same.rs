@@ -1,4 +1,5 @@
-//! Same against the reference: every pair of tiny grids, and pairs in one class.
+//! Same against the reference: every pair of tiny grids, pairs in one class, and how far two plans
+//! agree.
 
 mod common;
 

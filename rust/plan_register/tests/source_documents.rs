@@ -3,7 +3,7 @@
 mod common;
 
 use common::calls::{answer, check_answer, check_call, opened};
-use common::{check_one_class, check_prune, check_pruned, check_two_classes, represented};
+use common::{check_one_class, check_parting, check_prune, check_pruned, represented};
 use plan_register::{represent, same, Counted};
 use reference::calls::Call;
 use reference::examples::{cells, plan};
@@ -49,7 +49,7 @@ fn m2_to_m5() {
 
 #[test]
 fn m6_equal_cells_do_not_make_a_class() {
-    check_two_classes(2, 2, 1, &cells("00/11"), &cells("01/01"));
+    check_parting(2, 2, 1, &cells("00/11"), &cells("01/01"), 1);
 }
 
 #[test]
@@ -97,8 +97,8 @@ fn the_other_row_is_sorted_for_pruning() {
 
 #[test]
 fn equal_row_sums_do_not_make_a_class() {
-    check_two_classes(1, 2, 2, &[0, 2], &[1, 1]);
-    check_two_classes(2, 4, 1, &cells("0011/0011"), &cells("0011/0101"));
+    check_parting(1, 2, 2, &[0, 2], &[1, 1], 0);
+    check_parting(2, 4, 1, &cells("0011/0011"), &cells("0011/0101"), 5);
 }
 
 #[test]

@@ -28,8 +28,8 @@ pub fn compare(a: &[u8], b: &[u8]) -> Ordering {
 
 /// How many leading cells of two grids agree.
 pub fn agreed(a: &[u8], b: &[u8]) -> usize {
-    let differ = a.iter().zip(b).position(|(x, y)| x != y);
-    differ.unwrap_or(a.len().min(b.len()))
+    let pairs = a.iter().zip(b);
+    pairs.take_while(|(x, y)| x == y).count()
 }
 
 /// The comparison of columns `a` and `b`: their top cells, and if equal the rows beneath.

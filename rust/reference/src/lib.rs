@@ -1,4 +1,4 @@
-//! A plain reference implementation of document 01, the plan register.
+//! A plain reference implementation of the plan register: document 01 and request 1 of document 02.
 //!
 //! It is written to be seen right: every row permutation is listed, the columns
 //! are sorted, the least arrangement is taken; bounds are pruned by listing every
@@ -7,7 +7,7 @@
 //!
 //! A module uses only modules above it in this table:
 //!
-//! | module         | part of document 01                                  |
+//! | module         | part of these                                        |
 //! |----------------|------------------------------------------------------|
 //! | `permutation`  | orders: the starting one, following, reverse         |
 //! | `grid`         | grids, arrangements, classes                         |

@@ -45,6 +45,16 @@ pub struct Run {
     pub output: Vec<u8>,
 }
 
+/// Pairs of lists, each with how many leading values agree.
+pub fn prefixes() -> Vec<(Vec<u8>, Vec<u8>, usize)> {
+    let cases = table("Pairs", "prefixes", "{ a = ");
+    let read = |case: &String| {
+        let agreed = numbers(field(case, "agreed"))[0] as usize;
+        (cells(field(case, "a")), cells(field(case, "b")), agreed)
+    };
+    cases.iter().map(read).collect()
+}
+
 /// The pairs of grids.
 pub fn pairs() -> Vec<Pair> {
     let cases = table("Pairs", "pairs", " number = ");

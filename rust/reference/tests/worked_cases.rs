@@ -1,10 +1,18 @@
 //! The worked cases of the definitions, answered by the reference.
 
+use reference::grid::agreed;
 use reference::grid_calls::same;
 use reference::layout::Contents;
 use reference::planbook::transcript;
 use reference::register::{open, Answer};
-use reference::worked_cases::{books, openings, pairs, registers, transcripts};
+use reference::worked_cases::{books, openings, pairs, prefixes, registers, transcripts};
+
+#[test]
+fn lists_agree_as_far_as_the_table_says() {
+    for (a, b, expected) in prefixes() {
+        assert_eq!(agreed(&a, &b), expected, "{a:?} {b:?}");
+    }
+}
 
 #[test]
 fn same_answers_as_the_table_says() {

@@ -48,7 +48,8 @@ pub fn check_one_class(m: usize, n: usize, top: u8, a: &[u8], b: &[u8]) {
     assert_eq!(arrangement(m, n, &orders.rows, &orders.columns, a), b);
 }
 
-/// Calls same on two grids of two classes. Checks its answer by what represent writes for them.
+/// Calls same on two grids of two classes. Checks its answer by what represent writes for them,
+/// since the reference is slow on large ones.
 pub fn check_two_classes(m: usize, n: usize, top: u8, a: &[u8], b: &[u8]) {
     let (of_a, of_b) = (represented(m, n, top, a), represented(m, n, top, b));
     check_parting(m, n, top, a, b, agreed(&of_a, &of_b));
@@ -127,12 +128,12 @@ pub fn starting(number: u32) -> Arranged {
 /// Same's answer where the grids are not carried to each other: this number, so many cells, and
 /// the starting orders.
 pub fn unmatched(number: u32, agreed: u32) -> Matched {
-    let Arranged { rows, columns, .. } = starting(number);
+    let reference = reference::grid_calls::Matched::starting(number, agreed);
     Matched {
-        number,
-        agreed,
-        rows,
-        columns,
+        number: reference.number,
+        agreed: reference.agreed,
+        rows: reference.rows,
+        columns: reference.columns,
     }
 }
 

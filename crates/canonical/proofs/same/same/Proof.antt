@@ -1,5 +1,5 @@
 -- `same` meets its contract: a refusal has the number of the first no; past the questions the two least arrangements decide,
--- and where they meet, a's orders followed by the inverses of b's carry a to b.
+-- and where these are equal, a's orders followed by the inverses of b's carry a to b.
 use mathlib.Core.Path.{_≡_, sym, _∙_}
 use mathlib.Core.List.{[], _∷_}
 use Prim.Native.Nat.{_*_}
