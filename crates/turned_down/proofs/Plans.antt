@@ -2,6 +2,7 @@
 --
 --   m1, m1-least  ==  M1: 223/231, and its least arrangement 123/322; the rows and columns of both are sorted
 --   m5, m5-least  ==  M5: 302, and its least arrangement 023
+--   m6-a, m6-b    ==  M6: 00/11 and 01/01, in two classes
 use mathlib.Core.List.{List, [], _∷_}
 use Prim.Native.Nat.{ℕ}
 
@@ -16,3 +17,9 @@ m5 = 3 ∷ 0 ∷ 2 ∷ []
 
 abbrev pub m5-least : List ℕ
 m5-least = 0 ∷ 2 ∷ 3 ∷ []
+
+abbrev pub m6-a : List ℕ
+m6-a = 0 ∷ 0 ∷ 1 ∷ 1 ∷ []
+
+abbrev pub m6-b : List ℕ
+m6-b = 0 ∷ 1 ∷ 0 ∷ 1 ∷ []

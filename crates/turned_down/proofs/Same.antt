@@ -25,15 +25,8 @@ use Rattle.turned_down.specs.RepresentFaults.{sortedBothWays}
 use Rattle.turned_down.specs.SameFaults.{NeverSame, rowSums, JudgesByRowSums, ComparesSorted, OrdersFromB, IgnoresB, MovesWith103, AgreesAsSent, MiscountsByOne, AgreesInNone, AgreesRefusing}
 use Rattle.turned_down.specs.TurnedDown.{fault, Turned}
 use Rattle.turned_down.proofs.Differences.{unequal}
-use Rattle.turned_down.proofs.Plans.{m1, m1-least, m5, m5-least}
+use Rattle.turned_down.proofs.Plans.{m1, m1-least, m5, m5-least, m6-a, m6-b}
 use Rattle.turned_down.proofs.BothWays.{someBothWays, one-way, starting-produces}
-
--- the plans of M6
-abbrev m6-a : List ℕ
-m6-a = 0 ∷ 0 ∷ 1 ∷ 1 ∷ []
-
-abbrev m6-b : List ℕ
-m6-b = 0 ∷ 1 ∷ 0 ∷ 1 ∷ []
 
 record Computed : Type 0 where
   m1-same : sameNumber 2 3 3 m1 m1-least ≡ 0
