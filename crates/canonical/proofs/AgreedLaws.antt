@@ -8,7 +8,7 @@
 --   same-exchanged      ==  nor does exchanging the two, on all arguments
 use mathlib.Core.Path.{_≡_, refl, sym, ap, ap₂, _∙_}
 use mathlib.Core.List.{List, [], _∷_}
-use mathlib.Core.Bool.{Bool, true, false, _&&_}
+use mathlib.Core.Bool.{Bool, true, false, and-true, and-comm}
 use mathlib.Core.Logic.{_↔_}
 use Prim.Native.Nat.{ℕ, zero, suc, _*_, _<_}
 use native.Mathlib.Decide.{ℕ-discrete}
@@ -21,14 +21,11 @@ use Rattle.grids.specs.Grids.{IsGrid, capped, OneClass, oneClass}
 use Rattle.grids.specs.Least.{least}
 use Rattle.grids.specs.Questions.{firstNo, question1, question2, question3, question6, question7}
 use Rattle.grids.proofs.CommonPrefixLaws.{prefix-sym, prefix-all, Decided, unequal-decided}
-use Rattle.grids.proofs.GridLaws.{class-grid, class-length, passes-class}
-use Rattle.grids.proofs.LeastLaws.{least-in-class, class-least}
+use Rattle.grids.proofs.GridLaws.{class-grid, class-passes, passes-class}
+use Rattle.grids.proofs.LeastLaws.{length-least, class-least}
 use Rattle.grids.proofs.QuestionLaws.{firstNo-has}
 use Rattle.canonical.specs.Same.{sameQuestions, sameNumber, sameAgreed}
 use Rattle.canonical.proofs.CallLaws.{same-pass, same-first-no, same-asked, same-leasts, same-zero, same-103}
-
-length-least : (m n : ℕ) (g : List ℕ) → length g ≡ m * n → length (least m n g) ≡ m * n
-length-least m n g e = class-length m n g (least m n g) (least-in-class m n g e)
 
 -- ---- by the questions
 
@@ -65,10 +62,10 @@ module _ (m n top : ℕ) (a b : List ℕ) (e : firstNo (sameQuestions m n top a 
       go false f = rw (e, f, sameAgreed)
 
 pub same-agreed-all : (m n top : ℕ) (a b : List ℕ) → sameNumber m n top a b ≡ 0 → sameAgreed m n top a b ≡ m * n
+unfolding sameAgreed
 same-agreed-all m n top a b z =
     let e = same-asked m n top a b z in
-    let s = sizes m n top a b e in
-    same-agreed m n top a b e ∙ prefix-all (least m n a) (least m n b) (s .0 ∙ sym (s .1)) .0 (same-leasts m n top a b e .0 z) ∙ s .0
+    rw (e, class-passes m n a b (same-zero m n top a b e .0 z), sameAgreed)
 
 pub same-parts : (m n top : ℕ) (a b : List ℕ) → sameNumber m n top a b ≡ 103 →
     (sameAgreed m n top a b < m * n) × Decided (sameAgreed m n top a b) (least m n a) (least m n b)
@@ -123,13 +120,7 @@ same-of-classes m n top a b a′ b′ e c d = (
 
 both-exchanged : {A : Type 0} (t : A → Bool) (x y : A) → every t (x ∷ y ∷ []) ≡ every t (y ∷ x ∷ [])
 unfolding every
-both-exchanged t x y = go (t x) (t y)
-  where
-    go : (p q : Bool) → (p && (q && true)) ≡ (q && (p && true))
-    go true true = refl
-    go true false = refl
-    go false true = refl
-    go false false = refl
+both-exchanged t x y = rw (and-true (t x), and-true (t y)) (and-comm (t x) (t y))
 
 questions-exchanged : (m n top : ℕ) (a b : List ℕ) → sameQuestions m n top a b ≡ sameQuestions m n top b a
 unfolding sameQuestions question6 question7

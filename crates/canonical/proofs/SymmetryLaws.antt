@@ -19,6 +19,7 @@ use Rattle.permutations.specs.Rows.{rowNumbers}
 use Rattle.permutations.specs.Columns.{columnNumbers}
 use Rattle.permutations.proofs.PermutationLaws.{at-composed, at-inverse, position-at, composed-permutation, inverse-permutation, through}
 use Rattle.grids.specs.Grids.{cell, arrangement}
+use Rattle.grids.proofs.OrderLaws.{agree-next}
 use Rattle.grids.proofs.GridLaws.{arrangement-twice}
 use Rattle.canonical.specs.declared.search.Orders.{Orders}
 use Rattle.canonical.specs.Search.{Begins, Covers, leadingRows, IsOrders, Alike, InCommon}
@@ -118,8 +119,4 @@ pub common-none : (a b : List ℕ) (count : ℕ) → InCommon a b count 0
 common-none a b count = record { up-to = omega arith; same = λ i h. absurd (not-suc-le-zero h) }
 
 pub common-next : (a b : List ℕ) (count i : ℕ) → i < count → getD a i 0 ≡ getD b i 0 → InCommon a b count i → InCommon a b count (i + 1)
-common-next a b count i ic e c = record { up-to = omega arith; same = λ j h. go j h (ℕ-discrete j i) }
-  where
-    go : (j : ℕ) → j < i + 1 → Dec (j ≡ i) → getD a j 0 ≡ getD b j 0
-    go j h (yes z) = rw z e
-    go j h (no nz) = c .same j (omega arith)
+common-next a b count i ic e c = record { up-to = omega arith; same = agree-next a b i (c .same) e }

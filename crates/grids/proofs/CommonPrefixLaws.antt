@@ -6,7 +6,7 @@
 --   prefix-all        ==  two lists of one length are equal exactly where all values agree
 --   Decided k a b     ==  a and b part at k, inside both, and the values there decide which comes first
 --   unequal-decided   ==  so do two lists of one length that are not equal, at the end of their common prefix
-use mathlib.Core.Path.{_≡_, refl, sym, ap, _∙_}
+use mathlib.Core.Path.{_≡_, sym, ap, _∙_}
 use mathlib.Core.List.{List, [], _∷_}
 use mathlib.Core.Logic.{_⊎_, inl, inr, _↔_}
 use Prim.Native.Nat.{ℕ, zero, suc, _≤_, _<_}
@@ -14,12 +14,12 @@ use native.Mathlib.Nat.{not-suc-le-zero}
 use native.Mathlib.Decide.{ℕ-discrete}
 use native.Mathlib.Omega.{arith}
 use lib.ListN.{length, getD}
+use lib.Seq.{ext-getD}
 use borrow.Author.Tests.{eq-eqb, ne-eqb}
-use Rattle.permutations.proofs.ListLaws.{tabulate-getD, tabulate-is}
 use Rattle.grids.specs.Order.{rank}
 use Rattle.grids.specs.CommonPrefix.{commonPrefixLength}
 use Rattle.grids.specs.Comparisons.{compared, comparedCells}
-use Rattle.grids.proofs.OrderLaws.{trichotomy}
+use Rattle.grids.proofs.OrderLaws.{trichotomy, agree-cons}
 use Rattle.grids.proofs.ComparisonLaws.{decided-less, decided-greater, first-less, first-greater}
 
 -- ---- by the first values
@@ -59,13 +59,9 @@ none-before a b h = record { within = (omega arith, omega arith); before = λ i 
 one-more : (k x y : ℕ) (a b : List ℕ) → x ≡ y → PartAt k a b → PartAt (suc k) (x ∷ a) (y ∷ b)
 one-more k x y a b e p = record {
   within = (omega (arith, p .within .0), omega (arith, p .within .1));
-  before = before;
+  before = agree-cons x y a b k e (p .before);
   apart = λ h l. p .apart (omega arith) (omega arith);
 }
-  where
-    before : (i : ℕ) → i < suc k → getD (x ∷ a) i 0 ≡ getD (y ∷ b) i 0
-    before zero h = e
-    before (suc i) h = p .before i (omega arith)
 
 pub prefix-part : (a b : List ℕ) → PartAt (commonPrefixLength a b) a b
 unfolding commonPrefixLength
@@ -100,9 +96,7 @@ prefix-all a b e = (all, back)
         }))
 
     back : commonPrefixLength a b ≡ length a → a ≡ b
-    back q =
-        sym (tabulate-getD 0 a (length a) refl)
-        ∙ tabulate-is 0 b (length a) (λ i. getD a i 0) (sym e) (λ i h. sym (prefix-part a b .before i (omega arith)))
+    back q = ext-getD 0 a b e (λ i h. prefix-part a b .before i (omega arith))
 
 pub record Decided (k : ℕ) (a b : List ℕ) : Type 0 where
   pub parts : PartAt k a b

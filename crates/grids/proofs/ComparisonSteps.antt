@@ -18,7 +18,6 @@ use mathlib.Core.Bool.{Bool, true, false}
 use mathlib.Core.Logic.{⊎-elim}
 use Prim.Native.Nat.{ℕ, suc, _+_, _-_, _≤_, _<_}
 use native.Mathlib.Nat.{not-suc-le-zero, sub-zero}
-use native.Mathlib.Decide.{ℕ-discrete}
 use native.Mathlib.Numerals.{add-one}
 use native.Mathlib.Omega.{arith}
 use lib.ListN.{length, getD}
@@ -30,7 +29,7 @@ use Rattle.grids.specs.Order.{rank}
 use Rattle.grids.specs.Grids.{cell}
 use Rattle.grids.specs.CommonPrefix.{commonPrefixLength}
 use Rattle.grids.specs.Comparisons.{isEqual, compared, comparedCells, ComparesGrids}
-use Rattle.grids.proofs.OrderLaws.{rank-antisymm, trichotomy, leq-same}
+use Rattle.grids.proofs.OrderLaws.{rank-antisymm, trichotomy, agree-next, leq-same}
 use Rattle.grids.proofs.CommonPrefixLaws.{prefix-unique}
 use Rattle.grids.proofs.ComparisonLaws.{less-compared, greater-compared, equal-compared, first-less, first-greater, equal-yes, equal-no}
 
@@ -157,11 +156,8 @@ module _ {i : ℕ} {a b : List ℕ} (d : Passed i a b) where
     passed-greater l = record { found-is = left-greater (d .left) h k p q l; agreed-is = unequal (λ e. omega arith) }
 
     pub passed-same : y ≤ x → x ≤ y → Passed (i + 1) a b
-    passed-same f g = record { left = left-same (d .left) h k p q f g; within = (omega arith, omega arith); before = before }
-      where
-        go : (t : ℕ) → t < i + 1 → Dec (t ≡ i) → getD a t 0 ≡ getD b t 0
-        go t l (yes e) = rw e (rank-antisymm (getD a i 0) (getD b i 0) (omega arith) (omega arith))
-        go t l (no e) = d .before t (omega arith)
-
-        before : (t : ℕ) → t < i + 1 → getD a t 0 ≡ getD b t 0
-        before t l = go t l (ℕ-discrete t i)
+    passed-same f g = record {
+      left = left-same (d .left) h k p q f g;
+      within = (omega arith, omega arith);
+      before = agree-next a b i (d .before) (rank-antisymm (getD a i 0) (getD b i 0) (omega arith) (omega arith));
+    }

@@ -6,7 +6,7 @@
 --   least-in-class, least-no-later  ==  it is in the grid's class, and comes no later than any grid of the class
 --   class-least, least-class, one-class-one-least  ==  two grids are in one class exactly when their least grids are equal
 --   least-least                ==  the least of a least is itself
---   least-grid                 ==  the least of a grid is a grid
+--   least-grid, length-least   ==  the least of a grid is a grid, and as long
 use mathlib.Core.Path.{_≡_, refl, sym, _∙_}
 use mathlib.Core.List.{List, [], _∷_, map, List·Memᴰ, List·Memᴰ·head, List·Memᴰ·tail, List·Memᴰ·not-nil, List·Memᴰ·cases-cons, Memᴰ·map, Memᴰ·of-map, Memᴰ·cast}
 use mathlib.Core.Bool.{true, false}
@@ -94,6 +94,9 @@ is-least m n g r e h = least-unique m n g r (least m n g) h (least-is m n g e)
 
 pub least-in-class : (m n : ℕ) (g : List ℕ) → length g ≡ m * n → OneClass m n g (least m n g)
 least-in-class m n g e = least-is m n g e .arranged
+
+pub length-least : (m n : ℕ) (g : List ℕ) → length g ≡ m * n → length (least m n g) ≡ m * n
+length-least m n g e = class-length m n g (least m n g) (least-in-class m n g e)
 
 pub least-no-later : (m n : ℕ) (g s : List ℕ) → length g ≡ m * n → OneClass m n g s → least m n g ≼ s
 least-no-later m n g s e c = least-is m n g e .no-later s c

@@ -5,6 +5,7 @@
 --   trichotomy                           ==  of two values one ranks lower, or they are equal
 --   ≼-refl, ≼-trans, ≼-antisymm, ≼-total, ≼-dec  ==  the order is a decidable total order
 --   leq-spec, leq-yes, ≼-leq, leq-decides  ==  the test decides it
+--   agree-cons, agree-next               ==  lists that agree before an index, with a value more in front, and at that index too
 --   ≼-by-index, ≼-at                     ==  of lists of one length: wherever all before is equal, the first's value ranks no higher
 --   first-unequal                        ==  the same as document 01 says it: equal, or the first unequal value decides
 --   tabulate-at, tabulate-by-index       ==  the same of tabulated lists
@@ -17,7 +18,7 @@ use mathlib.Core.Path.{_≡_, refl, sym, ap, ap₂, _∙_}
 use mathlib.Core.List.{List, [], _∷_}
 use mathlib.Core.Bool.{Bool, true, false, true≢false, not}
 use mathlib.Core.Logic.{_⊎_, inl, inr, _↔_}
-use Prim.Native.Nat.{ℕ, zero, suc, _≤_, _<_}
+use Prim.Native.Nat.{ℕ, zero, suc, _+_, _≤_, _<_}
 use native.Mathlib.Nat.{not-suc-le-zero}
 use native.Mathlib.Decide.{ℕ-discrete, decLt}
 use native.Mathlib.Omega.{arith}
@@ -144,6 +145,17 @@ pub ≼-dec : (a b : List ℕ) → Dec (a ≼ b)
 
 -- ---- by index
 
+pub agree-cons : (x y : ℕ) (a b : List ℕ) (k : ℕ) → x ≡ y → ((i : ℕ) → i < k → getD a i 0 ≡ getD b i 0) → (i : ℕ) → i < suc k → getD (x ∷ a) i 0 ≡ getD (y ∷ b) i 0
+agree-cons x y a b k e f zero h = e
+agree-cons x y a b k e f (suc i) h = f i (omega arith)
+
+pub agree-next : (a b : List ℕ) (k : ℕ) → ((i : ℕ) → i < k → getD a i 0 ≡ getD b i 0) → getD a k 0 ≡ getD b k 0 → (i : ℕ) → i < k + 1 → getD a i 0 ≡ getD b i 0
+agree-next a b k f e i h = go (ℕ-discrete i k)
+  where
+    go : Dec (i ≡ k) → getD a i 0 ≡ getD b i 0
+    go (yes z) = rw z e
+    go (no z) = f i (omega arith)
+
 pub ≼-by-index : (a b : List ℕ) → length a ≡ length b →
     ((k : ℕ) → k < length a → ((i : ℕ) → i < k → getD a i 0 ≡ getD b i 0) → rank (getD a k 0) ≤ rank (getD b k 0)) → a ≼ b
 ≼-by-index [] b e h = tt
@@ -153,12 +165,8 @@ pub ≼-by-index : (a b : List ℕ) → length a ≡ length b →
     Step : Type 0
     Step = (k : ℕ) → k < length a → ((i : ℕ) → i < k → getD a i 0 ≡ getD b i 0) → rank (getD a k 0) ≤ rank (getD b k 0)
 
-    both : x ≡ y → (k : ℕ) → ((i : ℕ) → i < k → getD a i 0 ≡ getD b i 0) → (i : ℕ) → i < suc k → getD (x ∷ a) i 0 ≡ getD (y ∷ b) i 0
-    both p k f zero c = p
-    both p k f (suc i) c = f i (omega arith)
-
     later : x ≡ y → Step
-    later p k c f = h (suc k) (omega arith) (both p k f)
+    later p k c f = h (suc k) (omega arith) (agree-cons x y a b k p f)
 
     go : (Step → a ≼ b) → (rank x < rank y) ⊎ ((x ≡ y) ⊎ (rank y < rank x)) → (x ∷ a) ≼ (y ∷ b)
     go ih (inl l) = inl l
@@ -182,11 +190,7 @@ pub ≼-at : (a b : List ℕ) → a ≼ b → (k : ℕ) → k < length a → k <
 -- ---- the first unequal value
 
 unequal-later : (x y : ℕ) (a b : List ℕ) → x ≡ y → FirstUnequal a b → FirstUnequal (x ∷ a) (y ∷ b)
-unequal-later x y a b e f = record { index = suc (f .index); inside = omega (arith, f .inside); before = before; lower = f .lower }
-  where
-    before : (i : ℕ) → i < suc (f .index) → getD (x ∷ a) i 0 ≡ getD (y ∷ b) i 0
-    before zero h = e
-    before (suc i) h = f .before i (omega arith)
+unequal-later x y a b e f = record { index = suc (f .index); inside = omega (arith, f .inside); before = agree-cons x y a b (f .index) e (f .before); lower = f .lower }
 
 ≼-unequal : (a b : List ℕ) → length a ≡ length b → a ≼ b → (a ≡ b) ⊎ FirstUnequal a b
 ≼-unequal [] [] e h = inl refl

@@ -61,8 +61,8 @@ pub fn represent(m: u64, n: u64, top: u64, grid: &[u8], out: &mut [u8]) -> Arran
 }
 
 /// Same: P and Q by which `b` is the arrangement of `a`, or 103 where their classes are two.
-/// P is a's row permutation followed by the inverse of b's; so for Q. With both, how many
-/// leading cells of the representatives agree.
+/// P is a's row permutation followed by the inverse of b's; so for Q. With either, how
+/// many leading cells of the representatives agree.
 pub fn same(m: u64, n: u64, top: u64, a: &[u8], b: &[u8]) -> Matched {
     if let Err(number) = grid_questions(m, n, top, &[a, b], &[a, b]) {
         return Matched::starting(number, 0);
