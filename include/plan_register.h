@@ -26,22 +26,23 @@
 extern "C" {
 #endif
 
-/* The numbers that the calls answer. 1 to 10 are refusals; the others are none. */
+/* The numbers that the calls answer. 1 to 10 and 14 are refusals; the others are none. */
 enum {
-    PLAN_REGISTER_DONE = 0,          /* the call is done */
-    PLAN_REGISTER_ROWS = 1,          /* the rows are not 1 to 8 */
-    PLAN_REGISTER_COLUMNS = 2,       /* the columns are not 1 to 16 */
-    PLAN_REGISTER_TOP = 3,           /* top is not 0 to 15 */
-    PLAN_REGISTER_CAPACITY = 4,      /* the capacity is not 1 to 500 */
-    PLAN_REGISTER_LAYOUT = 5,        /* the bytes are not laid out as a register */
-    PLAN_REGISTER_LENGTH = 6,        /* a slice has not its exact length */
-    PLAN_REGISTER_CELL = 7,          /* a cell or a bound is above top */
-    PLAN_REGISTER_BOUNDS = 8,        /* a low is above its high */
-    PLAN_REGISTER_FULL = 9,          /* the class is not held, and the register is full */
-    PLAN_REGISTER_NOT_HELD = 10,     /* the class is not held */
-    PLAN_REGISTER_HELD = 101,        /* enter: the class was held already */
-    PLAN_REGISTER_NO_GRID = 102,     /* prune and fit: no grid within the bounds has allperm */
-    PLAN_REGISTER_TWO_CLASSES = 103  /* same: the two grids are in two classes */
+    PLAN_REGISTER_DONE = 0,           /* the call is done */
+    PLAN_REGISTER_ROWS = 1,           /* the rows are not 1 to 8 */
+    PLAN_REGISTER_COLUMNS = 2,        /* the columns are not 1 to 16 */
+    PLAN_REGISTER_TOP = 3,            /* top is not 0 to 15 */
+    PLAN_REGISTER_CAPACITY = 4,       /* the capacity is not 1 to 500 */
+    PLAN_REGISTER_LAYOUT = 5,         /* the bytes are not laid out as a register */
+    PLAN_REGISTER_LENGTH = 6,         /* a slice has not its exact length */
+    PLAN_REGISTER_CELL = 7,           /* a cell or a bound is above top */
+    PLAN_REGISTER_BOUNDS = 8,         /* a low is above its high */
+    PLAN_REGISTER_FULL = 9,           /* the class is not held, and the register is full */
+    PLAN_REGISTER_NOT_HELD = 10,      /* the class is not held */
+    PLAN_REGISTER_TERMINAL_ROWS = 14, /* a terminal's rows are 6 to 8 */
+    PLAN_REGISTER_HELD = 101,         /* enter: the class was held already */
+    PLAN_REGISTER_NO_GRID = 102,      /* prune and fit: no grid within the bounds has allperm */
+    PLAN_REGISTER_TWO_CLASSES = 103   /* same: the two grids are in two classes */
 };
 
 /* The bytes of a register. The numbers are within the limits. */
@@ -66,7 +67,7 @@ typedef struct plan_register_matched {
     uint8_t columns[16]; /* Q; positions past n hold their own number */
 } plan_register_matched;
 
-/* What open, enter and strike return. */
+/* What open, enter, strike and a terminal's enter return. */
 typedef struct plan_register_placed {
     uint32_t number;
     uint32_t place; /* the line of the entry, the first entry's being 1; 0 by open and with a refusal */
@@ -77,6 +78,21 @@ typedef struct plan_register_counted {
     uint32_t number;
     uint32_t count; /* of values removed by prune, of entries by fit; 0 with any number but 0 */
 } plan_register_counted;
+
+/* What a terminal's represent returns: as represent, but for at most 5 rows. */
+typedef struct plan_register_terminal_arranged {
+    uint32_t number;
+    uint8_t rows[5];     /* P; positions past m hold their own number */
+    uint8_t columns[16]; /* Q; positions past n hold their own number */
+} plan_register_terminal_arranged;
+
+/* What a terminal's same returns: as same, but for at most 5 rows. */
+typedef struct plan_register_terminal_matched {
+    uint32_t number;
+    uint32_t agreed;     /* as in plan_register_matched */
+    uint8_t rows[5];     /* P; positions past m hold their own number */
+    uint8_t columns[16]; /* Q; positions past n hold their own number */
+} plan_register_terminal_matched;
 
 #ifdef __cplusplus
 #define PLAN_REGISTER_ASSERT(condition) static_assert(condition, #condition)
@@ -95,6 +111,13 @@ PLAN_REGISTER_ASSERT(sizeof(plan_register_placed) == 8);
 PLAN_REGISTER_ASSERT(offsetof(plan_register_placed, place) == 4);
 PLAN_REGISTER_ASSERT(sizeof(plan_register_counted) == 8);
 PLAN_REGISTER_ASSERT(offsetof(plan_register_counted, count) == 4);
+PLAN_REGISTER_ASSERT(sizeof(plan_register_terminal_arranged) == 28);
+PLAN_REGISTER_ASSERT(offsetof(plan_register_terminal_arranged, rows) == 4);
+PLAN_REGISTER_ASSERT(offsetof(plan_register_terminal_arranged, columns) == 9);
+PLAN_REGISTER_ASSERT(sizeof(plan_register_terminal_matched) == 32);
+PLAN_REGISTER_ASSERT(offsetof(plan_register_terminal_matched, agreed) == 4);
+PLAN_REGISTER_ASSERT(offsetof(plan_register_terminal_matched, rows) == 8);
+PLAN_REGISTER_ASSERT(offsetof(plan_register_terminal_matched, columns) == 13);
 #undef PLAN_REGISTER_ASSERT
 
 /* Represent: writes the least arrangement of the grid's class to out. grid and out have m * n bytes.
@@ -141,6 +164,30 @@ plan_register_placed plan_register_strike(uint8_t *bytes, size_t bytes_length,
 plan_register_counted plan_register_fit(const uint8_t *bytes, size_t bytes_length,
                                         const uint8_t *low, size_t low_length,
                                         const uint8_t *high, size_t high_length);
+
+/* The calls of the shop terminals, for at most 5 rows. There they answer as represent, same and enter,
+ * but which pair of orders is returned is free. A register may be used through both sets of calls. */
+
+/* A terminal's represent: writes the least arrangement of the grid's class to out. grid and out have
+ * m * n bytes.
+ * 0 with orders by which out is the arrangement of grid; otherwise 1, 14, 2, 3, 6 or 7. */
+plan_register_terminal_arranged plan_register_terminal_represent(size_t m, size_t n, size_t top,
+                                                                 const uint8_t *grid, size_t grid_length,
+                                                                 uint8_t *out, size_t out_length);
+
+/* A terminal's same: are the grids a and b, of m * n bytes, in one class? Writes nothing.
+ * 0 with orders by which b is the arrangement of a; 103 if they are in two classes; otherwise
+ * 1, 14, 2, 3, 6 or 7. With 0 and with 103, agreed says how far their least arrangements agree. */
+plan_register_terminal_matched plan_register_terminal_same(size_t m, size_t n, size_t top,
+                                                           const uint8_t *a, size_t a_length,
+                                                           const uint8_t *b, size_t b_length);
+
+/* A terminal's enter: the grid's class is held from then on by the register in bytes, which has at
+ * most 5 rows.
+ * 0 with the entry's place if the class was new; 101 with its place if it was held, and nothing is
+ * written; otherwise 5, 14, 6, 7 or 9. */
+plan_register_placed plan_register_terminal_enter(uint8_t *bytes, size_t bytes_length,
+                                                  const uint8_t *grid, size_t grid_length);
 
 #ifdef __cplusplus
 }

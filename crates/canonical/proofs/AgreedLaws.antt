@@ -24,14 +24,14 @@ use Rattle.grids.proofs.CommonPrefixLaws.{prefix-sym, prefix-all, Decided, uneq
 use Rattle.grids.proofs.GridLaws.{class-grid, class-passes, passes-class}
 use Rattle.grids.proofs.LeastLaws.{length-least, class-least}
 use Rattle.grids.proofs.QuestionLaws.{firstNo-has}
-use Rattle.canonical.specs.Same.{sameQuestions, sameNumber, sameAgreed}
+use Rattle.canonical.specs.Same.{classAgreed, sameQuestions, sameNumber, sameAgreed}
 use Rattle.canonical.proofs.CallLaws.{same-pass, same-first-no, same-asked, same-leasts, same-zero, same-103}
 
 -- ---- by the questions
 
 pub same-agreed-none : (m n top : ℕ) (a b : List ℕ) (k : ℕ) → firstNo (sameQuestions m n top a b) ≡ suc k → sameAgreed m n top a b ≡ 0
-unfolding sameAgreed
-same-agreed-none m n top a b k e = rw (e, sameAgreed)
+unfolding sameAgreed classAgreed
+same-agreed-none m n top a b k e = rw (e, classAgreed)
 
 -- 103 is no refusal
 asked-103 : (m n top : ℕ) (a b : List ℕ) → sameNumber m n top a b ≡ 103 → firstNo (sameQuestions m n top a b) ≡ 0
@@ -52,20 +52,20 @@ module _ (m n top : ℕ) (a b : List ℕ) (e : firstNo (sameQuestions m n top a 
   sizes = let h = same-pass m n top a b .0 e in (length-least m n a (h .1 .sized), length-least m n b (h .2 .sized))
 
   pub same-agreed : sameAgreed m n top a b ≡ commonPrefixLength (least m n a) (least m n b)
-  unfolding sameAgreed
+  unfolding sameAgreed classAgreed
   same-agreed = go (oneClass m n a b) refl
     where
       go : (t : Bool) → oneClass m n a b ≡ t → sameAgreed m n top a b ≡ commonPrefixLength (least m n a) (least m n b)
       go true f =
           let s = class-least m n a b (same-pass m n top a b .0 e .1 .sized) (passes-class m n a b f) in
-          rw (e, f, sameAgreed) (sym (prefix-all (least m n a) (least m n b) (sizes .0 ∙ sym (sizes .1)) .0 s ∙ sizes .0))
-      go false f = rw (e, f, sameAgreed)
+          rw (e, f, classAgreed) (sym (prefix-all (least m n a) (least m n b) (sizes .0 ∙ sym (sizes .1)) .0 s ∙ sizes .0))
+      go false f = rw (e, f, classAgreed)
 
 pub same-agreed-all : (m n top : ℕ) (a b : List ℕ) → sameNumber m n top a b ≡ 0 → sameAgreed m n top a b ≡ m * n
-unfolding sameAgreed
+unfolding sameAgreed classAgreed
 same-agreed-all m n top a b z =
     let e = same-asked m n top a b z in
-    rw (e, class-passes m n a b (same-zero m n top a b e .0 z), sameAgreed)
+    rw (e, class-passes m n a b (same-zero m n top a b e .0 z), classAgreed)
 
 pub same-parts : (m n top : ℕ) (a b : List ℕ) → sameNumber m n top a b ≡ 103 →
     (sameAgreed m n top a b < m * n) × Decided (sameAgreed m n top a b) (least m n a) (least m n b)

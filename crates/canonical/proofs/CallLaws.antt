@@ -3,13 +3,15 @@
 --   represent-pass, same-pass  ==  what the questions get a yes for, exactly
 --   represented-least    ==  every answer that the contract allows is the least arrangement, with orders that produce it
 --   represent-least      ==  so demand 2's sentence on represent holds of every program that meets the contract
---   represent-determined ==  two answers to the same arguments have one number and one output slice
+--   represented-alike    ==  two answers after the same first no have one number and one output slice, whatever the widths of their row orders
+--   represent-determined ==  so two answers of represent to the same arguments do
 --   same-zero, same-103  ==  where every question gets a yes: 0 exactly for grids in one class, 103 exactly for grids in two
 --   same-leasts          ==  and 0 exactly for grids with one least grid
---   same-first-no, same-asked  ==  a refusal has its question's number; 0 is no refusal
---   represent-answers, same-answers  ==  on all arguments there is an answer
+--   same-first-no, number-asked, same-asked  ==  a refusal has its question's number; 0 is no refusal
+--   represented-by, compared-by  ==  there is an answer where the rows fit the width
+--   represent-answers, same-answers  ==  so on all arguments represent and same have one
 --   represent-refused, same-refused  ==  in a refusal and with 103: the number, orders that move nothing, and the slice as it was
---   produces-past        ==  orders that produce a grid have 8 and 16 positions, and those past the rows and columns hold their own number
+--   produces-past        ==  orders that produce a grid have `width` and 16 positions, and those past the rows and columns hold their own number
 --   same-orders          ==  orders by which B is the arrangement of A, from those that produce the least grid from each
 use mathlib.Core.Path.{_≡_, refl, sym, ap, _∙_}
 use mathlib.Core.List.{List, [], _∷_, List·Memᴰ, List·Memᴰ·head, List·Memᴰ·tail}
@@ -29,8 +31,8 @@ use Rattle.grids.specs.Questions.{firstNo, Limits}
 use Rattle.grids.proofs.GridLaws.{arrangement-identity, arrangement-twice, class-passes, passes-class}
 use Rattle.grids.proofs.LeastLaws.{least-is, least-in-class, one-class-one-least}
 use Rattle.grids.proofs.QuestionLaws.{grid-of, grid-capped, all-one, all-two, slices-pass}
-use Rattle.canonical.specs.Represent.{Produces, representQuestions, Represented}
-use Rattle.canonical.specs.Same.{sameQuestions, sameNumber, sameAgreed, Compared}
+use Rattle.canonical.specs.Represent.{Produces, RepresentedBy, representQuestions, Represented}
+use Rattle.canonical.specs.Same.{classNumber, ComparedBy, sameQuestions, sameNumber, Compared}
 use Rattle.canonical.specs.Programs.{Representing, MeetsRepresent}
 use Rattle.canonical.specs.Demand2.{RepresentLeast}
 
@@ -71,7 +73,7 @@ same-pass m n top a b = (to, back)
 -- ---- represent
 
 pub represented-least : (m n top : ℕ) (g out : List ℕ) → Limits m n top → IsGrid m n top g → length out ≡ m * n →
-    (number : ℕ) (rows columns out′ : List ℕ) → Represented m n top g out number rows columns out′ → (number ≡ 0) × IsLeast m n g out′ × Produces m n g out′ rows columns
+    (number : ℕ) (rows columns out′ : List ℕ) → Represented m n top g out number rows columns out′ → (number ≡ 0) × IsLeast m n g out′ × Produces 8 m n g out′ rows columns
 represented-least m n top g out l i e number rows columns out′ r =
     let z = r .number-is ∙ represent-pass m n top g out .1 (l, i, e) in
     (z, rw (r .written z) (least-is m n g (i .sized)), rw (r .written z) (r .produced z))
@@ -80,37 +82,42 @@ pub represent-least : (f : Representing) → MeetsRepresent f → RepresentLeast
 unfolding RepresentLeast MeetsRepresent
 represent-least f c m n top g out l i e = represented-least m n top g out l i e _ _ _ _ (c m n top g out)
 
-pub represent-determined : (m n top : ℕ) (g out : List ℕ) (k : ℕ) (p q o : List ℕ) (k′ : ℕ) (p′ q′ o′ : List ℕ) →
-    Represented m n top g out k p q o → Represented m n top g out k′ p′ q′ o′ → (k ≡ k′) × (o ≡ o′)
-represent-determined m n top g out k p q o k′ p′ q′ o′ r s = (e, go (ℕ-discrete k 0))
+pub represented-alike : (width w k m n : ℕ) (g out : List ℕ) (a : ℕ) (p q o : List ℕ) (b : ℕ) (p′ q′ o′ : List ℕ) →
+    RepresentedBy width k m n g out a p q o → RepresentedBy w k m n g out b p′ q′ o′ → (a ≡ b) × (o ≡ o′)
+represented-alike width w k m n g out a p q o b p′ q′ o′ r s = (e, go (ℕ-discrete a 0))
   where
-    e : k ≡ k′
+    e : a ≡ b
     e = r .number-is ∙ sym (s .number-is)
 
-    go : Dec (k ≡ 0) → o ≡ o′
+    go : Dec (a ≡ 0) → o ≡ o′
     go (yes z) = r .written z ∙ sym (s .written (sym e ∙ z))
     go (no nz) = r .unchanged nz ∙ sym (s .unchanged (λ z. nz (e ∙ z)))
+
+pub represent-determined : (m n top : ℕ) (g out : List ℕ) (k : ℕ) (p q o : List ℕ) (k′ : ℕ) (p′ q′ o′ : List ℕ) →
+    Represented m n top g out k p q o → Represented m n top g out k′ p′ q′ o′ → (k ≡ k′) × (o ≡ o′)
+represent-determined m n top g out k p q o k′ p′ q′ o′ r s = represented-alike 8 8 _ m n g out k p q o k′ p′ q′ o′ r s
 
 -- ---- same
 
 -- the number where every question gets a yes
 same-number : (m n top : ℕ) (a b : List ℕ) (t : Bool) → firstNo (sameQuestions m n top a b) ≡ 0 → oneClass m n a b ≡ t → sameNumber m n top a b ≡ (elim t as (λ x. ℕ) [ true ↦ 0 | false ↦ 103 ])
-unfolding sameNumber
-same-number m n top a b t e f = rw (e, f, sameNumber)
+unfolding sameNumber classNumber
+same-number m n top a b t e f = rw (e, f, classNumber)
 
 -- a refusal has its question's number
 pub same-first-no : (m n top : ℕ) (a b : List ℕ) (k : ℕ) → firstNo (sameQuestions m n top a b) ≡ suc k → sameNumber m n top a b ≡ suc k
-unfolding sameNumber
-same-first-no m n top a b k e = rw (e, sameNumber)
+unfolding sameNumber classNumber
+same-first-no m n top a b k e = rw (e, classNumber)
 
 -- 0 is no refusal
+pub number-asked : (k m n : ℕ) (a b : List ℕ) → classNumber k m n a b ≡ 0 → k ≡ 0
+unfolding classNumber
+number-asked zero m n a b z = refl
+number-asked (suc k) m n a b z = z
+
 pub same-asked : (m n top : ℕ) (a b : List ℕ) → sameNumber m n top a b ≡ 0 → firstNo (sameQuestions m n top a b) ≡ 0
 unfolding sameNumber
-same-asked m n top a b = go (firstNo (sameQuestions m n top a b)) refl
-  where
-    go : (k : ℕ) → firstNo (sameQuestions m n top a b) ≡ k → sameNumber m n top a b ≡ 0 → k ≡ 0
-    go zero e = λ z. refl
-    go (suc k) e = rw (e, sameNumber) (λ z. z)
+same-asked m n top a b z = number-asked _ m n a b z
 
 pub same-zero : (m n top : ℕ) (a b : List ℕ) → firstNo (sameQuestions m n top a b) ≡ 0 → (sameNumber m n top a b ≡ 0) ↔ OneClass m n a b
 same-zero m n top a b e = (λ z. go (oneClass m n a b) refl z, λ c. same-number m n top a b true e (class-passes m n a b c))
@@ -145,44 +152,41 @@ same-orders m n a b r p q p′ q′ e op oq f g =
 -- ---- there is always an answer
 
 -- permutations as the code holds them produce what they produce
-padded-produce : (m n : ℕ) (a b : List ℕ) → m ≤ 8 → n ≤ 16 → (c : OneClass m n a b) → Produces m n a b (padded 8 m (c .rows)) (padded 16 n (c .columns))
-padded-produce m n a b hm hn c =
-    let e = padded-own 8 m (c .rows) hm (c .row-permutation .size) in
+padded-produce : (width m n : ℕ) (a b : List ℕ) → m ≤ width → n ≤ 16 → (c : OneClass m n a b) → Produces width m n a b (padded width m (c .rows)) (padded 16 n (c .columns))
+padded-produce width m n a b hm hn c =
+    let e = padded-own width m (c .rows) hm (c .row-permutation .size) in
     let f = padded-own 16 n (c .columns) hn (c .column-permutation .size) in
     record {
       row-permutation = rw e (c .row-permutation);
       column-permutation = rw f (c .column-permutation);
       gives = rw (e, f) (c .gives);
-      row-rest = ap (padded 8 m) (sym e);
+      row-rest = ap (padded width m) (sym e);
       column-rest = ap (padded 16 n) (sym f);
     }
 
-pub represent-answers : (m n top : ℕ) (g out : List ℕ) → (number : ℕ) × (rows : List ℕ) × (columns : List ℕ) × (out′ : List ℕ) × Represented m n top g out number rows columns out′
-unfolding representQuestions
-represent-answers m n top g out = go (ℕ-discrete (firstNo (representQuestions m n top g out)) 0)
+pub represented-by : (width k m n : ℕ) (g out : List ℕ) → (k ≡ 0 → (m ≤ width) × (n ≤ 16) × (length g ≡ m * n)) →
+    (number : ℕ) × (rows : List ℕ) × (columns : List ℕ) × (out′ : List ℕ) × RepresentedBy width k m n g out number rows columns out′
+represented-by width k m n g out fits = go (ℕ-discrete k 0)
   where
-    k : ℕ
-    k = firstNo (representQuestions m n top g out)
-
-    go : Dec (k ≡ 0) → (number : ℕ) × (rows : List ℕ) × (columns : List ℕ) × (out′ : List ℕ) × Represented m n top g out number rows columns out′
+    go : Dec (k ≡ 0) → (number : ℕ) × (rows : List ℕ) × (columns : List ℕ) × (out′ : List ℕ) × RepresentedBy width k m n g out number rows columns out′
     go (yes z) =
-        let h = represent-pass m n top g out .0 z in
-        let c = least-in-class m n g (h .1 .sized) in (
+        let h = fits z in
+        let c = least-in-class m n g (h .2) in (
           k,
-          padded 8 m (c .rows),
+          padded width m (c .rows),
           padded 16 n (c .columns),
           least m n g,
           record {
             number-is = refl;
             written = λ e. refl;
-            produced = λ e. padded-produce m n g (least m n g) (h .0 .rows-limits .1) (h .0 .column-limits .1) c;
+            produced = λ e. padded-produce width m n g (least m n g) (h .0) (h .1) c;
             unchanged = λ ne. absurd (ne z);
             starting = λ ne. absurd (ne z);
           },
         )
     go (no nz) = (
       k,
-      identity 8,
+      identity width,
       identity 16,
       out,
       record {
@@ -194,33 +198,32 @@ represent-answers m n top g out = go (ℕ-discrete (firstNo (representQuestions 
       },
     )
 
-pub same-answers : (m n top : ℕ) (a b : List ℕ) → (number : ℕ) × (agreed : ℕ) × (rows : List ℕ) × (columns : List ℕ) × Compared m n top a b number agreed rows columns
-unfolding sameQuestions
-same-answers m n top a b = go (ℕ-discrete (sameNumber m n top a b) 0)
-  where
-    k : ℕ
-    k = sameNumber m n top a b
+pub represent-answers : (m n top : ℕ) (g out : List ℕ) → (number : ℕ) × (rows : List ℕ) × (columns : List ℕ) × (out′ : List ℕ) × Represented m n top g out number rows columns out′
+represent-answers m n top g out = represented-by 8 _ m n g out λ z.
+    let h = represent-pass m n top g out .0 z in (h .0 .rows-limits .1, h .0 .column-limits .1, h .1 .sized)
 
-    go : Dec (k ≡ 0) → (number : ℕ) × (agreed : ℕ) × (rows : List ℕ) × (columns : List ℕ) × Compared m n top a b number agreed rows columns
+pub compared-by : (width k c m n : ℕ) (a b : List ℕ) → (k ≡ 0 → (m ≤ width) × (n ≤ 16) × OneClass m n a b) →
+    (number : ℕ) × (agreed : ℕ) × (rows : List ℕ) × (columns : List ℕ) × ComparedBy width k c m n a b number agreed rows columns
+compared-by width k c m n a b fits = go (ℕ-discrete k 0)
+  where
+    go : Dec (k ≡ 0) → (number : ℕ) × (agreed : ℕ) × (rows : List ℕ) × (columns : List ℕ) × ComparedBy width k c m n a b number agreed rows columns
     go (yes z) =
-        let e = same-asked m n top a b z in
-        let c = same-zero m n top a b e .0 z in
-        let h = same-pass m n top a b .0 e .0 in (
+        let h = fits z in (
           k,
-          sameAgreed m n top a b,
-          padded 8 m (c .rows),
-          padded 16 n (c .columns),
+          c,
+          padded width m (h .2 .rows),
+          padded 16 n (h .2 .columns),
           record {
             number-is = refl;
             agreed-is = refl;
-            produced = λ e. padded-produce m n a b (h .rows-limits .1) (h .column-limits .1) c;
+            produced = λ e. padded-produce width m n a b (h .0) (h .1) (h .2);
             starting = λ ne. absurd (ne z);
           },
         )
     go (no nz) = (
       k,
-      sameAgreed m n top a b,
-      identity 8,
+      c,
+      identity width,
       identity 16,
       record {
         number-is = refl;
@@ -229,6 +232,12 @@ same-answers m n top a b = go (ℕ-discrete (sameNumber m n top a b) 0)
         starting = λ ne. record { row-identity = refl; column-identity = refl };
       },
     )
+
+pub same-answers : (m n top : ℕ) (a b : List ℕ) → (number : ℕ) × (agreed : ℕ) × (rows : List ℕ) × (columns : List ℕ) × Compared m n top a b number agreed rows columns
+same-answers m n top a b = compared-by 8 _ _ m n a b λ z.
+    let e = same-asked m n top a b z in
+    let h = same-pass m n top a b .0 e .0 in
+    (h .rows-limits .1, h .column-limits .1, same-zero m n top a b e .0 z)
 
 -- ---- what a caller reads off an answer
 
@@ -248,11 +257,11 @@ same-refused m n top a b k e number agreed rows columns r =
     let s = r .starting (λ h. omega arith) in
     (z, s .row-identity, s .column-identity)
 
-pub produces-past : (m n : ℕ) (a b rows columns : List ℕ) → Produces m n a b rows columns →
-    (length rows ≡ 8) × (length columns ≡ 16) × ((i : ℕ) → i < 8 → m ≤ i → getD rows i 0 ≡ i) × ((j : ℕ) → j < 16 → n ≤ j → getD columns j 0 ≡ j)
-produces-past m n a b rows columns p = (
-  ap length (p .row-rest) ∙ length-padded 8 m (take m rows),
+pub produces-past : (width m n : ℕ) (a b rows columns : List ℕ) → Produces width m n a b rows columns →
+    (length rows ≡ width) × (length columns ≡ 16) × ((i : ℕ) → i < width → m ≤ i → getD rows i 0 ≡ i) × ((j : ℕ) → j < 16 → n ≤ j → getD columns j 0 ≡ j)
+produces-past width m n a b rows columns p = (
+  ap length (p .row-rest) ∙ length-padded width m (take m rows),
   ap length (p .column-rest) ∙ length-padded 16 n (take n columns),
-  λ i h k. ap (λ (l : List ℕ). getD l i 0) (p .row-rest) ∙ padded-from 8 m (take m rows) i h k,
+  λ i h k. ap (λ (l : List ℕ). getD l i 0) (p .row-rest) ∙ padded-from width m (take m rows) i h k,
   λ j h k. ap (λ (l : List ℕ). getD l j 0) (p .column-rest) ∙ padded-from 16 n (take n columns) j h k,
 )

@@ -4,6 +4,7 @@
 --   further             ==  how the search stands in a candidate's branch
 --   follow-cut          ==  what is returned where the candidate was found greater than the best
 --   follow-jump         ==  where the search goes back to where a symmetry began
+--   follow-last         ==  where no more than one row is left
 --   follow-settled      ==  where its branch was searched, or is a copy of one tried before
 --   follow-again        ==  where its branch was searched again
 use mathlib.Core.Path.{_≡_, refl, sym, _∙_}
@@ -26,7 +27,7 @@ use Rattle.grids.proofs.ComparisonLaws.{greater-yes}
 use Rattle.canonical.specs.declared.search.Orders.{Orders}
 use Rattle.canonical.specs.declared.search.Found.{Found}
 use Rattle.canonical.specs.Blocks.{Split}
-use Rattle.canonical.specs.Search.{Covers, leadingRows, rowAt, lesserOrders, Searching, Candidate, Improves, Settled, BranchOutcome, Followed, FollowOutcome}
+use Rattle.canonical.specs.Search.{Covers, leadingRows, rowAt, lesserOrders, Searching, Candidate, Improves, Settled, Searched, BranchOutcome, Followed, FollowOutcome}
 use Rattle.canonical.proofs.BlockLaws.{blocked-next}
 use Rattle.canonical.proofs.LeadingRows.{leading-more, leading-row}
 use Rattle.canonical.proofs.SearchSteps.{covers-lower, covers-cut, placed-stay}
@@ -106,6 +107,13 @@ module _ (m n : ℕ) (g : List ℕ) (k t : ℕ) (placed : Orders) (breaks : List
           stays = λ y. let w = deeper .stays y in omega arith;
         };
         goes-on = λ z. absurd (omega arith);
+      }
+
+      -- no more than one row is left: the branch was searched, also where the search goes back
+      pub follow-last : Searched m n g (k + 1) next new (f .best) → FollowOutcome m n g k t placed best jumps f
+      follow-last z = record {
+        returns = λ b. follow-jump b .returns b;
+        goes-on = λ b. followed-next m n g k t placed best best (f .best) h deeper-improves (rw (c .rows) at (rw add-one at (z .covers)));
       }
 
       -- the branch was searched, or it is a copy of one tried before

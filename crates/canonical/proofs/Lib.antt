@@ -1,6 +1,7 @@
 pub mod SearchSteps
 pub mod CallLaws
 pub mod AgreedLaws
+pub mod TerminalCalls
 pub mod BlockLaws
 pub mod LeadingRows
 pub mod OneRow
@@ -12,4 +13,6 @@ pub mod FollowSteps
 pub mod PlaceLaws
 pub mod CallSteps
 pub mod BoundLaws
+pub mod CountLaws
+pub mod FirstRows
 pub mod SymmetryLaws

@@ -7,21 +7,23 @@
 --   followed-all        ==  at the end: the branch is searched
 --   outcome-better      ==  from a better best
 --   outcome-searched, outcome-alike  ==  what is returned where the branch was searched, and where it also gave the best's arrangement
---   searched-better     ==  a branch searched from a better best is searched
 --   placed-last         ==  a branch with one row left is searched with that row placed
 --   placed-all          ==  a branch with all rows placed is searched
---   start-orders, start ==  how the search stands at first
---   outcome-least       ==  the branch with no row placed, searched, gives the least
+--   start               ==  how the search stands at first
+--   searched-least, outcome-least  ==  the branch with no row placed, searched, gives the least
 use mathlib.Core.Path.{_≡_, refl, sym, ap₂, _∙_}
 use mathlib.Core.List.{List}
 use mathlib.Core.Bool.{Bool, true, true≢false}
 use Prim.Native.Nat.{ℕ, suc, _+_, _*_, _≤_, _<_}
+use native.Mathlib.Decide.{decLt}
 use native.Mathlib.Omega.{arith}
 use lib.ListN.{length, getD, take}
 use lib.Seq.{getD-take}
+use Rattle.permutations.specs.Lists.{tabulate}
 use Rattle.permutations.specs.Permutations.{identity, swapped}
 use Rattle.permutations.specs.Rows.{rowNumbers, ListsRows}
 use Rattle.permutations.specs.Columns.{columnNumbers, ListsColumns}
+use Rattle.permutations.proofs.ListLaws.{at-tabulate}
 use Rattle.permutations.proofs.SwapLaws.{identity-whole}
 use Rattle.grids.specs.Order.{_≼_}
 use Rattle.grids.specs.Grids.{cell, row, OneClass}
@@ -63,19 +65,24 @@ placed-last m n g k placed breaks best next out e s c i l = record {
         (covers-placed m n g (rowNumbers (next .rows)) (columnNumbers (next .columns)) (rowNumbers (next .rows)) (columnNumbers (next .columns)) (c .orders .columns .whole)
         (rw e at (c .ascending)) refl))
 
-pub searched-better : (m n : ℕ) (g : List ℕ) (k : ℕ) (placed best mid out : Orders) → Improves m n g k best mid → Searched m n g k placed mid out → Searched m n g k placed best out
-searched-better m n g k placed best mid out i s = record { improves = improves-trans m n g k best mid out i (s .improves); covers = s .covers }
-
-pub followed-bound : (m n : ℕ) (g : List ℕ) (k : ℕ) (placed best : Orders) (b : Bound) → Bounded m n g k placed best b → Followed m n g k (b .from) placed (b .best) (b .best)
-followed-bound m n g k placed best b h = record { improves = improves-refl m n g k (b .best) (h .improves .orders); covers = h .before }
+pub followed-bound : (m n : ℕ) (g : List ℕ) (k : ℕ) (placed : Orders) (breaks : List ℕ) (best : Orders) (b : Bound) → Bounded m n g k placed breaks best b → Followed m n g k (b .from) placed (b .best) (b .best)
+followed-bound m n g k placed breaks best b h = record { improves = improves-refl m n g k (b .best) (h .improves .orders); covers = h .before }
 
 module _ (m n : ℕ) (g : List ℕ) (k t : ℕ) (placed : Orders) (breaks : List ℕ) (best out : Orders) (s : Searching m n g k placed breaks best)
     (h : Followed m n g k t placed best out) where
-  pub followed-all : k < m → m ≤ t → Searched m n g k placed best out
-  followed-all km mt = record {
-    improves = h .improves;
-    covers = covers-next m n g k (rowNumbers (placed .rows)) (s .rows-fit) km (s .orders .rows .whole) (leadingRows m n g out) (λ r a b. h .covers r a (omega arith));
-  }
+  pub followed-all : m ≤ t → Searched m n g k placed best out
+  followed-all mt = go (decLt k m)
+    where
+      go : Dec (k < m) → Searched m n g k placed best out
+      go (yes km) = record {
+        improves = h .improves;
+        covers = covers-next m n g k (rowNumbers (placed .rows)) (s .rows-fit) km (s .orders .rows .whole) (leadingRows m n g out) (λ r a b. h .covers r a (omega arith));
+      }
+      go (no km) = record {
+        improves = h .improves;
+        covers = covers-lower m n g k (rowNumbers (placed .rows)) (leadingRows m n g best) (leadingRows m n g out) (h .improves .lower)
+            (placed-all m n g k placed breaks best (omega (arith, s .placed-fits)) s .covers);
+      }
 
   -- the best to begin with covers the branch already
   pub followed-above : Covers m n g (suc k) (swapped (rowNumbers (placed .rows)) k t) (leadingRows m n g best) → Followed m n g k (t + 1) placed best out
@@ -138,24 +145,25 @@ outcome-alike m n g k placed breaks best next jumps f e j s c h r common = recor
 
 -- ---- the whole search
 
-pub start-orders : (m n : ℕ) (o : Orders) → m ≤ 8 → n ≤ 16 → ListsRows (identity 8) m (o .rows) → ListsColumns (identity 16) n (o .columns) → IsOrders m n o
-start-orders m n o hm hn r c = record {
-  rows = record { whole = rw (r .numbers) (identity-whole 8 m hm); size = r .size };
-  columns = record { whole = rw (c .numbers) (identity-whole 16 n hn); size = c .size };
-}
-
-pub start : (m n : ℕ) (g : List ℕ) (o : Orders) (breaks : List ℕ) → m ≤ 8 → n ≤ 16 → IsOrders m n o → ((j : ℕ) → j < n → getD breaks j 0 ≡ 0) → Searching m n g 0 o breaks o
-start m n g o breaks hm hn i z = record {
+pub start : (m n : ℕ) (g : List ℕ) (o : Orders) → m ≤ 8 → n ≤ 16 → ListsRows (identity 8) m (o .rows) → ListsColumns (identity 16) n (o .columns) →
+    Searching m n g 0 o (tabulate 0 16 (λ i. 0)) o
+start m n g o hm hn r c = record {
   placed-fits = omega arith;
   rows-fit = hm;
   columns-fit = hn;
-  orders = i;
-  blocked = blocked-start n g (rowNumbers (o .rows)) (columnNumbers (o .columns)) breaks (i .columns .whole) z;
-  best-orders = i;
+  orders = orders;
+  blocked = blocked-start n g (rowNumbers (o .rows)) (columnNumbers (o .columns)) (tabulate 0 16 (λ i. 0)) (orders .columns .whole) (λ j h. at-tabulate 16 (λ i. 0) j 0 (omega arith));
+  best-orders = orders;
   leading = refl;
 }
+  where
+    orders : IsOrders m n o
+    orders = record {
+      rows = record { whole = rw (r .numbers) (identity-whole 8 m hm); size = r .size };
+      columns = record { whole = rw (c .numbers) (identity-whole 16 n hn); size = c .size };
+    }
 
-searched-least : (m n : ℕ) (g : List ℕ) (placed best out : Orders) → length g ≡ m * n → Searched m n g 0 placed best out → LeastOrders m n g out
+pub searched-least : (m n : ℕ) (g : List ℕ) (placed best out : Orders) → length g ≡ m * n → Searched m n g 0 placed best out → LeastOrders m n g out
 searched-least m n g placed best out e s = record {
   orders = s .improves .orders;
   gives = is-least m n g (leadingRows m n g out) e (covers-least m n g (rowNumbers (placed .rows)) (leadingRows m n g out) class (s .covers));

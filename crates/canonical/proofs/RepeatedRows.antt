@@ -1,33 +1,50 @@
 -- Rows that repeat one before them.
 --
---   rows-compared  ==  rows compared with their columns as they stand
 --   row-cells      ==  equal rows, cell by cell
+--   CellsUpTo n g a b j, cells-none, cells-next  ==  rows a and b have the same cells before column j: at first, past a column
+--   rows-equal, rows-differ  ==  rows that have the same cells are equal, and rows that differ in a column are not
+--   rows-named     ==  the same of rows by other names
 --   NoneUpTo n g p k t u, none-first, none-next, none-all  ==  none at a position from k up to u: at first, past one that is unequal, at the end
 use mathlib.Core.Path.{_≡_, sym, ap, _∙_}
 use mathlib.Core.List.{List}
+use mathlib.Core.Bool.{Bool, true, false, true≢false}
 use Prim.Native.Nat.{ℕ, _+_, _≤_, _<_}
 use native.Mathlib.Decide.{ℕ-discrete}
 use native.Mathlib.Omega.{arith}
 use lib.ListN.{getD}
-use Rattle.permutations.specs.Permutations.{identity}
 use Rattle.permutations.proofs.ListLaws.{at-tabulate, tabulate-ext}
-use Rattle.permutations.proofs.PermutationLaws.{at-identity}
-use Rattle.grids.specs.declared.comparisons.Comparison.{Comparison}
-use Rattle.grids.specs.Grids.{cell, row, permutedRow}
-use Rattle.grids.specs.Comparisons.{compared}
-
-standing : (n : ℕ) (g : List ℕ) (i : ℕ) → n ≤ 16 → permutedRow n g i (identity 16) ≡ row n g i
-unfolding permutedRow row
-standing n g i h = tabulate-ext 0 n _ _ (λ j jn. ap (λ (c : ℕ). cell n g i c) (at-identity 16 j (omega arith)))
-
-pub rows-compared : (n : ℕ) (g : List ℕ) (x y a b : ℕ) (start : List ℕ) (c : Comparison) → n ≤ 16 → start ≡ identity 16 → x ≡ a → y ≡ b →
-    c ≡ compared (permutedRow n g x start) (permutedRow n g y start) → c ≡ compared (row n g a) (row n g b)
-rows-compared n g x y a b start c h s ea eb e = rw (← standing n g a h, ← standing n g b h, ← ea, ← eb, ← s) e
+use Rattle.grids.specs.Grids.{cell, row}
+use Rattle.canonical.specs.Search.{EqualRows}
 
 pub row-cells : (n : ℕ) (g : List ℕ) (a b : ℕ) → row n g a ≡ row n g b → (j : ℕ) → j < n → cell n g b j ≡ cell n g a j
 unfolding row
 row-cells n g a b e j jn =
     sym (at-tabulate n (λ c. cell n g b c) j 0 jn) ∙ ap (λ (l : List ℕ). getD l j 0) (sym e) ∙ at-tabulate n (λ c. cell n g a c) j 0 jn
+
+unfoldable pub CellsUpTo : ℕ → List ℕ → ℕ → ℕ → ℕ → Type 0
+CellsUpTo n g a b j = (c : ℕ) → c < j → cell n g a c ≡ cell n g b c
+
+pub cells-none : (n : ℕ) (g : List ℕ) (a b : ℕ) → CellsUpTo n g a b 0
+unfolding CellsUpTo
+cells-none n g a b c h = absurd (omega arith)
+
+pub cells-next : (n : ℕ) (g : List ℕ) (a b j x y : ℕ) → x ≡ cell n g a j → y ≡ cell n g b j → x ≡ y → CellsUpTo n g a b j → CellsUpTo n g a b (j + 1)
+unfolding CellsUpTo
+cells-next n g a b j x y ex ey e old c h = go (ℕ-discrete c j)
+  where
+    go : Dec (c ≡ j) → cell n g a c ≡ cell n g b c
+    go (yes z) = rw z (sym ex ∙ e ∙ ey)
+    go (no z) = old c (omega arith)
+
+pub rows-equal : (n : ℕ) (g : List ℕ) (a b j : ℕ) → n ≤ j → CellsUpTo n g a b j → EqualRows n g a b true
+unfolding CellsUpTo row
+rows-equal n g a b j h old = record { yes = λ e. tabulate-ext 0 n _ _ (λ c z. old c (omega arith)); no = λ e. absurd (true≢false e) }
+
+pub rows-differ : (n : ℕ) (g : List ℕ) (a b j x y : ℕ) → j < n → x ≡ cell n g a j → y ≡ cell n g b j → (x ≡ y → ⊥) → EqualRows n g a b false
+rows-differ n g a b j x y h ex ey ne = record { yes = λ e. absurd (true≢false (sym e)); no = λ e z. ne (ex ∙ sym (row-cells n g a b z j h) ∙ sym ey) }
+
+pub rows-named : (n : ℕ) (g : List ℕ) (x y a b : ℕ) (r : Bool) → x ≡ a → y ≡ b → EqualRows n g x y r → EqualRows n g a b r
+rows-named n g x y a b r ea eb h = rw (← ea, ← eb) h
 
 unfoldable pub NoneUpTo : ℕ → List ℕ → List ℕ → ℕ → ℕ → ℕ → Type 0
 NoneUpTo n g p k t u = (s : ℕ) → k ≤ s → s < u → row n g (getD p s 0) ≡ row n g (getD p t 0) → ⊥

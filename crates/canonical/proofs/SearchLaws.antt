@@ -6,7 +6,7 @@
 --   candidate-lower     ==  a candidate whose next row is lower improves the best
 --   bound-below, bound-above  ==  a best whose next row is no higher comes no later than the candidate, and the other way round
 --   equal-not-greater   ==  what was found equal was not found greater
---   lesser-less, lesser-not  ==  the lesser of two orders, by the test
+--   lesser-less, lesser-not, lesser-is  ==  the lesser of two orders, by the test, and the other way round
 --   lesser-improves, lesser-lower  ==  the lesser of a candidate and the best improves the best, and comes no later than the candidate
 --   lesser-equal        ==  its next row is the candidate's, unless the candidate was found greater
 use mathlib.Core.Path.{_≡_, refl, sym, _∙_}
@@ -130,6 +130,11 @@ pub lesser-not : (found : Comparison) (t : Bool) (next best : Orders) → t ≡ 
 lesser-not Less t next best e h = absurd (true≢false (sym e ∙ h))
 lesser-not Equal t next best e h = refl
 lesser-not Greater t next best e h = refl
+
+pub lesser-is : (found : Comparison) (next best out : Orders) → isLess found ≡ true → out ≡ lesserOrders found next best → out ≡ next
+lesser-is Less next best out h o = o
+lesser-is Equal next best out h o = absurd (true≢false (sym h))
+lesser-is Greater next best out h o = absurd (true≢false (sym h))
 
 -- found is the comparison of the candidate's next row with the best's
 module _ (m n : ℕ) (g : List ℕ) (k t : ℕ) (placed : Orders) (breaks : List ℕ) (best next out : Orders) (found : Comparison) (s : Searching m n g k placed breaks best)

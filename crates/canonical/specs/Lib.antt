@@ -3,5 +3,6 @@ pub mod Same
 pub mod Programs
 pub mod Demand2
 pub mod Search
+pub mod Counts
 pub mod Blocks
 pub mod Answers

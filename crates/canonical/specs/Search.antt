@@ -7,11 +7,12 @@
 --   rowAt n g k o            ==  its row k
 --   lesserOrders found next best  ==  next, if it was found less; else best
 --   IsOrders m n o           ==  o holds a permutation of m rows and one of n columns
+--   EqualRows n g a b r      ==  r tells whether rows a and b are equal
 --   Repeats n g p k t b      ==  b tells whether the row at position t of p equals one at a position from k up to t
 --   Searching m n g k placed breaks best  ==  the search stands so: the first k rows of `placed` are placed, its columns are sorted by them, and `best` begins with the same rows
 --   Candidate m n g k t placed breaks next  ==  `next` places the row at position t as well, and sorts the columns by it
 --   Improves m n g k best out   ==  out comes no later than best, and begins with the same k rows
---   Bounded m n g k placed best b      ==  b's best improves best, and covers the branches that b says it comes before
+--   Bounded m n g k placed breaks best b  ==  b's best improves best, and covers the branches that b says it comes before; it is the candidate at `from` where b says so
 --   Searched m n g k placed best out   ==  and comes no later than any arrangement of the branch
 --   Alike m n g k placed out back      ==  an arrangement of the branch equals out's, by a row order that begins with out's first `back` rows
 --   BranchOutcome m n g k placed best jumps f  ==  the search of the branch found f: where f goes back to a position before k, the branch is alike the best; else it is searched.
@@ -64,6 +65,10 @@ pub record IsOrders (m n : ℕ) (o : Orders) : Type 0 where
   pub rows : IsRowPermutation m (o .rows)
   pub columns : IsColumnPermutation n (o .columns)
 
+pub record EqualRows (n : ℕ) (g : List ℕ) (a b : ℕ) (r : Bool) : Type 0 where
+  pub yes : r ≡ true → row n g a ≡ row n g b
+  pub no : r ≡ false → row n g a ≡ row n g b → ⊥
+
 pub record Repeats (n : ℕ) (g p : List ℕ) (k t : ℕ) (b : Bool) : Type 0 where
   pub found : b ≡ true → (s : ℕ) × (k ≤ s) × (s < t) × (row n g (getD p s 0) ≡ row n g (getD p t 0))
   pub none : b ≡ false → (s : ℕ) → k ≤ s → s < t → row n g (getD p s 0) ≡ row n g (getD p t 0) → ⊥
@@ -89,11 +94,12 @@ pub record Improves (m n : ℕ) (g : List ℕ) (k : ℕ) (best out : Orders) : T
   pub lower : leadingRows m n g out ≼ leadingRows m n g best
   pub leading : leadingRows k n g out ≡ leadingRows k n g best
 
-pub record Bounded (m n : ℕ) (g : List ℕ) (k : ℕ) (placed best : Orders) (b : Bound) : Type 0 where
+pub record Bounded (m n : ℕ) (g : List ℕ) (k : ℕ) (placed : Orders) (breaks : List ℕ) (best : Orders) (b : Bound) : Type 0 where
   pub improves : Improves m n g k best (b .best)
   pub first : k ≤ b .from
   pub before : (s : ℕ) → k ≤ s → s < b .from → Covers m n g (suc k) (swapped (rowNumbers (placed .rows)) k s) (leadingRows m n g (b .best))
   pub above : (s : ℕ) → b .from ≤ s → s < m → (getD (b .above) s 0 ≡ 0 → ⊥) → Covers m n g (suc k) (swapped (rowNumbers (placed .rows)) k s) (leadingRows m n g (b .best))
+  pub candidate : b .made ≡ true → Candidate m n g k (b .from) placed breaks (b .best)
 
 pub record Searched (m n : ℕ) (g : List ℕ) (k : ℕ) (placed best out : Orders) : Type 0 where
   pub improves : Improves m n g k best out

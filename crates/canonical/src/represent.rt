@@ -1,9 +1,9 @@
 // The call represent.
 use crate::answers;
 use crate::answers::Answer;
+use crate::asking;
 use crate::search;
 use grids::arrangements;
-use grids::questions;
 ghost use Rattle.permutations.specs.Rows.{rowNumbers};
 ghost use Rattle.permutations.specs.Columns.{columnNumbers};
 ghost use Rattle.canonical.specs.Represent.{Represented};
@@ -13,12 +13,9 @@ ghost use Rattle.canonical.specs.Represent.{Represented};
 pub fn represent(m: usize, n: usize, top: usize, grid: &[u8], out: &mut [u8]) -> Answer
     ensures { λ r. ⌜ Represented m n top (now (grid .entry)) (now (out .entry)) (r .number) (rowNumbers (r .rows)) (columnNumbers (r .columns)) (now (out .exit)) ⌝ }
 {
-    let number = questions::shape_no(m, n, top, grid.len(), out.len());
+    let number = asking::represent_no(m, n, top, grid, out);
     if number != 0 {
         return answers::refused(number);
-    }
-    if !questions::is_capped(grid, top) {
-        return answers::refused(7);
     }
     let least = search::least_orders(grid, m, n);
     let rows = least.rows;

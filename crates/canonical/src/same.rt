@@ -1,12 +1,12 @@
 // The call same.
 use crate::answers;
 use crate::answers::Match;
+use crate::asking;
 use crate::search;
 use crate::search::Orders;
 use grids::arrangements;
 use grids::comparisons;
 use grids::comparisons::GridComparison;
-use grids::questions;
 ghost use Prim.Native.Nat.{_≤_};
 ghost use Rattle.permutations.specs.Rows.{rowNumbers};
 ghost use Rattle.permutations.specs.Columns.{columnNumbers};
@@ -15,7 +15,7 @@ ghost use Rattle.canonical.specs.Search.{leadingRows};
 ghost use Rattle.canonical.specs.Same.{Compared};
 
 // What comparing the arrangement of a by p with the arrangement of b by q finds.
-fn compare_arrangements(
+pub fn compare_arrangements(
     a: &[u8],
     b: &[u8],
     m: usize,
@@ -40,15 +40,9 @@ fn compare_arrangements(
 pub fn same(m: usize, n: usize, top: usize, a: &[u8], b: &[u8]) -> Match
     ensures { λ r. ⌜ Compared m n top (now (a .entry)) (now (b .entry)) (r .number) (r .agreed) (rowNumbers (r .rows)) (columnNumbers (r .columns)) ⌝ }
 {
-    let number = questions::shape_no(m, n, top, a.len(), b.len());
+    let number = asking::same_no(m, n, top, a, b);
     if number != 0 {
         return answers::unmatched(number, 0);
-    }
-    if !questions::is_capped(a, top) {
-        return answers::unmatched(7, 0);
-    }
-    if !questions::is_capped(b, top) {
-        return answers::unmatched(7, 0);
     }
     let p = search::least_orders(a, m, n);
     let q = search::least_orders(b, m, n);

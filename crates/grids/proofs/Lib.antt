@@ -6,5 +6,6 @@ pub mod QuestionLaws
 pub mod ComparisonLaws
 pub mod CommonPrefixLaws
 pub mod QuestionSteps
+pub mod TerminalLaws
 pub mod ComparisonSteps
 pub mod ArrangementSteps

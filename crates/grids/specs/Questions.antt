@@ -9,8 +9,10 @@
 --   question3 top       ==  is top 0 to 15?
 --   question6 size l    ==  has every slice of l its exact length?
 --   question7 top l     ==  is every cell or bound of the slices of l at most top?
+--   question14 m        ==  are a terminal's rows other than 6 to 8?
+--   afterFirst q l      ==  the questions l, with q asked directly after the first of them
 use mathlib.Core.List.{List, [], _∷_}
-use mathlib.Core.Bool.{Bool, true, false, _&&_}
+use mathlib.Core.Bool.{Bool, true, false, not, _&&_}
 use Prim.Native.Nat.{ℕ, _≤_}
 use lib.ListN.{length}
 use lib.Dec.{leb, eqb}
@@ -47,3 +49,10 @@ question6 size l = record { number = 6; answer = every (λ s. eqb (length s) siz
 
 unfoldable pub question7 : ℕ → List (List ℕ) → Question
 question7 top l = record { number = 7; answer = every (capped top) l }
+
+unfoldable pub question14 : ℕ → Question
+question14 m = record { number = 14; answer = not (inRange 6 8 m) }
+
+unfoldable pub afterFirst : Question → List Question → List Question
+afterFirst q [] = q ∷ []
+afterFirst q (x ∷ l) = x ∷ q ∷ l

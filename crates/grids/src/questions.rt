@@ -4,6 +4,7 @@ ghost use mathlib.Core.Logic.{_⊎_};
 ghost use Prim.Native.Nat.{_≤_};
 ghost use Rattle.grids.specs.Grids.{capped};
 ghost use Rattle.grids.specs.Asked.{limitsNo, shapeNo};
+ghost use Rattle.grids.specs.Questions.{question14};
 
 // Questions 1, 2 and 3: the number of the first that gets a no, or 0.
 pub fn limits_no(m: usize, n: usize, top: usize) -> u32
@@ -42,6 +43,16 @@ pub fn shape_no(m: usize, n: usize, top: usize, first: usize, second: usize) -> 
         return 6;
     }
     0
+}
+
+// Question 14: whether a terminal's rows are other than 6 to 8.
+pub fn fits_terminal(m: usize) -> bool
+    ensures { λ r. ⌜ r ≡ question14 m .answer ⌝ }
+{
+    if m < 6 {
+        return true;
+    }
+    8 < m
 }
 
 // The greater of two numbers.

@@ -12,6 +12,7 @@ meets-same i h = λ k. record {
   enters = λ b g. h .enters b g k;
   strikes = λ b g. h .strikes b g k;
   fits = λ b low high. h .fits b low high k;
+  terminalEnters = λ b g. h .terminalEnters b g k;
 }
 
 pub meets-has : (P : Implementation → Type 0) (i : Implementation) → Meets i → P registerCalls → P i

@@ -1,4 +1,4 @@
--- Demand 1 of open, enter, strike and fit, proved of every implementation that meets their contracts.
+-- Demand 1 of open, enter, strike, fit and a terminal's enter, proved of every implementation that meets their contracts.
 --
 --   call-refused    ==  where a question of a call gets a no, it answers the number, and nothing changes
 --   accepted-asked  ==  a call's number is accepted exactly where every question of the call gets a yes
@@ -14,7 +14,7 @@ use lib.Dec.{eqb}
 use borrow.Author.Tests.{ne-eqb}
 use Rattle.permutations.proofs.BoolLaws.{and-yes}
 use Rattle.grids.specs.Order.{equal}
-use Rattle.grids.specs.Questions.{firstNo, question6, question7}
+use Rattle.grids.specs.Questions.{firstNo, question6, question7, question14, afterFirst}
 use Rattle.bounds.specs.Kept.{Obeyed, obeyed}
 use Rattle.bounds.specs.Allperm.{Allperm, allperm}
 use Rattle.bounds.specs.Prune.{boundsQuestions, question8, pruneQuestions, Pruned, pruned}
@@ -23,12 +23,13 @@ use Rattle.bounds.proofs.AllpermLaws.{allperm-decides}
 use Rattle.bounds.proofs.PruneLaws.{prune-pass, pruned-some, pruned-none}
 use Rattle.layout.specs.Layout.{Shape, Register, layout, decode, isRegister, laidOut}
 use Rattle.layout.proofs.RegisterLaws.{register-decides}
-use Rattle.machine.specs.Calls.{Outcome, refusal, answered, question5, question9, question10, gridQuestions, holds, openQuestions, enterQuestions, strikeQuestions, fitQuestions, enterInto, strikeFrom, fitPruned, enterRegister, strikeRegister, fitRegister, opened, entered, struck, fitted}
-use Rattle.machine.specs.CallLists.{Call, enter, strike, fit, Implementation, registerCalls, Meets, called, questionsOf, accepted}
+use Rattle.machine.specs.Calls.{Outcome, refusal, answered, question5, question9, question10, gridQuestions, holds, openQuestions, enterQuestions, strikeQuestions, fitQuestions, terminalEnterQuestions, enterInto, strikeFrom, fitPruned, enterRegister, strikeRegister, fitRegister, terminalEnterRegister, opened, entered, struck, fitted, terminalEntered}
+use Rattle.machine.specs.CallLists.{Call, enter, strike, fit, terminalEnter, Implementation, registerCalls, Meets, called, questionsOf, accepted}
 use Rattle.machine.specs.Demand1.{Demand1}
 use Rattle.machine.proofs.AskedLaws.{fit-pass}
 use Rattle.machine.proofs.RefusalLaws.{opened-refused, entered-refused, struck-refused, fitted-refused, refused-number, answered-held, held-unchanged, fit-unchanged}
 use Rattle.machine.proofs.CallLaws.{opened-length, entered-length, struck-length}
+use Rattle.machine.proofs.TerminalLaws.{terminal-entered-refused, terminal-held-unchanged, terminal-entered-length}
 use Rattle.machine.proofs.CallListLaws.{meets-has}
 
 pub call-refused : (b : List ℕ) (c : Call) (k : ℕ) → firstNo (questionsOf b c) ≡ suc k → called registerCalls b c ≡ refusal (suc k) b
@@ -36,14 +37,16 @@ unfolding called registerCalls questionsOf
 call-refused b (enter g) = entered-refused b g
 call-refused b (strike g) = struck-refused b g
 call-refused b (fit low high) = fitted-refused b low high
+call-refused b (terminalEnter g) = terminal-entered-refused b g
 
 -- ---- no question's number is accepted
 
 question-refused : (b : List ℕ) (c : Call) (k : ℕ) → firstNo (questionsOf b c) ≡ suc k → accepted (suc k) ≡ false
-unfolding questionsOf enterQuestions strikeQuestions fitQuestions gridQuestions boundsQuestions question5 question6 question7 question8 question9 question10 accepted
+unfolding questionsOf enterQuestions strikeQuestions fitQuestions terminalEnterQuestions afterFirst gridQuestions boundsQuestions question5 question6 question7 question8 question9 question10 question14 accepted
 question-refused b (enter g) = refused-number (questionsOf b (enter g)) (refl, (refl, (refl, (refl, tt))))
 question-refused b (strike g) = refused-number (questionsOf b (strike g)) (refl, (refl, (refl, (refl, tt))))
 question-refused b (fit low high) = refused-number (questionsOf b (fit low high)) (refl, (refl, (refl, (refl, tt))))
+question-refused b (terminalEnter g) = refused-number (questionsOf b (terminalEnter g)) (refl, (refl, (refl, (refl, (refl, tt)))))
 
 -- ---- what passes the questions is accepted
 
@@ -92,10 +95,11 @@ answered-accepted zero b o h f = h refl
 answered-accepted (suc k) b o h f = f k refl ∙ sym (ne-eqb (suc k) 0 (omega arith))
 
 pub accepted-asked : (b : List ℕ) (c : Call) → accepted (called registerCalls b c .number) ≡ eqb (firstNo (questionsOf b c)) 0
-unfolding called registerCalls entered struck fitted enterRegister strikeRegister fitRegister questionsOf strikeFrom
+unfolding called registerCalls entered struck fitted terminalEntered enterRegister strikeRegister fitRegister terminalEnterRegister questionsOf strikeFrom
 accepted-asked b (enter g) = answered-accepted _ b _ (λ e. into-accepted b (decode b) _) (question-refused b (enter g))
 accepted-asked b (strike g) = answered-accepted _ b _ (λ e. zero-accepted) (question-refused b (strike g))
 accepted-asked b (fit low high) = answered-accepted _ b _ (pruned-accepted b low high) (question-refused b (fit low high))
+accepted-asked b (terminalEnter g) = answered-accepted _ b _ (λ e. into-accepted b (decode b) _) (question-refused b (terminalEnter g))
 
 answered-zero : (k : ℕ) (b : List ℕ) (o : Outcome) → o .number ≡ 0 → eqb (answered k b o .number) 0 ≡ eqb k 0
 unfolding answered
@@ -113,6 +117,7 @@ unfolding called registerCalls struck strikeRegister strikeFrom
 held-kept b (enter g) e = held-unchanged b g e
 held-kept b (strike g) e = answered-held _ b _ (λ z. absurd (omega arith)) e
 held-kept b (fit low high) e = fit-unchanged b low high
+held-kept b (terminalEnter g) e = terminal-held-unchanged b g e
 
 fit-kept : (b low high : List ℕ) → called registerCalls b (fit low high) .bytes ≡ b
 unfolding called registerCalls
@@ -123,6 +128,7 @@ unfolding called registerCalls
 length-kept b (enter g) = entered-length b g
 length-kept b (strike g) = struck-length b g
 length-kept b (fit low high) = ap length (fit-unchanged b low high)
+length-kept b (terminalEnter g) = terminal-entered-length b g
 
 pub demand1 : (i : Implementation) → Meets i → Demand1 i
 unfolding registerCalls

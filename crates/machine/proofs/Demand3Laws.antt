@@ -32,13 +32,13 @@ use Rattle.bounds.proofs.AllpermLaws.{allperm-decides, least-allperm}
 use Rattle.bounds.proofs.PruneLaws.{none-in-bounds}
 use Rattle.layout.specs.Layout.{Shape, Register, gridSize, layout, layoutLength, count, decode, InLimits}
 use Rattle.machine.specs.Calls.{Outcome, answered, leastIn, holds, opened, fitted}
-use Rattle.machine.specs.CallLists.{Call, enter, strike, fit, Implementation, registerCalls, Meets, called, run, left, accepted}
+use Rattle.machine.specs.CallLists.{Call, enter, strike, fit, terminalEnter, Implementation, registerCalls, Meets, called, run, left, accepted}
 use Rattle.machine.specs.Machine.{sorted, shown, stepUnless, fitClasses, step, outcome, outcomes}
 use Rattle.machine.specs.Demand3.{live, ListsLive, AfterOpen, Demand3}
 use Rattle.layout.proofs.LayoutLaws.{count-layout}
 use Rattle.layout.proofs.RegisterLaws.{register-printable}
 use Rattle.machine.proofs.SortedLaws.{Grids, asc-ext, in-sorted, of-sorted, sorted-asc, length-sorted, holds-sorted}
-use Rattle.machine.proofs.MachineLaws.{Good, empty-good, registerOf, good-register, reads, self-least, enter-same, strike-same, fit-same, step-good, afterwards, afterwards-good}
+use Rattle.machine.proofs.MachineLaws.{Good, empty-good, registerOf, good-register, reads, self-least, enter-same, strike-same, fit-same, terminal-enter-same, step-good, afterwards, afterwards-good}
 use Rattle.machine.proofs.StepLaws.{step-answers}
 use Rattle.machine.proofs.LiveLaws.{bounds-refused, live-machine, lists-held}
 
@@ -49,6 +49,7 @@ unfolding called registerCalls step
 call-same s l g (enter a) = enter-same s l g a
 call-same s l g (strike a) = strike-same s l g a
 call-same s l g (fit low high) = fit-same s l g low high
+call-same s l g (terminalEnter a) = terminal-enter-same s l g a
 
 pub run-same : (s : Shape) (calls : List Call) (l : Grids) → Good s l → run registerCalls (shown s l) calls ≡ outcomes s l calls
 unfolding run outcomes outcome
@@ -70,6 +71,7 @@ step-not-5 s l = step-answers (λ k p. eqb k 5 ≡ false) s l (record {
   order-no = refl;
   full = refl;
   not-held = refl;
+  rows-no = refl;
   none = refl;
   done = λ r. refl;
   held = λ r. refl;

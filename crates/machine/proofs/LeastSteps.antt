@@ -2,7 +2,7 @@
 --
 --   answered-refusal              ==  a no
 --   answered-append               ==  questions asked in two groups
---   entered-asked, struck-asked   ==  enter and strike: the first group, then the least grid
+--   entered-asked, struck-asked, terminal-entered-asked  ==  enter, strike and a terminal's enter: the first group, then the least grid
 --   held-there                    ==  a grid is held exactly where it stands at its place
 --   entered-held, entered-full, entered-new  ==  entering a least grid: it stands at its place; it does not and the register is full; it is put in
 --   struck-none, struck-held      ==  striking it: it does not stand at its place; it is taken out
@@ -18,13 +18,13 @@ use lib.Dec.{T, ltb}
 use borrow.Author.Tests.{lt-ltb, le-ltb}
 use Rattle.permutations.proofs.BoolLaws.{yes-or-no}
 use Rattle.grids.specs.Order.{equal}
-use Rattle.grids.specs.Questions.{Question, firstNo, question6, question7}
+use Rattle.grids.specs.Questions.{Question, firstNo, question6, question7, question14, afterFirst}
 use Rattle.grids.proofs.OrderLaws.{equal-eq, eq-equal}
 use Rattle.grids.proofs.QuestionLaws.{Numbered, first-no-stays, first-no-next}
 use Rattle.layout.specs.Layout.{Register, layout, decode, Ascends}
-use Rattle.machine.specs.Calls.{Outcome, refusal, answered, question5, gridQuestions, question9, question10, holds, placeIn, insert, leastIn, enterInto, strikeFrom, enterQuestions, strikeQuestions, enterRegister, strikeRegister, entered, struck, placed}
+use Rattle.machine.specs.Calls.{Outcome, refusal, answered, question5, gridQuestions, question9, question10, holds, placeIn, insert, leastIn, enterInto, strikeFrom, enterQuestions, strikeQuestions, enterRegister, strikeRegister, entered, struck, terminalEnterQuestions, terminalEnterRegister, terminalEntered, placed}
 use Rattle.machine.specs.Places.{Lower}
-use Rattle.machine.specs.Valid.{asked, enteredLeast, struckLeast}
+use Rattle.machine.specs.Valid.{asked, terminalAsked, enteredLeast, struckLeast}
 use Rattle.machine.proofs.PlaceLaws.{place-lower, insert-lower, holds-lower, holds-not-end, holds-not-there, without-lower}
 
 pub answered-refusal : (k : ℕ) (b : List ℕ) (o : Outcome) → (k ≡ 0 → ⊥) → answered k b o ≡ refusal k b
@@ -43,6 +43,12 @@ answered-append l k b o h = go (ℕ-discrete (firstNo l) 0)
 pub entered-asked : (b g : List ℕ) → entered b g ≡ answered (asked b g) b (enteredLeast b (leastIn (decode b .shape) g))
 unfolding entered enterRegister enterQuestions gridQuestions asked enteredLeast question5 question6 question7
 entered-asked b g = answered-append (question5 b ∷ gridQuestions (decode b .shape) g) (question9 (decode b) (leastIn (decode b .shape) g) ∷ []) b _ (omega arith, (omega arith, (omega arith, tt)))
+
+pub terminal-entered-asked : (b g : List ℕ) → terminalEntered b g ≡ answered (terminalAsked b g) b (enteredLeast b (leastIn (decode b .shape) g))
+unfolding terminalEntered terminalEnterRegister terminalEnterQuestions enterQuestions afterFirst gridQuestions terminalAsked enteredLeast question5 question6 question7 question14
+terminal-entered-asked b g =
+    answered-append (question5 b ∷ question14 (decode b .shape .rows) ∷ gridQuestions (decode b .shape) g) (question9 (decode b) (leastIn (decode b .shape) g) ∷ []) b _
+    (omega arith, (omega arith, (omega arith, (omega arith, tt))))
 
 pub struck-asked : (b g : List ℕ) → struck b g ≡ answered (asked b g) b (struckLeast b (leastIn (decode b .shape) g))
 unfolding struck strikeRegister strikeQuestions gridQuestions asked struckLeast question5 question6 question7

@@ -8,6 +8,7 @@ pub mod ValidMoves
 pub mod ValidSteps
 pub mod FitSteps
 pub mod CallLaws
+pub mod TerminalLaws
 pub mod CallListLaws
 pub mod MachineLaws
 pub mod LiveLaws

@@ -25,13 +25,13 @@ use Rattle.grids.proofs.LeastLaws.{class-least, least-class}
 use Rattle.bounds.specs.Prune.{boundsQuestions, question8}
 use Rattle.layout.specs.Layout.{Shape, gridSize}
 use Rattle.machine.specs.Calls.{gridQuestions, leastIn, holds, without}
-use Rattle.machine.specs.CallLists.{Call, enter, strike, fit, Implementation, run, accepted}
+use Rattle.machine.specs.CallLists.{Call, enter, strike, fit, terminalEnter, Implementation, run, accepted}
 use Rattle.machine.specs.Machine.{Step, stepUnless, enterClass, strikeClass, fitClasses, step, outcome, outcomes}
 use Rattle.machine.specs.Demand3.{liveNext, liveAfter, live, ListsLive}
 use Rattle.machine.proofs.SortedLaws.{Grids, holds-in, in-holds}
 use Rattle.machine.proofs.AskedLaws.{grid-pass}
 use Rattle.machine.proofs.RefusalLaws.{refused-number}
-use Rattle.machine.proofs.MachineLaws.{Good, fit-keeps, afterwards}
+use Rattle.machine.proofs.MachineLaws.{Good, terminal-step-has, fit-keeps, afterwards}
 
 pub class-equal : (m n : ℕ) (a b : List ℕ) → length a ≡ m * n → length b ≡ m * n → oneClass m n a b ≡ equal (least m n a) (least m n b)
 class-equal m n a b e f =
@@ -113,10 +113,13 @@ module _ (s : Shape) (l : Grids) (a : List ℕ) (z : length a ≡ gridSize s) wh
   held-fit (suc k) low high = refl
 
   pub held-step : (c : Call) → holds (leastIn s a) (step s l c .next) ≡ liveNext (s .rows) (s .columns) a (holds (leastIn s a) l) c (step s l c .number)
-  unfolding step liveNext
+  unfolding step liveNext accepted
   held-step (enter g) = held-grid g true (enterClass s l (leastIn s g)) (held-enter s l (leastIn s a) (leastIn s g))
   held-step (strike g) = held-grid g false (strikeClass l (leastIn s g)) (held-strike l (leastIn s a) (leastIn s g))
   held-step (fit low high) = held-fit (firstNo (boundsQuestions (gridSize s) (s .top) low high)) low high
+  held-step (terminalEnter g) =
+      terminal-step-has s l g (enterClass s l (leastIn s g)) (λ t. holds (leastIn s a) (t .next) ≡ Chosen (accepted (t .number) && oneClass (s .rows) (s .columns) g a) true (holds (leastIn s a) l))
+      (held-grid g true (enterClass s l (leastIn s g)) (held-enter s l (leastIn s a) (leastIn s g))) refl
 
 -- ---- whole lists
 

@@ -5,11 +5,13 @@
 --   registerOf s l   ==  the register that the machine shows
 --   good-register, reads, laid  ==  it is one, the machine's bytes state it, and question 5 gets a yes
 --   self-least       ==  a grid of the set is the least of its class
---   enter-same, strike-same, fit-same  ==  each call on the machine's bytes answers and leaves what the machine does
+--   terminal-step-yes, terminal-step-no  ==  a terminal's step is enter's where question 14 gets a yes, and 14 where it gets a no
+--   terminal-step-has  ==  what holds of both holds of it
+--   enter-same, strike-same, fit-same, terminal-enter-same  ==  each call on the machine's bytes answers and leaves what the machine does
 --   fit-keeps        ==  a fit changes no set
 --   afterwards s l calls  ==  the set after the calls
 --   step-good, afterwards-good  ==  a good set stays good
-use mathlib.Core.Path.{_≡_, refl, sym, ap, _∙_}
+use mathlib.Core.Path.{_≡_, refl, sym, ap, subst, _∙_}
 use mathlib.Core.List.{List, [], _∷_, _++_, List·Memᴰ, List·Memᴰ·not-nil, List·Memᴰ·cases-cons}
 use mathlib.Core.Bool.{Bool, true, false, true≢false, not}
 use mathlib.Core.Logic.{_⊎_, inl, inr, _↔_}
@@ -19,13 +21,14 @@ use lib.ListN.{length}
 use lib.Dec.{ltb}
 use borrow.Author.Tests.{ltb-true}
 use Rattle.permutations.specs.Lists.{select}
+use Rattle.permutations.proofs.BoolLaws.{yes-or-no}
 use Rattle.permutations.proofs.SelectLaws.{of-select, select-ext, length-select}
 use Rattle.grids.specs.Order.{less, equal}
 use Rattle.grids.specs.Grids.{IsGrid}
 use Rattle.grids.specs.Least.{IsLeast}
-use Rattle.grids.specs.Questions.{Question, firstNo, question6, question7}
+use Rattle.grids.specs.Questions.{Question, firstNo, question6, question7, question14}
 use Rattle.grids.proofs.LeastLaws.{least-is, least-grid, least-least}
-use Rattle.grids.proofs.QuestionLaws.{firstNo-pass}
+use Rattle.grids.proofs.QuestionLaws.{firstNo-pass, firstNo-stop}
 use Rattle.bounds.specs.Bounds.{IsBounds, inBounds}
 use Rattle.bounds.specs.Kept.{Obeyed, obeyed, keptLow, keptHigh}
 use Rattle.bounds.specs.Allperm.{Allperm, allperm}
@@ -35,13 +38,14 @@ use Rattle.bounds.proofs.KeptLaws.{obeyed-decides}
 use Rattle.bounds.proofs.AllpermLaws.{allperm-decides}
 use Rattle.bounds.proofs.PruneLaws.{prune-pass, pruned-some, pruned-none, least-same-bounds}
 use Rattle.layout.specs.Layout.{Shape, Register, gridSize, layout, decode, InLimits, IsRegister, laidOut}
-use Rattle.machine.specs.Calls.{Outcome, answered, question5, question9, question10, gridQuestions, leastIn, holds, placeIn, without, enterInto, strikeFrom, enterQuestions, strikeQuestions, fitQuestions, enterRegister, strikeRegister, fitPruned, fitRegister, entered, struck, fitted}
-use Rattle.machine.specs.CallLists.{Call, enter, strike, fit}
+use Rattle.machine.specs.Calls.{Outcome, answered, question5, question9, question10, gridQuestions, leastIn, holds, placeIn, without, enterInto, strikeFrom, enterQuestions, strikeQuestions, fitQuestions, enterRegister, strikeRegister, fitPruned, fitRegister, entered, struck, fitted, terminalEntered}
+use Rattle.machine.specs.CallLists.{Call, enter, strike, fit, terminalEnter}
 use Rattle.machine.specs.Machine.{sorted, shown, Step, stepUnless, enterClass, strikeClass, fitClasses, step, outcome}
 use Rattle.machine.specs.Demand3.{Once}
 use Rattle.layout.proofs.LayoutLaws.{decode-layout}
 use Rattle.machine.proofs.AskedLaws.{grid-pass}
 use Rattle.layout.proofs.RegisterLaws.{register-printable, question5-layouts}
+use Rattle.machine.proofs.TerminalLaws.{terminal-entered, no-terminal-entered}
 use Rattle.machine.proofs.SortedLaws.{Grids, in-holds, of-sorted, sorted-asc, length-sorted, count-sorted, holds-sorted, select-once, sorted-select}
 
 -- ---- what holds of a set reached by calls
@@ -92,6 +96,26 @@ one-more true true true k = refl
 one-more true true false k = refl
 one-more true false t k = refl
 one-more false q t k = refl
+
+-- a terminal's step: that of enter, or 14
+module _ (s : Shape) (l : Grids) (g : List ℕ) (t : Step) where
+  abbrev terminalStep : Step
+  terminalStep = stepUnless (firstNo (question14 (s .rows) ∷ gridQuestions s g)) l t
+
+  pub terminal-step-yes : question14 (s .rows) .answer ≡ true → terminalStep ≡ stepUnless (firstNo (gridQuestions s g)) l t
+  terminal-step-yes e = ap (λ (k : ℕ). stepUnless k l t) (firstNo-pass (question14 (s .rows)) (gridQuestions s g) e)
+
+  pub terminal-step-no : question14 (s .rows) .answer ≡ false → terminalStep ≡ record { number = 14; place = 0; next = l }
+  unfolding stepUnless question14
+  terminal-step-no e = ap (λ (k : ℕ). stepUnless k l t) (firstNo-stop (question14 (s .rows)) (gridQuestions s g) e)
+
+  -- what holds of both holds of it
+  pub terminal-step-has : (P : Step → Type 0) → P (stepUnless (firstNo (gridQuestions s g)) l t) → P (record { number = 14; place = 0; next = l }) → P terminalStep
+  terminal-step-has P p q = go (yes-or-no (question14 (s .rows) .answer))
+    where
+      go : (question14 (s .rows) .answer ≡ true) ⊎ (question14 (s .rows) .answer ≡ false) → P terminalStep
+      go (inl e) = subst P (sym (terminal-step-yes e)) p
+      go (inr e) = subst P (sym (terminal-step-no e)) q
 
 -- ---- one call on the machine's bytes
 
@@ -204,6 +228,18 @@ module _ (s : Shape) (l : Grids) (g : Good s l) where
       ∙ ap (λ (k : ℕ). answered k (shown s l) (fitPruned (shown s l) (registerOf s l) (pruned (s .rows) (s .columns) (s .top) low high))) (question5-passes _)
       ∙ refused-or (firstNo (boundsQuestions (gridSize s) (s .top) low high)) _ s l (fitClasses s l low high) (λ z. fit-classes low high (bounds-pass (gridSize s) (s .top) low high .0 z))
 
+  pub terminal-enter-same : (a : List ℕ) → terminalEntered (shown s l) a ≡ outcome s (stepUnless (firstNo (question14 (s .rows) ∷ gridQuestions s a)) l (enterClass s l (leastIn s a)))
+  unfolding registerOf outcome
+  terminal-enter-same a = go (yes-or-no (question14 (s .rows) .answer))
+    where
+      rows : decode (shown s l) .shape .rows ≡ s .rows
+      rows = ap (λ (x : Register). x .shape .rows) (reads s l g)
+
+      go : (question14 (s .rows) .answer ≡ true) ⊎ (question14 (s .rows) .answer ≡ false) →
+          terminalEntered (shown s l) a ≡ outcome s (stepUnless (firstNo (question14 (s .rows) ∷ gridQuestions s a)) l (enterClass s l (leastIn s a)))
+      go (inl e) = terminal-entered (shown s l) a (rw rows e) ∙ enter-same a ∙ ap (outcome s) (sym (terminal-step-yes s l a _ e))
+      go (inr e) = no-terminal-entered (shown s l) a (laid s l g) (rw rows e) ∙ ap (outcome s) (sym (terminal-step-no s l a _ e))
+
 -- ---- a good set stays good
 
 pub fit-keeps : (s : Shape) (l : Grids) (low high : List ℕ) → fitClasses s l low high .next ≡ l
@@ -272,6 +308,7 @@ module _ (s : Shape) (l : Grids) (g : Good s l) where
   step-good (enter a) = unless-good (firstNo (gridQuestions s a)) _ (enter-good a)
   step-good (strike a) = unless-good (firstNo (gridQuestions s a)) _ (λ e. strike-good (leastIn s a))
   step-good (fit low high) = unless-good (firstNo (boundsQuestions (gridSize s) (s .top) low high)) _ (λ e. rw (fit-keeps s l low high) g)
+  step-good (terminalEnter a) = terminal-step-has s l a _ (λ t. Good s (t .next)) (unless-good (firstNo (gridQuestions s a)) _ (enter-good a)) g
 
 -- the set after the calls
 unfoldable pub afterwards : Shape → Grids → List Call → Grids

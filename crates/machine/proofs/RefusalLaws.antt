@@ -1,5 +1,6 @@
 -- Where a question of a call gets a no, the call answers its number with place or count 0, and changes no byte; nor do 101, 102 and any fit.
 --
+--   answered-refused  ==  the refusal of a first no
 --   opened-refused, entered-refused, struck-refused, fitted-refused  ==  where a question of the call gets a no
 --   Refusal k, refused-number  ==  k is 0 or not accepted; so is the first no where it is each question's number
 --   answered-held, held-unchanged  ==  an enter that answers 101 changes nothing
@@ -23,7 +24,7 @@ Refusal (suc k) = accepted (suc k) ≡ false
 pub refused-number : (l : List Question) → EachNumber Refusal l → (k : ℕ) → firstNo l ≡ suc k → accepted (suc k) ≡ false
 refused-number l h k e = rw e at (firstNo-has Refusal l tt h)
 
-answered-refused : (j k : ℕ) (b : List ℕ) (o : Outcome) → j ≡ suc k → answered j b o ≡ refusal (suc k) b
+pub answered-refused : (j k : ℕ) (b : List ℕ) (o : Outcome) → j ≡ suc k → answered j b o ≡ refusal (suc k) b
 unfolding answered
 answered-refused j k b o e = rw e
 

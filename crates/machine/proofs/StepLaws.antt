@@ -3,14 +3,14 @@
 --   Answerable P l  ==  P holds of each number, with its place or count, that a call can be answered by where the set is l
 --   step-answers    ==  so it holds of a step's
 use mathlib.Core.Path.{_≡_, refl}
-use mathlib.Core.List.{List}
+use mathlib.Core.List.{List, _∷_}
 use mathlib.Core.Bool.{Bool, true, false}
 use Prim.Native.Nat.{ℕ, zero, suc}
 use native.Mathlib.Omega.{arith}
 use lib.ListN.{length}
 use lib.Dec.{ltb}
 use Rattle.permutations.specs.Lists.{select}
-use Rattle.grids.specs.Questions.{firstNo, question6, question7}
+use Rattle.grids.specs.Questions.{firstNo, question6, question7, question14}
 use Rattle.grids.proofs.QuestionLaws.{firstNo-has}
 use Rattle.bounds.specs.Bounds.{inBounds}
 use Rattle.bounds.specs.Kept.{obeyed}
@@ -18,7 +18,7 @@ use Rattle.bounds.specs.Allperm.{allperm}
 use Rattle.bounds.specs.Prune.{boundsQuestions, question8}
 use Rattle.layout.specs.Layout.{Shape, gridSize}
 use Rattle.machine.specs.Calls.{gridQuestions, leastIn, holds, placeIn}
-use Rattle.machine.specs.CallLists.{Call, enter, strike, fit}
+use Rattle.machine.specs.CallLists.{Call, enter, strike, fit, terminalEnter}
 use Rattle.machine.specs.Machine.{Step, stepUnless, enterClass, strikeClass, fitClasses, step}
 use Rattle.machine.proofs.SortedLaws.{Grids}
 
@@ -28,6 +28,7 @@ pub record Answerable (P : ℕ → ℕ → Type 0) (l : Grids) : Type 0 where
   pub order-no : P 8 0
   pub full : P 9 0
   pub not-held : P 10 0
+  pub rows-no : P 14 0
   pub none : P 102 0
   pub done : (r : List ℕ) → P 0 (placeIn l r)
   pub held : (r : List ℕ) → P 101 (placeIn l r)
@@ -49,6 +50,10 @@ module _ (P : ℕ → ℕ → Type 0) (s : Shape) (l : Grids) (a : Answerable P 
   grid-refuses : (g : List ℕ) → Refuses (firstNo (gridQuestions s g))
   unfolding gridQuestions question6 question7
   grid-refuses g = firstNo-has Refuses (gridQuestions s g) (λ n. absurd (n refl)) (λ n. a .length-no, (λ n. a .cells-no, tt))
+
+  terminal-refuses : (g : List ℕ) → Refuses (firstNo (question14 (s .rows) ∷ gridQuestions s g))
+  unfolding gridQuestions question6 question7 question14
+  terminal-refuses g = firstNo-has Refuses (question14 (s .rows) ∷ gridQuestions s g) (λ n. absurd (n refl)) (λ n. a .rows-no, (λ n. a .length-no, (λ n. a .cells-no, tt)))
 
   bounds-refuse : (low high : List ℕ) → Refuses (firstNo (boundsQuestions (gridSize s) (s .top) low high))
   unfolding boundsQuestions question6 question7 question8
@@ -85,3 +90,4 @@ module _ (P : ℕ → ℕ → Type 0) (s : Shape) (l : Grids) (a : Answerable P 
   step-answers (enter g) = unless-has _ _ (grid-refuses g) (enter-has (leastIn s g))
   step-answers (strike g) = unless-has _ _ (grid-refuses g) (strike-has (leastIn s g))
   step-answers (fit low high) = unless-has _ _ (bounds-refuse low high) (fit-has low high)
+  step-answers (terminalEnter g) = unless-has _ _ (terminal-refuses g) (enter-has (leastIn s g))

@@ -1,7 +1,7 @@
--- Lists of calls on a register, and what an implementation of the four calls answers to them.
+-- Lists of calls on a register, and what an implementation of the calls answers to them. A list may mix the calls of both sets.
 --
---   Call                 ==  enter of a grid, strike of a grid, fit of bounds
---   Implementation       ==  open, enter, strike and fit, as functions of the numbers and slices that they are lent
+--   Call                 ==  enter of a grid, strike of a grid, fit of bounds, a terminal's enter of a grid
+--   Implementation       ==  open, enter, strike, fit and a terminal's enter, as functions of the numbers and slices that they are lent
 --   registerCalls        ==  the calls as specs/Calls has them
 --   Meets i              ==  the calls of i answer and leave what specs/Calls says, on all arguments
 --   called i b c         ==  one call on the register's bytes
@@ -9,39 +9,44 @@
 --   left i b calls       ==  the bytes that the calls leave
 --   questionsOf b c      ==  the questions of a call on the register's bytes, in order
 --   accepted k           ==  the number k is no refusal
+--   EnterAlike i         ==  on a register of up to 5 rows both enters answer alike and leave equal bytes
 use mathlib.Core.Path.{_≡_}
 use mathlib.Core.List.{List, [], _∷_}
 use mathlib.Core.Bool.{Bool, _||_}
-use Prim.Native.Nat.{ℕ}
+use Prim.Native.Nat.{ℕ, _≤_}
 use lib.Dec.{eqb}
 use Rattle.grids.specs.Questions.{Question}
-use Rattle.layout.specs.Layout.{Shape, decode}
-use Rattle.machine.specs.Calls.{Outcome, leastIn, enterQuestions, strikeQuestions, fitQuestions, opened, entered, struck, fitted}
+use Rattle.layout.specs.Layout.{Shape, decodeShape, decode}
+use Rattle.machine.specs.Calls.{Outcome, leastIn, enterQuestions, strikeQuestions, fitQuestions, terminalEnterQuestions, opened, entered, struck, fitted, terminalEntered}
 
 pub data Call : Type 0 where
   enter : List ℕ → Call
   strike : List ℕ → Call
   fit : List ℕ → List ℕ → Call
+  terminalEnter : List ℕ → Call
 
 pub record Implementation : Type 0 where
   pub opens : Shape → List ℕ → Outcome
   pub enters : List ℕ → List ℕ → Outcome
   pub strikes : List ℕ → List ℕ → Outcome
   pub fits : List ℕ → List ℕ → List ℕ → Outcome
+  pub terminalEnters : List ℕ → List ℕ → Outcome
 
 unfoldable pub registerCalls : Implementation
-registerCalls = record { opens = opened; enters = entered; strikes = struck; fits = fitted }
+registerCalls = record { opens = opened; enters = entered; strikes = struck; fits = fitted; terminalEnters = terminalEntered }
 
 pub record Meets (i : Implementation) : Type 0 where
   pub opens : (s : Shape) (b : List ℕ) → i .opens s b ≡ opened s b
   pub enters : (b g : List ℕ) → i .enters b g ≡ entered b g
   pub strikes : (b g : List ℕ) → i .strikes b g ≡ struck b g
   pub fits : (b low high : List ℕ) → i .fits b low high ≡ fitted b low high
+  pub terminalEnters : (b g : List ℕ) → i .terminalEnters b g ≡ terminalEntered b g
 
 unfoldable pub called : Implementation → List ℕ → Call → Outcome
 called i b (enter g) = i .enters b g
 called i b (strike g) = i .strikes b g
 called i b (fit low high) = i .fits b low high
+called i b (terminalEnter g) = i .terminalEnters b g
 
 unfoldable pub run : Implementation → List ℕ → List Call → List Outcome
 run i b [] = []
@@ -55,6 +60,10 @@ unfoldable pub questionsOf : List ℕ → Call → List Question
 questionsOf b (enter g) = enterQuestions b (decode b) g (leastIn (decode b .shape) g)
 questionsOf b (strike g) = strikeQuestions b (decode b) g (leastIn (decode b .shape) g)
 questionsOf b (fit low high) = fitQuestions b (decode b) low high
+questionsOf b (terminalEnter g) = terminalEnterQuestions b (decode b) g (leastIn (decode b .shape) g)
 
 unfoldable pub accepted : ℕ → Bool
 accepted k = eqb k 0 || (eqb k 101 || eqb k 102)
+
+unfoldable pub EnterAlike : Implementation → Type 0
+EnterAlike i = (b g : List ℕ) → decodeShape b .rows ≤ 5 → i .terminalEnters b g ≡ i .enters b g

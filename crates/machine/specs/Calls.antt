@@ -1,4 +1,4 @@
--- What open, enter, strike and fit answer and leave in the register's bytes, on all arguments.
+-- What open, enter, strike, fit and a terminal's enter answer and leave in the register's bytes, on all arguments.
 --
 --   Outcome              ==  the number, the place or count, and the register's bytes afterwards
 --   placed number place bytes  ==  such an outcome
@@ -8,6 +8,7 @@
 --   question4, question5, question9, question10  ==  document 01's questions
 --   gridQuestions s g    ==  questions 6 and 7 of a grid
 --   openQuestions, enterQuestions, strikeQuestions, fitQuestions  ==  the questions that each call asks, in order
+--   terminalEnterQuestions  ==  those of a terminal's enter: enter's, with 14 asked directly after question 5
 --   leastIn s g          ==  the least grid of the class of g, a grid of the shape
 --   holds r l            ==  the grid r stands among the grids of l
 --   placeIn l r          ==  1 plus the number of grids of l that come before r
@@ -15,11 +16,12 @@
 --   without r l          ==  the grids of l other than r
 --   enterInto b x r, strikeFrom x r  ==  the grid r, least of its class, put into the register x with the bytes b, and taken out of it
 --   fitPruned b x p      ==  after prune left p: its number, and with 0 the count of the entries in the pruned bounds
---   enterRegister, strikeRegister, fitRegister  ==  the calls on bytes and the register that they state
+--   enterRegister, strikeRegister, fitRegister, terminalEnterRegister  ==  the calls on bytes and the register that they state
 --   opened s b           ==  open with the numbers of s on the slice b
 --   entered b g          ==  enter of the grid g into the register b
 --   struck b g           ==  strike of the grid g from it
 --   fitted b low high    ==  fit of the bounds low, high
+--   terminalEntered b g  ==  a terminal's enter of the grid g
 use mathlib.Core.List.{List, [], _∷_, _++_}
 use mathlib.Core.Bool.{Bool, true, false, not, _||_}
 use Prim.Native.Nat.{ℕ, zero, suc}
@@ -28,7 +30,7 @@ use lib.Dec.{ltb}
 use Rattle.permutations.specs.Lists.{select, some}
 use Rattle.grids.specs.Order.{leq, less, equal}
 use Rattle.grids.specs.Least.{least}
-use Rattle.grids.specs.Questions.{Question, firstNo, inRange, question1, question2, question3, question6, question7}
+use Rattle.grids.specs.Questions.{Question, firstNo, inRange, question1, question2, question3, question6, question7, question14, afterFirst}
 use Rattle.bounds.specs.Bounds.{inBounds}
 use Rattle.bounds.specs.Prune.{boundsQuestions, Pruned, pruned}
 use Rattle.layout.specs.Layout.{Shape, Register, gridSize, layout, layoutLength, decode, laidOut}
@@ -139,3 +141,14 @@ fitRegister b x low high =
 
 unfoldable pub fitted : List ℕ → List ℕ → List ℕ → Outcome
 fitted b low high = fitRegister b (decode b) low high
+
+-- ---- at a terminal
+
+unfoldable pub terminalEnterQuestions : List ℕ → Register → List ℕ → List ℕ → List Question
+terminalEnterQuestions b x g r = afterFirst (question14 (x .shape .rows)) (enterQuestions b x g r)
+
+unfoldable pub terminalEnterRegister : List ℕ → Register → List ℕ → List ℕ → Outcome
+terminalEnterRegister b x g r = answered (firstNo (terminalEnterQuestions b x g r)) b (enterInto b x r)
+
+unfoldable pub terminalEntered : List ℕ → List ℕ → Outcome
+terminalEntered b g = terminalEnterRegister b (decode b) g (leastIn (decode b .shape) g)

@@ -1,4 +1,4 @@
--- Demand 1 of open, enter, strike and fit: a call that fails a check returns the number of the first one failed, place or count 0, and changes
+-- Demand 1 of open, enter, strike, fit and a terminal's enter: a call that fails a check returns the number of the first one failed, place or count 0, and changes
 -- no byte of the register. The other slices have no place in an outcome: they are lent to be read.
 --
 --   Demand1 i  ==  the demand, of an implementation of the calls

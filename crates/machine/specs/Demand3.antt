@@ -1,5 +1,5 @@
--- Demand 3: one statement over whole lists of enter, strike and fit calls after an open, refused ones included, about an implementation of the
--- four calls.
+-- Demand 3: one statement over whole lists of enter, strike, fit and a terminal's enter after an open, refused ones included, about an
+-- implementation of the calls.
 --
 --   liveNext m n a was c k  ==  whether the class of a is live after the call c with the number k, where `was` says whether it was before
 --   liveAfter m n a was calls os  ==  the same after the calls with the outcomes os
@@ -21,13 +21,14 @@ use Rattle.grids.specs.Least.{least}
 use Rattle.bounds.specs.Bounds.{inBounds}
 use Rattle.layout.specs.Layout.{Shape, gridSize, layoutLength, count, InLimits}
 use Rattle.machine.specs.Calls.{Outcome}
-use Rattle.machine.specs.CallLists.{Call, enter, strike, fit, Implementation, run, left, accepted}
+use Rattle.machine.specs.CallLists.{Call, enter, strike, fit, terminalEnter, Implementation, run, left, accepted}
 use Rattle.machine.specs.Machine.{shown, outcomes}
 
 unfoldable pub liveNext : ℕ → ℕ → List ℕ → Bool → Call → ℕ → Bool
 liveNext m n a was (enter g) k = elim (accepted k && oneClass m n g a) [ true ↦ true | false ↦ was ]
 liveNext m n a was (strike g) k = elim (accepted k && oneClass m n g a) [ true ↦ false | false ↦ was ]
 liveNext m n a was (fit low high) k = was
+liveNext m n a was (terminalEnter g) k = elim (accepted k && oneClass m n g a) [ true ↦ true | false ↦ was ]
 
 unfoldable pub liveAfter : ℕ → ℕ → List ℕ → Bool → List Call → List Outcome → Bool
 liveAfter m n a was [] os = was

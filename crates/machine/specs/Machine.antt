@@ -8,7 +8,7 @@
 --   enterClass s l r      ==  enter of the class of the least grid r: held, 101; else capacity classes held, 9; else it is added
 --   strikeClass l r       ==  strike of it: held, it is removed; else 10
 --   fitClasses s l low high  ==  fit: no grid in the bounds has allperm, 102; else the classes whose least grid lies in the bounds as sent
---   step s l c            ==  one call
+--   step s l c            ==  one call; a terminal's enter is an enter with question 14 asked first
 --   outcome s t           ==  a step's answer, and the bytes that the machine then shows
 --   outcomes s l calls    ==  what the machine answers to each call and the bytes that it then shows
 use mathlib.Core.List.{List, [], _∷_}
@@ -17,14 +17,14 @@ use Prim.Native.Nat.{ℕ, zero, suc}
 use lib.ListN.{length}
 use lib.Dec.{ltb}
 use Rattle.permutations.specs.Lists.{select}
-use Rattle.grids.specs.Questions.{firstNo}
+use Rattle.grids.specs.Questions.{firstNo, question14}
 use Rattle.bounds.specs.Bounds.{inBounds}
 use Rattle.bounds.specs.Kept.{obeyed}
 use Rattle.bounds.specs.Allperm.{allperm}
 use Rattle.bounds.specs.Prune.{boundsQuestions}
 use Rattle.layout.specs.Layout.{Shape, gridSize, layout}
 use Rattle.machine.specs.Calls.{Outcome, gridQuestions, leastIn, holds, placeIn, insert, without}
-use Rattle.machine.specs.CallLists.{Call, enter, strike, fit}
+use Rattle.machine.specs.CallLists.{Call, enter, strike, fit, terminalEnter}
 
 unfoldable pub sorted : List (List ℕ) → List (List ℕ)
 sorted [] = []
@@ -70,6 +70,7 @@ unfoldable pub step : Shape → List (List ℕ) → Call → Step
 step s l (enter g) = stepUnless (firstNo (gridQuestions s g)) l (enterClass s l (leastIn s g))
 step s l (strike g) = stepUnless (firstNo (gridQuestions s g)) l (strikeClass l (leastIn s g))
 step s l (fit low high) = stepUnless (firstNo (boundsQuestions (gridSize s) (s .top) low high)) l (fitClasses s l low high)
+step s l (terminalEnter g) = stepUnless (firstNo (question14 (s .rows) ∷ gridQuestions s g)) l (enterClass s l (leastIn s g))
 
 unfoldable pub outcome : Shape → Step → Outcome
 outcome s t = record { number = t .number; place = t .place; bytes = shown s (t .next) }

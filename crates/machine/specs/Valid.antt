@@ -5,6 +5,7 @@
 --   openNo s length             ==  the first no of open's questions, of a slice of that length
 --   PrunesCopies m n top low high number lows highs  ==  the number and the bounds are those that prune leaves of low and high
 --   asked b g                   ==  the first no of questions 5, 6 and 7 of enter and strike
+--   terminalAsked b g           ==  the first no of questions 5, 14, 6 and 7 of a terminal's enter
 --   enteredLeast b r            ==  the outcome of entering the grid r, least of its class, into the register b
 --   struckLeast b r             ==  the outcome of striking it
 use mathlib.Core.Path.{_≡_}
@@ -12,7 +13,7 @@ use mathlib.Core.List.{List, [], _∷_}
 use mathlib.Core.Bool.{true}
 use Prim.Native.Nat.{ℕ}
 use lib.Dec.{eqb}
-use Rattle.grids.specs.Questions.{firstNo, question1, question2, question3}
+use Rattle.grids.specs.Questions.{firstNo, question1, question2, question3, question14, afterFirst}
 use Rattle.bounds.specs.Prune.{pruned}
 use Rattle.layout.specs.Layout.{Shape, gridSize, layoutLength, count, decodeShape, decode, laidOut}
 use Rattle.machine.specs.Calls.{Outcome, answered, question4, question5, gridQuestions, question9, question10, enterInto, strikeFrom}
@@ -31,6 +32,9 @@ pub record Valid (size n : ℕ) (b : List ℕ) : Type 0 where
 
 unfoldable pub asked : List ℕ → List ℕ → ℕ
 asked b g = firstNo (question5 b ∷ gridQuestions (decode b .shape) g)
+
+unfoldable pub terminalAsked : List ℕ → List ℕ → ℕ
+terminalAsked b g = firstNo (afterFirst (question14 (decode b .shape .rows)) (question5 b ∷ gridQuestions (decode b .shape) g))
 
 unfoldable pub enteredLeast : List ℕ → List ℕ → Outcome
 enteredLeast b r = answered (firstNo (question9 (decode b) r ∷ [])) b (enterInto b (decode b) r)

@@ -1,9 +1,11 @@
-// Prints the orders of marked plan M1, their inverses and compositions, and what is made of orders that are none.
+// Prints the orders of marked plan M1 and an order of a terminal's rows, their inverses and compositions, and what is made of orders
+// that are none.
 use libc::STDOUT_FILENO;
 use permutations::columns::ColumnNumber;
 use permutations::columns::ColumnPermutation;
 use permutations::rows::RowNumber;
 use permutations::rows::RowPermutation;
+use permutations::terminal_rows::TerminalRowPermutation;
 
 // Prints a line: a label, and the numbers after it.
 fn print_numbers(label: &[u8], numbers: &[u8]) {
@@ -22,6 +24,11 @@ fn print_rows(label: &[u8], p: RowPermutation) {
     print_numbers(label, &numbers);
 }
 
+fn print_terminal_rows(label: &[u8], p: TerminalRowPermutation) {
+    let numbers = p.bytes();
+    print_numbers(label, &numbers);
+}
+
 fn print_columns(label: &[u8], q: ColumnPermutation) {
     let numbers = q.bytes();
     print_numbers(label, &numbers);
@@ -31,6 +38,11 @@ fn rows(a: u8, b: u8, size: usize) -> RowPermutation {
     RowPermutation::identity(size)
         .with(0, RowNumber(a))
         .with(1, RowNumber(b))
+}
+
+// Three rows of a terminal, in an order of this size.
+fn terminal_rows(a: u8, b: u8, c: u8, size: usize) -> TerminalRowPermutation {
+    TerminalRowPermutation::from_rows(rows(a, b, size).with(2, RowNumber(c)))
 }
 
 fn columns(a: u8, b: u8, c: u8, size: usize) -> ColumnPermutation {
@@ -56,4 +68,33 @@ fn main() {
     print_columns(b"Q, then 1 0 2           ", q.composed(columns(1, 0, 2, 3)));
     print_columns(b"1 0 2, then Q           ", columns(1, 0, 2, 3).composed(q));
     print_columns(b"size 17                 ", columns(2, 0, 1, 17).inverse());
+    let t = terminal_rows(2, 0, 1, 3);
+    print_terminal_rows(b"T, at a terminal        ", t);
+    print_terminal_rows(b"T inverse               ", t.inverse());
+    print_terminal_rows(b"T followed by T         ", t.composed(t));
+    print_terminal_rows(b"T followed by T inverse ", t.composed(t.inverse()));
+    print_terminal_rows(
+        b"T, then 1 0 2           ",
+        t.composed(terminal_rows(1, 0, 2, 3)),
+    );
+    print_terminal_rows(
+        b"sizes that differ       ",
+        t.composed(terminal_rows(2, 0, 1, 4)),
+    );
+    print_terminal_rows(
+        b"a row too large, inverse",
+        terminal_rows(3, 0, 1, 3).inverse(),
+    );
+    print_terminal_rows(
+        b"size 5, inverse         ",
+        terminal_rows(2, 0, 1, 5).inverse(),
+    );
+    print_terminal_rows(
+        b"size 6                  ",
+        terminal_rows(2, 0, 1, 6).inverse(),
+    );
+    print_terminal_rows(
+        b"starting                ",
+        TerminalRowPermutation::identity(5),
+    );
 }

@@ -6,6 +6,7 @@
 --   followed-is, reversed-is       ==  the composition and the inverse, in the first `width` positions
 --   own-identity, own-composed, own-inverse  ==  the identity there, and where the composition or the inverse is the identity
 --   composed-of, inverse-of        ==  the composition and the inverse, with the first positions by their names
+--   take-narrower                  ==  fewer of the first positions, by their names
 use mathlib.Core.Path.{_≡_, sym, ap, _∙_}
 use mathlib.Core.List.{List}
 use mathlib.Core.Bool.{true, false}
@@ -130,3 +131,8 @@ composed-of width n k a b p r c e f g = rw (← e, ← f) g
 
 pub inverse-of : (width n : ℕ) (a p c : List ℕ) → a ≡ p → c ≡ inversePadded width n a → c ≡ inversePadded width n p
 inverse-of width n a p c e g = rw (← e) g
+
+-- ---- at a narrower width
+
+pub take-narrower : (width w : ℕ) (a p : List ℕ) → width ≤ w → take w a ≡ p → take width a ≡ take width p
+take-narrower width w a p h e = sym (take-take width w a h) ∙ ap (take width) e

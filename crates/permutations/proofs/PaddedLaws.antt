@@ -1,4 +1,4 @@
--- Permutations as the code holds them, over the width: 8 for rows, 16 for columns.
+-- Permutations as the code holds them, over the width: 8 for rows, 5 for a terminal's, 16 for columns.
 --
 --   length-padded, padded-below, padded-from  ==  length and entries of a padded list
 --   padded-is                      ==  when a list is a padded list

@@ -1,5 +1,5 @@
 -- Permutations as the code holds them: an array of `width` positions and a size. Only the first `size` positions are looked at.
--- `width` is 8 for rows and 16 for columns.
+-- `width` is 8 for rows, 5 for a terminal's rows and 16 for columns.
 --
 --   padded width n p              ==  p's first n entries; the positions from n on hold their own number
 --   IsPadded width n p            ==  p's first n entries are a permutation of size n, and the positions from n on hold their own number

@@ -105,7 +105,7 @@ impl RowPermutation {
     }
 
     // The numbers in the positions, and past them their own.
-    fn numbers(self) -> [u8; 16]
+    pub fn numbers(self) -> [u8; 16]
         ensures { λ r. ⌜ take 8 r ≡ rowNumbers self ⌝ }
     {
         let at = self.at;

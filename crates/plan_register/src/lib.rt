@@ -3,20 +3,25 @@ use bounds::prune;
 use bounds::prune::Counted;
 use canonical::answers::Answer;
 use canonical::answers::Match;
+use canonical::answers::TerminalAnswer;
+use canonical::answers::TerminalMatch;
 use canonical::represent;
 use canonical::same;
+use canonical::terminal_represent;
+use canonical::terminal_same;
 use register::answers::Placed;
 use register::entering;
 use register::fitting;
 use register::opening;
 use register::striking;
+use register::terminal_entering;
 ghost use mathlib.Core.Path.{_≡_};
-ghost use Rattle.canonical.specs.Represent.{Represented};
-ghost use Rattle.canonical.specs.Same.{Compared};
+ghost use Rattle.canonical.specs.Represent.{Represented, TerminalRepresented};
+ghost use Rattle.canonical.specs.Same.{Compared, TerminalCompared};
 ghost use Rattle.bounds.specs.Prune.{prunedTo};
 ghost use Rattle.bounds.specs.Demand2.{Prunes};
-ghost use Rattle.machine.specs.Calls.{opened, entered, struck, fitted, placed, shape};
-ghost use Rattle.plan_register.specs.Exported.{Exported, ExportedMatch};
+ghost use Rattle.machine.specs.Calls.{opened, entered, struck, fitted, terminalEntered, placed, shape};
+ghost use Rattle.plan_register.specs.Exported.{Exported, ExportedMatch, TerminalExported, TerminalExportedMatch};
 
 // The number, the row order and the column order.
 #[repr(C)]
@@ -51,6 +56,44 @@ fn exported_match(answer: Match) -> Matched
     ensures { λ r. ⌜ ExportedMatch answer r ⌝ }
 {
     Matched {
+        number: answer.number,
+        agreed: answer.agreed,
+        rows: answer.rows.bytes(),
+        columns: answer.columns.bytes(),
+    }
+}
+
+// What a terminal's represent returns.
+#[repr(C)]
+pub struct TerminalArranged {
+    pub number: u32,
+    pub rows: [u8; 5],
+    pub columns: [u8; 16],
+}
+
+fn terminal_exported(answer: TerminalAnswer) -> TerminalArranged
+    ensures { λ r. ⌜ TerminalExported answer r ⌝ }
+{
+    TerminalArranged {
+        number: answer.number,
+        rows: answer.rows.bytes(),
+        columns: answer.columns.bytes(),
+    }
+}
+
+// What a terminal's same returns.
+#[repr(C)]
+pub struct TerminalMatched {
+    pub number: u32,
+    pub agreed: u32,
+    pub rows: [u8; 5],
+    pub columns: [u8; 16],
+}
+
+fn terminal_exported_match(answer: TerminalMatch) -> TerminalMatched
+    ensures { λ r. ⌜ TerminalExportedMatch answer r ⌝ }
+{
+    TerminalMatched {
         number: answer.number,
         agreed: answer.agreed,
         rows: answer.rows.bytes(),
@@ -123,4 +166,37 @@ pub extern "C" fn plan_register_fit(register: &[u8], low: &[u8], high: &[u8]) ->
     ensures { λ r. ⌜ placed (r .number) (r .count) (now (register .entry)) ≡ fitted (now (register .entry)) (now (low .entry)) (now (high .entry)) ⌝ }
 {
     fitting::fit(register, low, high)
+}
+
+#[no_mangle]
+pub extern "C" fn plan_register_terminal_represent(
+    m: usize,
+    n: usize,
+    top: usize,
+    grid: &[u8],
+    out: &mut [u8],
+) -> TerminalArranged
+    ensures { λ r. ⌜ TerminalRepresented m n top (now (grid .entry)) (now (out .entry)) (r .number) (r .rows) (r .columns) (now (out .exit)) ⌝ }
+{
+    terminal_exported(terminal_represent::represent(m, n, top, grid, out))
+}
+
+#[no_mangle]
+pub extern "C" fn plan_register_terminal_same(
+    m: usize,
+    n: usize,
+    top: usize,
+    a: &[u8],
+    b: &[u8],
+) -> TerminalMatched
+    ensures { λ r. ⌜ TerminalCompared m n top (now (a .entry)) (now (b .entry)) (r .number) (r .agreed) (r .rows) (r .columns) ⌝ }
+{
+    terminal_exported_match(terminal_same::same(m, n, top, a, b))
+}
+
+#[no_mangle]
+pub extern "C" fn plan_register_terminal_enter(register: &mut [u8], grid: &[u8]) -> Placed
+    ensures { λ r. ⌜ placed (r .number) (r .place) (now (register .exit)) ≡ terminalEntered (now (register .entry)) (now (grid .entry)) ⌝ }
+{
+    terminal_entering::enter(register, grid)
 }

@@ -59,7 +59,7 @@ prints-demand3 p h = record { refuses = λ input k e. h input ∙ start-refused 
 -- the calls as specs/Calls has them meet demand 3
 own : Demand3 registerCalls
 unfolding registerCalls
-own = demand3 registerCalls (record { opens = λ s b. refl; enters = λ b g. refl; strikes = λ b g. refl; fits = λ b low high. refl })
+own = demand3 registerCalls (record { opens = λ s b. refl; enters = λ b g. refl; strikes = λ b g. refl; fits = λ b low high. refl; terminalEnters = λ b g. refl })
 
 pub demand3-prints : (p : Printing) → PrintsDemand3 p → Prints p
 unfolding Prints

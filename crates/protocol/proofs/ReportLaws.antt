@@ -89,6 +89,7 @@ module _ (s : Shape) (l : List (List ℕ)) (g : Good s l) where
     order-no = (omega arith, omega arith);
     full = (omega arith, omega arith);
     not-held = (omega arith, omega arith);
+    rows-no = (omega arith, omega arith);
     none = (omega arith, omega arith);
     done = λ r. (omega arith, place-few r);
     held = λ r. (omega arith, place-few r);

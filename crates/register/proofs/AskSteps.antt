@@ -1,17 +1,21 @@
--- Questions 5, 6 and 7, from what the code finds to what is asked.
+-- Questions 5, 6 and 7, and a terminal's 5, 14, 6 and 7, from what the code finds to what is asked.
 --
 --   laid-yes          ==  question 5 got a yes
 --   laid-head         ==  a register is longer than line 1
 --   head-rows, head-columns, head-top, head-capacity  ==  line 1 as the code holds it
 --   head-limits, head-size, head-valid  ==  its numbers are within the limits, and the register has them
+--   writes-terminal, writes-least  ==  what a terminal's represent writes, and what represent writes
 --   asked-no          ==  question 5 gets a no
+--   asked-5           ==  the first no is then 5
 --   represent-asked   ==  of a register's numbers, and a slice of the right length, represent asks questions 6 and 7
+--   represent-first, terminal-represent-first, least-first  ==  its first no, and that of a terminal's represent, is then the first no asked for
 --   asked-yes         ==  question 5 gets a yes: what represent answers is the first no, and what it writes the least grid
 --   asked-fits, asked-valid  ==  what is known where each got a yes
 --   call-refused, call-least  ==  a call that asks these first, and then goes by the least grid
 use mathlib.Core.Path.{_≡_, refl, sym, ap, ap₂, _∙_}
 use mathlib.Core.List.{List, [], _∷_, _++_}
 use mathlib.Core.Bool.{Bool, true, false, not}
+use mathlib.Core.Logic.{_⊎_, inl, inr}
 use Prim.Native.Nat.{ℕ, _+_, _-_, _*_, _≤_}
 use native.Mathlib.Omega.{arith}
 use lib.ListN.{length, take, drop}
@@ -19,21 +23,23 @@ use lib.Seq.{take-at}
 use borrow.Author.Tests.{eq-eqb, not-false}
 use borrow.Rule.Slice.PartMut.{midOf, same-len-mid}
 use Rattle.grids.specs.Least.{least}
-use Rattle.grids.specs.Questions.{firstNo, Limits, question6, question7}
+use Rattle.grids.specs.Questions.{firstNo, Limits, question6, question7, question14}
+use Rattle.grids.proofs.TerminalLaws.{after-yes, after-no, after-stop, terminal-no}
 use Rattle.grids.proofs.QuestionLaws.{firstNo-pass, firstNo-stop, limits-pass, size-fits}
 use Rattle.permutations.specs.Lists.{every}
+use Rattle.permutations.proofs.BoolLaws.{yes-or-no}
 use Rattle.permutations.proofs.ListLaws.{part-length}
-use Rattle.canonical.specs.Represent.{representQuestions, Represented}
+use Rattle.canonical.specs.Represent.{representQuestions, Represented, terminalRepresentQuestions, TerminalRepresented}
 use Rattle.layout.specs.Layout.{Shape, layoutLength, decodeShape, decode, laidOut}
 use Rattle.layout.proofs.LineLaws.{laid-lines}
 use Rattle.lines.specs.declared.head.Head.{Head}
 use Rattle.lines.specs.Head.{States}
 use Rattle.machine.specs.Calls.{Outcome, answered, question5, gridQuestions, leastIn, placed}
-use Rattle.machine.specs.Valid.{Valid, asked}
+use Rattle.machine.specs.Valid.{Valid, asked, terminalAsked}
 use Rattle.machine.proofs.LeastSteps.{answered-refusal}
 use Rattle.machine.proofs.ValidLaws.{valid-sizes}
 use Rattle.register.specs.declared.asking.Asked.{Asked}
-use Rattle.register.specs.Asked.{Asks}
+use Rattle.register.specs.Asked.{leastQuestions, WritesLeast, askedBy, Asks}
 
 pub laid-yes : {t : Bool} (b : List ℕ) → t ≡ laidOut b → not t ≡ false → laidOut b ≡ true
 laid-yes {t} b e y = sym e ∙ not-false t y
@@ -42,15 +48,28 @@ pub laid-head : (b : List ℕ) → laidOut b ≡ true → 31 ≤ length b
 unfolding layoutLength
 laid-head b laid = omega (arith, laid-lines b .0 laid .0 .sized)
 
-pub asked-no : {b g least : List ℕ} {r : Asked} → laidOut b ≡ false → length least ≡ 128 → r .number ≡ 5 → Asks b g least r
-unfolding asked question5
-asked-no {b} {g} out l n = record {
-  number-is = n ∙ sym (firstNo-stop (question5 b) (gridQuestions (decode b .shape) g) out);
+pub asked-no : {k : ℕ} {b g least : List ℕ} {r : Asked} → k ≡ 5 → length least ≡ 128 → r .number ≡ 5 → Asks k b g least r
+asked-no e l n = record {
+  number-is = n ∙ sym e;
   kept = l;
   valid = λ z. absurd (omega (arith, n, z));
   capacity-is = λ z. absurd (omega (arith, n, z));
   least-is = λ z. absurd (omega (arith, n, z));
 }
+
+-- question 5 gets a no
+pub asked-5 : (t : Bool) (b g : List ℕ) → laidOut b ≡ false → askedBy t b g ≡ 5
+unfolding asked terminalAsked question5
+asked-5 true b g e = after-stop _ (question5 b) (gridQuestions (decode b .shape) g) e
+asked-5 false b g e = firstNo-stop (question5 b) (gridQuestions (decode b .shape) g) e
+
+-- what represent, or a terminal's represent, writes
+module _ (t : Bool) (m n top : ℕ) (g out : List ℕ) {number : ℕ} {rows columns out′ : List ℕ} where
+  pub writes-terminal : t ≡ true → TerminalRepresented m n top g out number rows columns out′ → WritesLeast (firstNo (leastQuestions t m n top g out)) m n g number out′
+  writes-terminal e r = rw e (record { number-is = r .number-is; written = r .written })
+
+  pub writes-least : t ≡ false → Represented m n top g out number rows columns out′ → WritesLeast (firstNo (leastQuestions t m n top g out)) m n g number out′
+  writes-least e r = rw e (record { number-is = r .number-is; written = r .written })
 
 pub represent-asked : (m n top : ℕ) (g out : List ℕ) → Limits m n top → length out ≡ m * n → firstNo (representQuestions m n top g out) ≡ firstNo (question6 (m * n) (g ∷ []) ∷ question7 top (g ∷ []) ∷ [])
 unfolding representQuestions question6 every
@@ -82,22 +101,39 @@ module _ {b : List ℕ} {h : Head} (laid : laidOut b ≡ true) (st : States b h)
   unfolding asked gridQuestions decode question5
   grid-asked g = rw (head-rows, head-columns, head-top) (sym (firstNo-pass (question5 b) (gridQuestions (decodeShape b) g) laid))
 
-  pub asked-yes : (g out ys : List ℕ) {number : ℕ} {rows columns : List ℕ} → length out ≡ 128 → length ys ≡ length (midOf 0 (h .rows * h .columns - 0) out) →
-      Represented (h .rows) (h .columns) (h .top) g (midOf 0 (h .rows * h .columns - 0) out) number rows columns ys →
-      Asks b g (ys ++ drop (h .rows * h .columns - 0) out) (record { number = number; size = h .rows * h .columns; capacity = h .capacity; count = h .count })
+  represent-first : (g out : List ℕ) → length out ≡ h .rows * h .columns → firstNo (representQuestions (h .rows) (h .columns) (h .top) g out) ≡ asked b g
+  represent-first g out l = represent-asked (h .rows) (h .columns) (h .top) g out head-limits l ∙ grid-asked g
+
+  terminal-represent-first : (g out : List ℕ) → length out ≡ h .rows * h .columns → firstNo (terminalRepresentQuestions (h .rows) (h .columns) (h .top) g out) ≡ terminalAsked b g
+  unfolding terminalRepresentQuestions representQuestions terminalAsked asked decode question14 question5
+  terminal-represent-first g out l = go (yes-or-no (question14 (h .rows) .answer))
+    where
+      go : (question14 (h .rows) .answer ≡ true) ⊎ (question14 (h .rows) .answer ≡ false) →
+          firstNo (terminalRepresentQuestions (h .rows) (h .columns) (h .top) g out) ≡ terminalAsked b g
+      go (inl e) = after-yes _ _ e ∙ represent-first g out l ∙ sym (after-yes (question14 (decodeShape b .rows)) _ (rw (← head-rows) e))
+      go (inr e) = terminal-no (h .rows) _ e ∙ sym (after-no (question14 (decodeShape b .rows)) (question5 b) _ laid (rw (← head-rows) e))
+
+  -- of a register's numbers, and a slice of the right length
+  least-first : (t : Bool) (g out : List ℕ) → length out ≡ h .rows * h .columns → firstNo (leastQuestions t (h .rows) (h .columns) (h .top) g out) ≡ askedBy t b g
+  least-first true g out l = terminal-represent-first g out l
+  least-first false g out l = represent-first g out l
+
+  pub asked-yes : (t : Bool) (g out ys : List ℕ) {number : ℕ} → length out ≡ 128 → length ys ≡ length (midOf 0 (h .rows * h .columns - 0) out) →
+      WritesLeast (firstNo (leastQuestions t (h .rows) (h .columns) (h .top) g (midOf 0 (h .rows * h .columns - 0) out))) (h .rows) (h .columns) g number ys →
+      Asks (askedBy t b g) b g (ys ++ drop (h .rows * h .columns - 0) out) (record { number = number; size = h .rows * h .columns; capacity = h .capacity; count = h .count })
   unfolding decode
-  asked-yes g out ys l k r =
+  asked-yes t g out ys l k r =
       let z = part-length out (h .rows * h .columns) (omega (arith, l, head-size)) in
       record {
-        number-is = r .number-is ∙ represent-asked (h .rows) (h .columns) (h .top) g _ head-limits z ∙ grid-asked g;
+        number-is = r .number-is ∙ least-first t g _ z;
         kept = same-len-mid 0 (h .rows * h .columns - 0) out ys k ∙ l;
         valid = λ _. head-valid;
         capacity-is = λ _. head-capacity;
         least-is = λ e. take-at ys _ (h .rows * h .columns) (k ∙ z) ∙ r .written e ∙ ap₂ (λ (m n : ℕ). least m n g) head-rows head-columns;
       }
 
--- a call that asks questions 5, 6 and 7 first, and then goes by the least grid
-module _ {b g out : List ℕ} {r : Asked} (k : Asks b g out r) where
+-- a call that asks these first, and then goes by the least grid
+module _ {j : ℕ} {b g out : List ℕ} {r : Asked} (k : Asks j b g out r) where
   whole : r .size - 0 ≡ r .size
   whole = omega arith
 
@@ -107,10 +143,10 @@ module _ {b g out : List ℕ} {r : Asked} (k : Asks b g out r) where
   pub asked-valid : r .number ≡ 0 → Valid (length (take (r .size - 0) out)) (r .count) b
   asked-valid z = rw (part-length out (r .size) (asked-fits z)) (k .valid z)
 
-  module _ (f : List ℕ → Outcome) {x : Outcome} (e : x ≡ answered (asked b g) b (f (leastIn (decode b .shape) g))) where
+  module _ (f : List ℕ → Outcome) {x : Outcome} (e : x ≡ answered j b (f (leastIn (decode b .shape) g))) where
     pub call-refused : (r .number ≡ 0 → ⊥) → {number place : ℕ} → number ≡ r .number → place ≡ 0 → placed number place b ≡ x
     call-refused n {number} {place} p q =
-        ap₂ (λ (i j : ℕ). placed i j b) (p ∙ k .number-is) q ∙ sym (e ∙ answered-refusal (asked b g) b _ (λ z. n (k .number-is ∙ z)))
+        ap₂ (λ (i j : ℕ). placed i j b) (p ∙ k .number-is) q ∙ sym (e ∙ answered-refusal j b _ (λ z. n (k .number-is ∙ z)))
 
     pub call-least : r .number ≡ 0 → {o : Outcome} → o ≡ f (take (r .size - 0) out) → o ≡ x
     unfolding answered

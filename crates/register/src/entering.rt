@@ -12,7 +12,7 @@ ghost use Rattle.machine.specs.Calls.{entered, placed};
 ghost use Rattle.machine.specs.Valid.{Valid, enteredLeast};
 
 // Enters a grid that is least in its class into a register that is laid out.
-fn enter_least(register: &mut [u8], capacity: usize, count: usize, least: &[u8]) -> Placed
+pub fn enter_least(register: &mut [u8], capacity: usize, count: usize, least: &[u8]) -> Placed
     requires { ⌜ Valid (length (now least)) count (now register) × (capacity ≡ decodeShape (now register) .capacity) ⌝ }
     ensures { λ r. ⌜ placed (r .number) (r .place) (now (register .exit)) ≡ enteredLeast (now (register .entry)) (now (least .entry)) ⌝ }
 {
@@ -43,7 +43,7 @@ pub fn enter(register: &mut [u8], grid: &[u8]) -> Placed
     ensures { λ r. ⌜ placed (r .number) (r .place) (now (register .exit)) ≡ entered (now (register .entry)) (now (grid .entry)) ⌝ }
 {
     let mut least = [0u8; 128];
-    let asked = asking::ask(register, grid, &mut least);
+    let asked = asking::ask(register, grid, &mut least, false);
     if asked.number != 0 {
         return answers::refused(asked.number);
     }

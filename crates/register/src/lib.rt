@@ -1,4 +1,4 @@
-// The register's calls on lent bytes: open, enter, strike and fit.
+// The register's calls on lent bytes: open, enter, strike and fit, and a terminal's enter.
 pub mod answers;
 mod asking;
 pub mod entering;
@@ -6,3 +6,4 @@ pub mod fitting;
 pub mod opening;
 mod places;
 pub mod striking;
+pub mod terminal_entering;

@@ -37,7 +37,7 @@ pub fn strike(register: &mut [u8], grid: &[u8]) -> Placed
     ensures { λ r. ⌜ placed (r .number) (r .place) (now (register .exit)) ≡ struck (now (register .entry)) (now (grid .entry)) ⌝ }
 {
     let mut least = [0u8; 128];
-    let asked = asking::ask(register, grid, &mut least);
+    let asked = asking::ask(register, grid, &mut least, false);
     if asked.number != 0 {
         return answers::refused(asked.number);
     }

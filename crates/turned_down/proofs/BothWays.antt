@@ -25,10 +25,10 @@ unfoldable pub someBothWays : ℕ → ℕ → List ℕ → List ℕ → Bool
 someBothWays m n a b =
     some (λ p. some (λ q. equal (arrangement m n p q a) b && equal (arrangement m n p q b) a) (permutations n)) (permutations m)
 
-pub one-way : (m n : ℕ) (a b rows columns : List ℕ) → someBothWays m n a b ≡ false → Produces m n a b rows columns →
+pub one-way : (width m n : ℕ) (a b rows columns : List ℕ) → someBothWays m n a b ≡ false → Produces width m n a b rows columns →
     arrangement m n (take m rows) (take n columns) b ≡ a → ⊥
 unfolding someBothWays
-one-way m n a b rows columns none p e =
+one-way width m n a b rows columns none p e =
     true≢false (sym (at-some _ (permutations m) (take m rows) (permutation-listed m (take m rows) (p .row-permutation))
     (at-some _ (permutations n) (take n columns) (permutation-listed n (take n columns) (p .column-permutation))
     (yes-and _ _ (eq-equal _ b (p .gives)) (eq-equal _ a e)))) ∙ none)

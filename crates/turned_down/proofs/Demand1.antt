@@ -54,7 +54,7 @@ open-grows-slice = record {
 pub fit-writes : Turned (fault Demand1 FitWrites)
 unfolding FitWrites called equal
 fit-writes = record {
-  example = record { opens = plain 0 0 .opens; enters = plain 0 0 .enters; strikes = plain 0 0 .strikes; fits = λ b low high. record { number = 0; place = 0; bytes = [] } };
+  example = record { opens = plain 0 0 .opens; enters = plain 0 0 .enters; strikes = plain 0 0 .strikes; fits = λ b low high. record { number = 0; place = 0; bytes = [] }; terminalEnters = plain 0 0 .terminalEnters };
   done = λ x b low high. unequal [] (x ∷ b) refl;
   refused = λ i f d. f 0 [] zero one (d .fit-unchanged (0 ∷ []) zero one);
 }

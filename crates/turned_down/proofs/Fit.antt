@@ -66,6 +66,7 @@ fits-as-sent = record {
       place = length (select (inBounds (gridSize (decodeShape b)) (decodeShape b .top) low high) (decode b .entries));
       bytes = b;
     };
+    terminalEnters = plain 0 0 .terminalEnters;
   };
   done = λ b low high z. refl;
   refused = λ i f d.

@@ -10,5 +10,6 @@ pub mod LateEntry
 pub mod Demand3
 pub mod Demand1
 pub mod Fit
+pub mod Terminals
 pub mod Planbook
 pub mod TurnedDown

@@ -3,7 +3,7 @@
 --   listed, unlisted  ==  a list is sound, or not, as the test of a permutation says
 --   apart, moving     ==  lists that differ below their size differ when padded; and one that moves something is not the identity
 --   noticed           ==  a list of two numbers that is no permutation is noticed by a program that meets the contract
---   orders-turned     ==  the faults of programs for permutations held in three positions or more are turned down
+--   orders-turned, tests-turned  ==  the faults of programs for permutations held in three positions or more, and of their test, are turned down
 --   The other names are those of the faults.
 use mathlib.Core.Path.{_≡_, refl, sym, ap, _∙_}
 use mathlib.Core.List.{List, [], _∷_}
@@ -22,7 +22,7 @@ use Rattle.permutations.proofs.PermutationLaws.{identity-permutation}
 use Rattle.permutations.proofs.PermutationTest.{decides}
 use Rattle.permutations.proofs.PaddedLaws.{padded-below, padded-identity, length-identity, isSound-no, composedPadded-is, composedPadded-sizes, composedPadded-first, inversePadded-is}
 use Rattle.turned_down.specs.PermutationFaults.{Composing, Composes, Inverts, Tests, ComposesBackwards, AcceptsRepeats, AcceptsTooLarge, AcceptsOtherSizes, ReturnsArgument, AcceptsSize0, AcceptsPast}
-use Rattle.turned_down.specs.TurnedDown.{fault, Turned, orderFaults}
+use Rattle.turned_down.specs.TurnedDown.{fault, Turned, orderFaults, testFaults}
 
 listed : (width n : ℕ) (p : List ℕ) → 1 ≤ n → n ≤ width → isPermutation n (take n p) ≡ true → isSound width n p ≡ true
 unfolding isSound
@@ -126,4 +126,8 @@ module _ (width : ℕ) (b : 3 ≤ width) where
 
   pub orders-turned : All Turned (orderFaults width)
   unfolding orderFaults
-  orders-turned = (composes-backwards, (accepts-repeats, (accepts-too-large, (accepts-other-sizes, (returns-argument, (accepts-size-0, (accepts-past, tt)))))))
+  orders-turned = (composes-backwards, (accepts-repeats, (accepts-too-large, (accepts-other-sizes, (returns-argument, tt)))))
+
+  pub tests-turned : All Turned (testFaults width)
+  unfolding testFaults
+  tests-turned = (accepts-size-0, (accepts-past, tt))

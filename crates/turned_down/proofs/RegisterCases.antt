@@ -5,10 +5,12 @@
 --   rowless, roomless   ==  shapes outside the limits: 0 rows, and capacity 0
 --   Computed, computed  ==  what the definitions give
 --   slice, opening      ==  a slice of the shape's length, and what its open answers
+--   answers             ==  what an implementation that follows the machine answers to a call
+--   after-one           ==  one that meets demand 3 follows it, also after an enter
 --   first-enter, second-enter, held-enter, lower-enter, first-strike, none-fit, zero-fit  ==  what an implementation that meets demand 3 answers and leaves
 --   number-is, place-is, bytes-are  ==  the parts of an answer
 --   plain k p           ==  every call answers the number k and the place or count p, and changes nothing
---   entering f, opening-by f  ==  the like with f for enter, and for open
+--   entering f, opening-by f, entering-at-terminal f  ==  the like with f for enter, for open, and for a terminal's enter
 use mathlib.Core.Path.{_≡_, refl, ap, subst, _∙_}
 use mathlib.Core.List.{List, [], _∷_, flatten, flatMap}
 use mathlib.Core.Bool.{true, false}
@@ -146,50 +148,50 @@ opening i d = d .opens cell slice limits (length-replicate (layoutLength cell) 0
 
 -- ---- following the machine
 
-module _ (i : Implementation) (l : Grids) (f : Follows i cell l) (c : Call) (t : Step) (e : step cell l c ≡ t) where
-  answers : called i (shown cell l) c ≡ outcome cell t
-  answers = follows-call i cell l f c ∙ ap (outcome cell) e
+module _ (i : Implementation) (s : Shape) (l : Grids) (f : Follows i s l) (c : Call) (t : Step) (e : step s l c ≡ t) where
+  pub answers : called i (shown s l) c ≡ outcome s t
+  answers = follows-call i s l f c ∙ ap (outcome s) e
 
-  next : Follows i cell (t .next)
-  next = subst (λ (x : Step). Follows i cell (x .next)) e (follows-next i cell l f c)
+  next : Follows i s (t .next)
+  next = subst (λ (x : Step). Follows i s (x .next)) e (follows-next i s l f c)
 
 module _ (i : Implementation) (d : Demand3 i) where
   after-zero : Follows i cell (zero ∷ [])
-  after-zero = next i [] (follows-open i d cell limits) (enter zero) _ (computed .zero-entered)
+  after-zero = next i cell [] (follows-open i d cell limits) (enter zero) _ (computed .zero-entered)
 
   after-both : Follows i cell (one ∷ zero ∷ [])
-  after-both = next i (zero ∷ []) after-zero (enter one) _ (computed .one-entered)
+  after-both = next i cell (zero ∷ []) after-zero (enter one) _ (computed .one-entered)
 
-  after-one : Follows i cell (one ∷ [])
-  after-one = next i [] (follows-open i d cell limits) (enter one) _ (computed .one-first)
+  pub after-one : Follows i cell (one ∷ [])
+  after-one = next i cell [] (follows-open i d cell limits) (enter one) _ (computed .one-first)
 
   pub first-enter : i .enters (shown cell []) zero ≡ outcome cell (answer 0 1 (zero ∷ []))
   unfolding called
-  first-enter = answers i [] (follows-open i d cell limits) (enter zero) _ (computed .zero-entered)
+  first-enter = answers i cell [] (follows-open i d cell limits) (enter zero) _ (computed .zero-entered)
 
   pub second-enter : i .enters (shown cell (zero ∷ [])) one ≡ outcome cell (answer 0 2 (one ∷ zero ∷ []))
   unfolding called
-  second-enter = answers i (zero ∷ []) after-zero (enter one) _ (computed .one-entered)
+  second-enter = answers i cell (zero ∷ []) after-zero (enter one) _ (computed .one-entered)
 
   pub held-enter : i .enters (shown cell (one ∷ zero ∷ [])) zero ≡ outcome cell (answer 101 1 (one ∷ zero ∷ []))
   unfolding called
-  held-enter = answers i (one ∷ zero ∷ []) after-both (enter zero) _ (computed .zero-held)
+  held-enter = answers i cell (one ∷ zero ∷ []) after-both (enter zero) _ (computed .zero-held)
 
   pub lower-enter : i .enters (shown cell (one ∷ [])) zero ≡ outcome cell (answer 0 1 (zero ∷ one ∷ []))
   unfolding called
-  lower-enter = answers i (one ∷ []) after-one (enter zero) _ (computed .zero-second)
+  lower-enter = answers i cell (one ∷ []) after-one (enter zero) _ (computed .zero-second)
 
   pub first-strike : i .strikes (shown cell (zero ∷ [])) zero ≡ outcome cell (answer 0 1 [])
   unfolding called
-  first-strike = answers i (zero ∷ []) after-zero (strike zero) _ (computed .zero-struck)
+  first-strike = answers i cell (zero ∷ []) after-zero (strike zero) _ (computed .zero-struck)
 
   pub none-fit : i .fits (shown cell []) zero one ≡ outcome cell (answer 0 0 [])
   unfolding called
-  none-fit = answers i [] (follows-open i d cell limits) (fit zero one) _ (computed .none-fits)
+  none-fit = answers i cell [] (follows-open i d cell limits) (fit zero one) _ (computed .none-fits)
 
   pub zero-fit : i .fits (shown cell (zero ∷ [])) zero one ≡ outcome cell (answer 0 1 (zero ∷ []))
   unfolding called
-  zero-fit = answers i (zero ∷ []) after-zero (fit zero one) _ (computed .zero-fits)
+  zero-fit = answers i cell (zero ∷ []) after-zero (fit zero one) _ (computed .zero-fits)
 
 pub number-is : (o : Outcome) (t : Step) → o ≡ outcome cell t → o .number ≡ t .number
 unfolding outcome
@@ -211,10 +213,14 @@ plain k p = record {
   enters = λ b g. record { number = k; place = p; bytes = b };
   strikes = λ b g. record { number = k; place = p; bytes = b };
   fits = λ b low high. record { number = k; place = p; bytes = b };
+  terminalEnters = λ b g. record { number = k; place = p; bytes = b };
 }
 
 abbrev pub entering : (List ℕ → List ℕ → Outcome) → Implementation
-entering f = record { opens = plain 0 0 .opens; enters = f; strikes = plain 0 0 .strikes; fits = plain 0 0 .fits }
+entering f = record { opens = plain 0 0 .opens; enters = f; strikes = plain 0 0 .strikes; fits = plain 0 0 .fits; terminalEnters = plain 0 0 .terminalEnters }
 
 abbrev pub opening-by : (Shape → List ℕ → Outcome) → Implementation
-opening-by f = record { opens = f; enters = plain 0 0 .enters; strikes = plain 0 0 .strikes; fits = plain 0 0 .fits }
+opening-by f = record { opens = f; enters = plain 0 0 .enters; strikes = plain 0 0 .strikes; fits = plain 0 0 .fits; terminalEnters = plain 0 0 .terminalEnters }
+
+abbrev pub entering-at-terminal : (List ℕ → List ℕ → Outcome) → Implementation
+entering-at-terminal f = record { opens = plain 0 0 .opens; enters = plain 0 0 .enters; strikes = plain 0 0 .strikes; fits = plain 0 0 .fits; terminalEnters = f }

@@ -81,7 +81,7 @@ module _ (f : Representing) (c : RepresentLeast f) (m n top : ℕ) (g out : List
       let p = represent-pass m n top g out .0 e in
       least-unique m n g _ _ (c m n top g out (p .0) (p .1) (p .2) .1) (least-is m n g (p .1 .sized))
 
-  produces : Produces m n g (f m n top g out .out) (f m n top g out .rows) (f m n top g out .columns)
+  produces : Produces 8 m n g (f m n top g out .out) (f m n top g out .rows) (f m n top g out .columns)
   unfolding RepresentLeast
   produces = let p = represent-pass m n top g out .0 e in c m n top g out (p .0) (p .1) (p .2) .2
 
@@ -142,7 +142,7 @@ orders-backwards = record {
   done = λ m n top g out z e. starting-produces m n g e;
   refused = λ f d c.
       let o = writes f c 1 3 3 m5 m5 (computed .m5-asked) in
-      one-way 1 3 m5 (least 1 3 m5) _ _ (computed .m5-one-way) (rw o at (produces f c 1 3 3 m5 m5 (computed .m5-asked)))
+      one-way 8 1 3 m5 (least 1 3 m5) _ _ (computed .m5-one-way) (rw o at (produces f c 1 3 3 m5 m5 (computed .m5-asked)))
       (rw o at (d 1 3 3 m5 m5 (zero f c 1 3 3 m5 m5 (computed .m5-asked)) refl));
 }
 
@@ -152,7 +152,7 @@ pads-with-zeros = record {
   example = λ m n top g out. record { number = 0; rows = []; columns = []; out = g };
   done = λ m n top g out z h. refl;
   refused = λ f d c.
-      let last = produces-past 1 3 m5 _ _ _ (produces f c 1 3 3 m5 m5 (computed .m5-asked)) .2 7 (omega arith) (omega arith) in
+      let last = produces-past 8 1 3 m5 _ _ _ (produces f c 1 3 3 m5 m5 (computed .m5-asked)) .2 7 (omega arith) (omega arith) in
       let none = d 1 3 3 m5 m5 (zero f c 1 3 3 m5 m5 (computed .m5-asked)) (omega arith) in
       omega arith;
 }

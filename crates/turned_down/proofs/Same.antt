@@ -19,7 +19,7 @@ use Rattle.grids.specs.Grids.{capped, gridOf, row, column, arrangement, oneClas
 use Rattle.grids.specs.Least.{arrangements, lesser, leastOf, least}
 use Rattle.grids.specs.Questions.{firstNo, inRange, question1, question2, question3, question6, question7}
 use Rattle.grids.proofs.OrderLaws.{equal-eq}
-use Rattle.canonical.specs.Same.{sameQuestions, sameNumber, sameAgreed}
+use Rattle.canonical.specs.Same.{classNumber, classAgreed, sameQuestions, sameNumber, sameAgreed}
 use Rattle.canonical.specs.Programs.{Comparing, MeetsSame}
 use Rattle.turned_down.specs.RepresentFaults.{sortedBothWays}
 use Rattle.turned_down.specs.SameFaults.{NeverSame, rowSums, JudgesByRowSums, ComparesSorted, OrdersFromB, IgnoresB, MovesWith103, AgreesAsSent, MiscountsByOne, AgreesInNone, AgreesRefusing}
@@ -50,7 +50,7 @@ record Computed : Type 0 where
   b-agreed : sameAgreed 1 1 0 (0 ∷ []) (1 ∷ []) ≡ 0
 
 computed : Computed
-unfolding tabulate numbers select every some occurrences flatMap identity isPermutation words permutations rank leq equal capped gridOf row column arrangement oneClass firstNo inRange question1 question2 question3 question6 question7 sameQuestions sameNumber sameAgreed commonPrefixLength arrangements lesser leastOf least sortedBothWays rowSums someBothWays
+unfolding tabulate numbers select every some occurrences flatMap identity isPermutation words permutations rank leq equal capped gridOf row column arrangement oneClass firstNo inRange question1 question2 question3 question6 question7 sameQuestions classNumber classAgreed sameNumber sameAgreed commonPrefixLength arrangements lesser leastOf least sortedBothWays rowSums someBothWays
 computed = record {
   m1-same = refl;
   m1-sorted = refl;
@@ -128,7 +128,7 @@ orders-from-b = record {
   done = λ m n top a b z e. let s = equal-eq a b (judged-0 _ z) in rw s (starting-produces m n b (ap length (sym s) ∙ e));
   refused = λ f d c.
       let z = answers f c 1 3 3 m5 m5-least ∙ computed .m5-same in
-      one-way 1 3 m5 m5-least _ _ (computed .m5-one-way) (c 1 3 3 m5 m5-least .produced z) (d 1 3 3 m5 m5-least z refl);
+      one-way 8 1 3 m5 m5-least _ _ (computed .m5-one-way) (c 1 3 3 m5 m5-least .produced z) (d 1 3 3 m5 m5-least z refl);
 }
 
 pub ignores-b : Turned (fault MeetsSame IgnoresB)

@@ -3,11 +3,14 @@
 --   turned-down  ==  the statement, fault by fault
 --   met          ==  some program meets each contract
 use mathlib.Core.Path.{refl}
+use mathlib.Core.List.{_++_}
 use native.Mathlib.Omega.{arith}
+use Rattle.permutations.specs.Lists.{All}
 use Rattle.permutations.specs.Padded.{isSound, composedPadded, inversePadded}
 use Rattle.permutations.proofs.ListLaws.{all-append}
-use Rattle.canonical.specs.Programs.{Representing, MeetsRepresent, MeetsSame}
+use Rattle.canonical.specs.Programs.{Representing, MeetsRepresent, MeetsSame, MeetsTerminalRepresent, MeetsTerminalSame}
 use Rattle.canonical.proofs.CallLaws.{represent-answers, represent-least, same-answers}
+use Rattle.canonical.proofs.TerminalCalls.{terminal-represent-answers, terminal-represent-least, terminal-same-answers}
 use Rattle.bounds.specs.Prune.{pruned}
 use Rattle.bounds.specs.Demand2.{MeetsPrune}
 use Rattle.bounds.proofs.PruneLaws.{prunes, prune-exact}
@@ -18,23 +21,32 @@ use Rattle.machine.proofs.Demand3Laws.{demand3}
 use Rattle.protocol.specs.Transcript.{transcript}
 use Rattle.protocol.specs.Programs.{Prints, transcribed, MeetsTranscribe}
 use Rattle.turned_down.specs.PermutationFaults.{Composes, Inverts, Tests}
-use Rattle.turned_down.specs.TurnedDown.{Turned, orderFaults, table, TurnedDown, Met}
-use Rattle.turned_down.proofs.Permutations.{orders-turned}
+use Rattle.turned_down.specs.TurnedDown.{Turned, orderFaults, testFaults, table, TurnedDown, Met}
+use Rattle.turned_down.proofs.Permutations.{orders-turned, tests-turned}
 use Rattle.turned_down.proofs.Represent.{hands-back, one-for-all, refuses-all, sorts-by-turns, follows-first, orders-backwards, pads-with-zeros, ignores-length, ignores-cells, writes-refusing, moves-refusing}
 use Rattle.turned_down.proofs.Same.{never-same, judges-by-row-sums, compares-sorted, orders-from-b, ignores-b, moves-with-103, agrees-as-sent, miscounts-by-one, agrees-in-none, agrees-refusing}
 use Rattle.turned_down.proofs.Prune.{never-prunes, never-empty, removes-nothing, raises-no-low, lowers-no-high, prunes-unsorted, invents-removed, writes-empty, shortens-bounds, leaves-above-top, ignores-order, prune-writes-refusing}
 use Rattle.turned_down.proofs.Demand3.{stores-first, full-unlooked, not-held-unlooked, invents-count, invents-fit, leaves-last-line, appends-entries, places-from-zero, inserts-late, opens-nothing, enters-nothing, opens-any-slice, refuses-own-bytes}
 use Rattle.turned_down.proofs.Demand1.{refuses-opens, refuses-enters, grows-slice, open-grows-slice, fit-writes, held-writes, open-writes-refusing, opens-capacity-0, asks-cells-first, asks-register-last, trusts-bytes}
 use Rattle.turned_down.proofs.Fit.{fits-as-sent, prunes-lent-bounds}
+use Rattle.turned_down.proofs.Terminals.{terminal-hands-back, asks-columns-first, refuses-5-rows, refuses-9-rows, never-14, same-asks-columns-first, same-refuses-5-rows, same-never-14, keeps-8-positions, agrees-with-14, enter-never-14, enter-refuses-5-rows, enter-asks-length-first, enter-writes-with-14, stores-as-sent, terminal-appends, only-acknowledges, enters-twice}
 use Rattle.turned_down.proofs.Planbook.{goes-on-after-13, prints-register-after-11, ends-at-malformed, prints-under-zero, malformed-reaches, refuses-cells-as-malformed, asks-length-first, silent-without-commands, takes-unended, counts-without-room, clears-rest}
+
+-- the faults of orders, of all kinds
+all-orders : All Turned (orderFaults 8 ++ (testFaults 8 ++ (orderFaults 16 ++ (testFaults 16 ++ orderFaults 5))))
+all-orders =
+    all-append Turned (orderFaults 8) _ (orders-turned 8 (omega arith))
+    (all-append Turned (testFaults 8) _ (tests-turned 8 (omega arith))
+    (all-append Turned (orderFaults 16) _ (orders-turned 16 (omega arith))
+    (all-append Turned (testFaults 16) _ (tests-turned 16 (omega arith)) (orders-turned 5 (omega arith)))))
 
 pub turned-down : TurnedDown
 unfolding TurnedDown table
-turned-down = (hands-back, (one-for-all, (refuses-all, (sorts-by-turns, (follows-first, (orders-backwards, (pads-with-zeros, (ignores-length, (ignores-cells, (writes-refusing, (moves-refusing, (never-same, (judges-by-row-sums, (compares-sorted, (orders-from-b, (ignores-b, (moves-with-103, (agrees-as-sent, (miscounts-by-one, (agrees-in-none, (agrees-refusing, (never-prunes, (never-empty, (removes-nothing, (raises-no-low, (lowers-no-high, (prunes-unsorted, (invents-removed, (writes-empty, (shortens-bounds, (leaves-above-top, (ignores-order, (prune-writes-refusing, (stores-first, (full-unlooked, (not-held-unlooked, (invents-count, (invents-fit, (leaves-last-line, (appends-entries, (places-from-zero, (inserts-late, (opens-nothing, (enters-nothing, (opens-any-slice, (refuses-own-bytes, (refuses-opens, (refuses-enters, (grows-slice, (open-grows-slice, (fit-writes, (held-writes, (open-writes-refusing, (opens-capacity-0, (asks-cells-first, (asks-register-last, (trusts-bytes, (fits-as-sent, (prunes-lent-bounds, (goes-on-after-13, (prints-register-after-11, (ends-at-malformed, (prints-under-zero, (malformed-reaches, (refuses-cells-as-malformed, (asks-length-first, (silent-without-commands, (takes-unended, (counts-without-room, (clears-rest, all-append Turned (orderFaults 8) (orderFaults 16) (orders-turned 8 (omega arith)) (orders-turned 16 (omega arith))))))))))))))))))))))))))))))))))))))))))))))))))))))))))))))))))))))))
+turned-down = (hands-back, (one-for-all, (refuses-all, (sorts-by-turns, (follows-first, (orders-backwards, (pads-with-zeros, (ignores-length, (ignores-cells, (writes-refusing, (moves-refusing, (never-same, (judges-by-row-sums, (compares-sorted, (orders-from-b, (ignores-b, (moves-with-103, (agrees-as-sent, (miscounts-by-one, (agrees-in-none, (agrees-refusing, (never-prunes, (never-empty, (removes-nothing, (raises-no-low, (lowers-no-high, (prunes-unsorted, (invents-removed, (writes-empty, (shortens-bounds, (leaves-above-top, (ignores-order, (prune-writes-refusing, (stores-first, (full-unlooked, (not-held-unlooked, (invents-count, (invents-fit, (leaves-last-line, (appends-entries, (places-from-zero, (inserts-late, (opens-nothing, (enters-nothing, (opens-any-slice, (refuses-own-bytes, (refuses-opens, (refuses-enters, (grows-slice, (open-grows-slice, (fit-writes, (held-writes, (open-writes-refusing, (opens-capacity-0, (asks-cells-first, (asks-register-last, (trusts-bytes, (fits-as-sent, (prunes-lent-bounds, (goes-on-after-13, (prints-register-after-11, (ends-at-malformed, (prints-under-zero, (malformed-reaches, (refuses-cells-as-malformed, (asks-length-first, (silent-without-commands, (takes-unended, (counts-without-room, (clears-rest, (terminal-hands-back, (asks-columns-first, (refuses-5-rows, (refuses-9-rows, (never-14, (same-asks-columns-first, (same-refuses-5-rows, (same-never-14, (keeps-8-positions, (agrees-with-14, (enter-never-14, (enter-refuses-5-rows, (enter-asks-length-first, (enter-writes-with-14, (stores-as-sent, (terminal-appends, (only-acknowledges, (enters-twice, all-orders))))))))))))))))))))))))))))))))))))))))))))))))))))))))))))))))))))))))))))))))))))))))
 
 ours : Meets registerCalls
 unfolding registerCalls
-ours = record { opens = λ s b. refl; enters = λ b g. refl; strikes = λ b g. refl; fits = λ b low high. refl }
+ours = record { opens = λ s b. refl; enters = λ b g. refl; strikes = λ b g. refl; fits = λ b low high. refl; terminalEnters = λ b g. refl }
 
 representing : Representing
 representing m n top g out = let a = represent-answers m n top g out in record { number = a .0; rows = a .1; columns = a .2; out = a .3 }
@@ -43,17 +55,29 @@ represents : MeetsRepresent representing
 unfolding MeetsRepresent representing
 represents m n top g out = represent-answers m n top g out .4
 
+terminal-representing : Representing
+terminal-representing m n top g out = let a = terminal-represent-answers m n top g out in record { number = a .0; rows = a .1; columns = a .2; out = a .3 }
+
+terminal-represents : MeetsTerminalRepresent terminal-representing
+unfolding MeetsTerminalRepresent terminal-representing
+terminal-represents m n top g out = terminal-represent-answers m n top g out .4
+
 pruning : MeetsPrune pruned
 unfolding MeetsPrune
 pruning m n top low high = prunes m n top low high _ refl
 
 pub met : Met
-unfolding MeetsSame Composes Inverts Tests Prints MeetsTranscribe
+unfolding MeetsSame MeetsTerminalSame Composes Inverts Tests Prints MeetsTranscribe
 met = record {
   represents = (representing, represents, represent-least representing represents);
   compares = (
     λ m n top a b. let c = same-answers m n top a b in record { number = c .0; agreed = c .1; rows = c .2; columns = c .3 },
     λ m n top a b. same-answers m n top a b .4,
+  );
+  terminal-represents = (terminal-representing, terminal-represents, terminal-represent-least terminal-representing terminal-represents);
+  terminal-compares = (
+    λ m n top a b. let c = terminal-same-answers m n top a b in record { number = c .0; agreed = c .1; rows = c .2; columns = c .3 },
+    λ m n top a b. terminal-same-answers m n top a b .4,
   );
   prunes = (pruned, pruning, prune-exact pruned pruning);
   composes = λ width. (composedPadded width, λ n p k r. refl);

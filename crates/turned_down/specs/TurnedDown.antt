@@ -3,15 +3,15 @@
 --   Fault       ==  a contract of some kind of program, and what a faulty program does
 --   fault C D   ==  the contract C and the fault D
 --   Turned f    ==  some program does this, and none that does meets the contract
---   orderFaults width  ==  the faults of programs for permutations held in so many positions
+--   orderFaults width, testFaults width  ==  the faults of programs for permutations held in so many positions, and of their test
 --   table       ==  the faults
 --   TurnedDown  ==  the statement: every fault is turned down
 --   Met         ==  each contract is met by some program
 use mathlib.Core.List.{List, [], _∷_, _++_}
 use Prim.Native.Nat.{ℕ}
 use Rattle.permutations.specs.Lists.{All}
-use Rattle.canonical.specs.Programs.{Representing, MeetsRepresent, Comparing, MeetsSame}
-use Rattle.canonical.specs.Demand2.{RepresentLeast}
+use Rattle.canonical.specs.Programs.{Representing, MeetsRepresent, Comparing, MeetsSame, MeetsTerminalRepresent, MeetsTerminalSame}
+use Rattle.canonical.specs.Demand2.{RepresentLeast, TerminalRepresentLeast}
 use Rattle.bounds.specs.Demand2.{Pruning, PruneExact, MeetsPrune}
 use Rattle.machine.specs.CallLists.{Implementation, Meets}
 use Rattle.machine.specs.FitSlices.{Fitting, MeetsFit}
@@ -23,6 +23,7 @@ use Rattle.turned_down.specs.RepresentFaults.{HandsBack, OneForAll, Refu
 use Rattle.turned_down.specs.SameFaults.{NeverSame, JudgesByRowSums, ComparesSorted, OrdersFromB, IgnoresB, MovesWith103, AgreesAsSent, MiscountsByOne, AgreesInNone, AgreesRefusing}
 use Rattle.turned_down.specs.PruneFaults.{NeverPrunes, NeverEmpty, RemovesNothing, RaisesNoLow, LowersNoHigh, PrunesUnsorted, InventsRemoved, WritesEmpty, ShortensBounds, LeavesAboveTop, IgnoresOrder, PruneWritesRefusing}
 use Rattle.turned_down.specs.RegisterFaults.{StoresFirst, FullUnlooked, NotHeldUnlooked, InventsCount, InventsFit, LeavesLastLine, AppendsEntries, PlacesFromZero, InsertsLate, OpensNothing, EntersNothing, OpensAnySlice, RefusesOwnBytes, GrowsSlice, OpenGrowsSlice, FitWrites, HeldWrites, OpenWritesRefusing, OpensCapacity0, AsksCellsFirst, AsksRegisterLast, TrustsBytes, FitsAsSent, PrunesLentBounds}
+use Rattle.turned_down.specs.TerminalFaults.{representing, comparing, AsksColumnsFirst, Refuses5Rows, Refuses9Rows, Never14, Keeps8Positions, AgreesWith14, EnterNever14, EnterRefuses5Rows, EnterAsksLengthFirst, EnterWritesWith14, StoresAsSent, TerminalAppends, OnlyAcknowledges, EntersTwice}
 use Rattle.turned_down.specs.PlanbookFaults.{GoesOnAfter13, PrintsRegisterAfter11, EndsAtMalformed, PrintsUnderZero, MalformedReaches, RefusesCellsAsMalformed, AsksLengthFirst, SilentWithoutCommands, TakesUnended, CountsWithoutRoom, ClearsRest}
 
 pub record Fault : Type 1 where
@@ -38,7 +39,7 @@ pub record Turned (f : Fault) : Type 0 where
   pub done : f .Does example
   pub refused : (p : f .Program) → f .Does p → f .Meets p → ⊥
 
--- of rows, in 8 positions, and of columns, in 16
+-- of rows, in 8 positions, of a terminal's rows, in 5, and of columns, in 16
 unfoldable pub orderFaults : ℕ → List Fault
 orderFaults width =
     fault (Composes width) (ComposesBackwards width)
@@ -46,9 +47,10 @@ orderFaults width =
     ∷ fault (Composes width) (AcceptsTooLarge width)
     ∷ fault (Composes width) (AcceptsOtherSizes width)
     ∷ fault (Inverts width) (ReturnsArgument width)
-    ∷ fault (Tests width) AcceptsSize0
-    ∷ fault (Tests width) (AcceptsPast width)
     ∷ []
+
+unfoldable pub testFaults : ℕ → List Fault
+testFaults width = fault (Tests width) AcceptsSize0 ∷ fault (Tests width) (AcceptsPast width) ∷ []
 
 unfoldable pub table : List Fault
 table =
@@ -136,8 +138,31 @@ table =
     -- by the contract of the function on slices that the program calls: a slice that is too small, the rest of the output slice
     ∷ fault MeetsTranscribe CountsWithoutRoom
     ∷ fault MeetsTranscribe ClearsRest
+    -- by demand 2 at a terminal: the grid handed back as its own least
+    ∷ fault TerminalRepresentLeast HandsBack
+    -- by the questions of a terminal's represent and same: 14 asked after 2, for 5 rows, for rows above 8, never
+    ∷ fault MeetsTerminalRepresent (λ f. AsksColumnsFirst (representing f))
+    ∷ fault MeetsTerminalRepresent (λ f. Refuses5Rows (representing f))
+    ∷ fault MeetsTerminalRepresent (λ f. Refuses9Rows (representing f))
+    ∷ fault MeetsTerminalRepresent (λ f. Never14 (representing f))
+    ∷ fault MeetsTerminalSame (λ f. AsksColumnsFirst (comparing f))
+    ∷ fault MeetsTerminalSame (λ f. Refuses5Rows (comparing f))
+    ∷ fault MeetsTerminalSame (λ f. Never14 (comparing f))
+    -- its row orders, and the cells that agree
+    ∷ fault MeetsTerminalRepresent Keeps8Positions
+    ∷ fault MeetsTerminalSame AgreesWith14
+    -- by demand 1 of a terminal's enter: 14 never, for 5 rows, asked after 6, with bytes changed
+    ∷ fault Demand1 EnterNever14
+    ∷ fault Demand1 EnterRefuses5Rows
+    ∷ fault Demand1 EnterAsksLengthFirst
+    ∷ fault Demand1 EnterWritesWith14
+    -- by demand 3 of lists with a terminal's enter: stored under another order, at another place, not at all, twice
+    ∷ fault Demand3 StoresAsSent
+    ∷ fault Demand3 TerminalAppends
+    ∷ fault Demand3 OnlyAcknowledges
+    ∷ fault Demand3 EntersTwice
     -- orders that follow each other, and their reverses
-    ∷ (orderFaults 8 ++ orderFaults 16)
+    ∷ (orderFaults 8 ++ (testFaults 8 ++ (orderFaults 16 ++ (testFaults 16 ++ orderFaults 5))))
 
 unfoldable pub TurnedDown : Type 0
 TurnedDown = All Turned table
@@ -145,6 +170,8 @@ TurnedDown = All Turned table
 pub record Met : Type 0 where
   pub represents : (f : Representing) × MeetsRepresent f × RepresentLeast f
   pub compares : (f : Comparing) × MeetsSame f
+  pub terminal-represents : (f : Representing) × MeetsTerminalRepresent f × TerminalRepresentLeast f
+  pub terminal-compares : (f : Comparing) × MeetsTerminalSame f
   pub prunes : (f : Pruning) × MeetsPrune f × PruneExact f
   pub composes : (width : ℕ) → (f : Composing) × Composes width f
   pub inverts : (width : ℕ) → (f : Inverting) × Inverts width f

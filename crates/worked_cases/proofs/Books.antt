@@ -15,7 +15,7 @@ use Rattle.permutations.proofs.ListLaws.{every-all}
 use Rattle.grids.specs.Order.{rank, leq, less, equal}
 use Rattle.grids.specs.Grids.{capped, isGrid, gridOf, row, permutedRow, arrangement}
 use Rattle.grids.specs.Least.{arrangements, lesser, leastOf, least}
-use Rattle.grids.specs.Questions.{firstNo, inRange, question1, question2, question3, question6, question7}
+use Rattle.grids.specs.Questions.{firstNo, inRange, question1, question2, question3, question6, question7, question14, afterFirst}
 use Rattle.grids.proofs.OrderLaws.{equal-eq}
 use Rattle.bounds.specs.Bounds.{ranksWithin, between, inBounds, fillings, gridsWithin}
 use Rattle.bounds.specs.Kept.{obeyed, keeps, keptValues, lowestFrom, lowest, highestFrom, highest, keptLow, keptHigh, removedValues, removed}
@@ -23,7 +23,7 @@ use Rattle.bounds.specs.Allperm.{allperm}
 use Rattle.bounds.specs.Prune.{question8, boundsQuestions, prunedYes, pruned}
 use Rattle.layout.specs.Decimal.{lead, field, digit, valueFrom, value}
 use Rattle.layout.specs.Layout.{fields, entryWidth, lineLength, entryLine, blankLine, headLine, layout, layoutLength, numberAt, count, entryAt, decodeShape, decode, inLimits, ascending, isRegister, laidOut}
-use Rattle.machine.specs.Calls.{Outcome, answered, question4, question5, gridQuestions, holds, question9, question10, placeIn, insert, without, openQuestions, opened, enterInto, strikeFrom, enterQuestions, strikeQuestions, fitQuestions, enterRegister, strikeRegister, entered, struck, fitPruned, fitRegister, fitted}
+use Rattle.machine.specs.Calls.{Outcome, answered, question4, question5, gridQuestions, holds, question9, question10, placeIn, insert, without, openQuestions, opened, enterInto, strikeFrom, enterQuestions, strikeQuestions, fitQuestions, enterRegister, strikeRegister, entered, struck, fitPruned, fitRegister, fitted, terminalEnterQuestions, terminalEnterRegister, terminalEntered}
 use Rattle.machine.specs.CallLists.{registerCalls, called, run, left}
 use Rattle.worked_cases.specs.Text.{bytes, text}
 use Rattle.worked_cases.specs.Books.{Opening, Opens, openings, Book, KeptBook, books, BooksKept}
@@ -60,5 +60,5 @@ kept-so k t =
 -- ---- the statement
 
 pub books-kept : BooksKept
-unfolding opensSo keptSo bytes text flatten flatMap tabulate numbers select every some occurrences isPermutation words permutations rank leq less equal capped isGrid gridOf row permutedRow arrangement arrangements lesser leastOf least firstNo inRange question1 question2 question3 question6 question7 ranksWithin between inBounds fillings gridsWithin obeyed keeps keptValues lowestFrom lowest highestFrom highest keptLow keptHigh removedValues removed allperm question8 boundsQuestions prunedYes pruned lead field digit valueFrom value fields entryWidth lineLength entryLine blankLine headLine layout layoutLength numberAt count entryAt decodeShape decode inLimits ascending isRegister laidOut answered question4 question5 gridQuestions holds question9 question10 placeIn insert without openQuestions opened enterInto strikeFrom enterQuestions strikeQuestions fitQuestions enterRegister strikeRegister entered struck fitPruned fitRegister fitted registerCalls called run left openings books BooksKept
+unfolding opensSo keptSo bytes text flatten flatMap tabulate numbers select every some occurrences isPermutation words permutations rank leq less equal capped isGrid gridOf row permutedRow arrangement arrangements lesser leastOf least firstNo inRange question1 question2 question3 question6 question7 question14 afterFirst ranksWithin between inBounds fillings gridsWithin obeyed keeps keptValues lowestFrom lowest highestFrom highest keptLow keptHigh removedValues removed allperm question8 boundsQuestions prunedYes pruned lead field digit valueFrom value fields entryWidth lineLength entryLine blankLine headLine layout layoutLength numberAt count entryAt decodeShape decode inLimits ascending isRegister laidOut answered question4 question5 gridQuestions holds question9 question10 placeIn insert without openQuestions opened enterInto strikeFrom enterQuestions strikeQuestions fitQuestions enterRegister strikeRegister entered struck fitPruned fitRegister fitted terminalEnterQuestions terminalEnterRegister terminalEntered registerCalls called run left openings books BooksKept
 books-kept = (every-all Opens opensSo opens-so openings refl, every-all KeptBook keptSo kept-so books refl)

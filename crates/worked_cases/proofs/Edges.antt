@@ -12,19 +12,19 @@ use Rattle.permutations.proofs.ListLaws.{every-all}
 use Rattle.grids.specs.Order.{rank, less, leq, equal}
 use Rattle.grids.specs.Grids.{capped, isGrid, gridOf, arrangement}
 use Rattle.grids.specs.Least.{arrangements, lesser, leastOf, least}
-use Rattle.grids.specs.Questions.{firstNo, inRange, question1, question2, question3, question6, question7}
-use Rattle.canonical.specs.Represent.{representQuestions}
-use Rattle.canonical.specs.Same.{sameQuestions}
+use Rattle.grids.specs.Questions.{firstNo, inRange, question1, question2, question3, question6, question7, question14, afterFirst}
+use Rattle.canonical.specs.Represent.{representQuestions, terminalRepresentQuestions}
+use Rattle.canonical.specs.Same.{sameQuestions, terminalSameQuestions}
 use Rattle.bounds.specs.Prune.{question8, boundsQuestions}
 use Rattle.layout.specs.Decimal.{lead, field, digit, valueFrom, value}
 use Rattle.layout.specs.Layout.{fields, entryWidth, lineLength, entryLine, blankLine, headLine, layout, layoutLength, numberAt, count, entryAt, decodeShape, decode, inLimits, ascending, isRegister, laidOut}
-use Rattle.machine.specs.Calls.{question4, question5, gridQuestions, holds, question9, question10, openQuestions, enterQuestions, strikeQuestions, fitQuestions}
+use Rattle.machine.specs.Calls.{question4, question5, gridQuestions, holds, question9, question10, openQuestions, enterQuestions, strikeQuestions, fitQuestions, terminalEnterQuestions}
 use Rattle.machine.specs.CallLists.{questionsOf, accepted}
 use Rattle.worked_cases.specs.Text.{bytes, text}
-use Rattle.worked_cases.specs.Edges.{Edge, fresh, short, full, edges, EdgesHold, Accepted}
+use Rattle.worked_cases.specs.Edges.{Edge, fresh, short, full, tall, tallShort, edges, EdgesHold, Accepted}
 
 pub edges-hold : EdgesHold
-unfolding EdgesHold edges fresh short full bytes text flatten flatMap tabulate numbers select every some occurrences isPermutation words permutations rank less leq equal capped isGrid gridOf arrangement arrangements lesser leastOf least firstNo inRange question1 question2 question3 question6 question7 representQuestions sameQuestions question8 boundsQuestions lead field digit valueFrom value fields entryWidth lineLength entryLine blankLine headLine layout layoutLength numberAt count entryAt decodeShape decode inLimits ascending isRegister laidOut question4 question5 gridQuestions holds question9 question10 openQuestions enterQuestions strikeQuestions fitQuestions questionsOf
+unfolding EdgesHold edges fresh short full tall tallShort bytes text flatten flatMap tabulate numbers select every some occurrences isPermutation words permutations rank less leq equal capped isGrid gridOf arrangement arrangements lesser leastOf least firstNo inRange question1 question2 question3 question6 question7 question14 afterFirst representQuestions terminalRepresentQuestions sameQuestions terminalSameQuestions question8 boundsQuestions lead field digit valueFrom value fields entryWidth lineLength entryLine blankLine headLine layout layoutLength numberAt count entryAt decodeShape decode inLimits ascending isRegister laidOut question4 question5 gridQuestions holds question9 question10 openQuestions enterQuestions strikeQuestions fitQuestions terminalEnterQuestions questionsOf
 edges-hold = every-all (λ (e : Edge). firstNo (e .asked) ≡ e .number) (λ (e : Edge). eqb (firstNo (e .asked)) (e .number)) (λ e t. eqb-true _ _ t) edges refl
 
 pub accepted-hold : Accepted

@@ -15,7 +15,7 @@ use lib.ListN.{replicate}
 use Rattle.permutations.specs.Lists.{All}
 use Rattle.layout.specs.Layout.{Shape}
 use Rattle.machine.specs.Calls.{Outcome, opened}
-use Rattle.machine.specs.CallLists.{Call, enter, strike, fit, registerCalls, run, left}
+use Rattle.machine.specs.CallLists.{Call, enter, strike, fit, terminalEnter, registerCalls, run, left}
 use Rattle.worked_cases.specs.Text.{text}
 
 pub record Opening : Type 0 where
@@ -127,10 +127,36 @@ books =
     -- a register one byte short
     ∷ record {
       before = "     1     1     1     1     0\n" ∷ "   " ∷ [];
-      calls = enter (0 ∷ []) ∷ strike (0 ∷ []) ∷ fit (0 ∷ []) (1 ∷ []) ∷ [];
-      numbers = 5 ∷ 5 ∷ 5 ∷ [];
-      places = 0 ∷ 0 ∷ 0 ∷ [];
+      calls = enter (0 ∷ []) ∷ strike (0 ∷ []) ∷ fit (0 ∷ []) (1 ∷ []) ∷ terminalEnter (0 ∷ []) ∷ [];
+      numbers = 5 ∷ 5 ∷ 5 ∷ 5 ∷ [];
+      places = 0 ∷ 0 ∷ 0 ∷ 0 ∷ [];
       leaves = "     1     1     1     1     0\n" ∷ "   " ∷ [];
+    }
+    -- both sets of calls on one register
+    ∷ record {
+      before = "     2     2     1     2     0\n" ∷ "            \n" ∷ "            \n" ∷ [];
+      calls = terminalEnter (1 ∷ 0 ∷ 0 ∷ 1 ∷ [])
+          ∷ enter (0 ∷ 1 ∷ 1 ∷ 0 ∷ [])
+          ∷ terminalEnter (1 ∷ 1 ∷ 0 ∷ 0 ∷ [])
+          ∷ terminalEnter (0 ∷ 1 ∷ 0 ∷ 1 ∷ [])
+          ∷ strike (1 ∷ 1 ∷ 0 ∷ 0 ∷ [])
+          ∷ enter (0 ∷ 1 ∷ 0 ∷ 1 ∷ [])
+          ∷ terminalEnter (1 ∷ 0 ∷ 1 ∷ 0 ∷ [])
+          ∷ fit (0 ∷ 0 ∷ 0 ∷ 0 ∷ []) (1 ∷ 1 ∷ 1 ∷ 1 ∷ [])
+          ∷ terminalEnter (2 ∷ 0 ∷ 0 ∷ 0 ∷ [])
+          ∷ terminalEnter (2 ∷ [])
+          ∷ [];
+      numbers = 0 ∷ 101 ∷ 0 ∷ 9 ∷ 0 ∷ 0 ∷ 101 ∷ 0 ∷ 7 ∷ 6 ∷ [];
+      places = 1 ∷ 1 ∷ 1 ∷ 0 ∷ 1 ∷ 1 ∷ 1 ∷ 2 ∷ 0 ∷ 0 ∷ [];
+      leaves = "     2     2     1     2     2\n" ∷ "  0  1  0  1\n" ∷ "  0  1  1  0\n" ∷ [];
+    }
+    -- 6 rows are refused at a terminal, whatever the grid is
+    ∷ record {
+      before = "     6     1     1     1     0\n" ∷ "                  \n" ∷ [];
+      calls = terminalEnter (0 ∷ 0 ∷ 0 ∷ 0 ∷ 0 ∷ 0 ∷ []) ∷ terminalEnter (2 ∷ []) ∷ [];
+      numbers = 14 ∷ 14 ∷ [];
+      places = 0 ∷ 0 ∷ [];
+      leaves = "     6     1     1     1     0\n" ∷ "                  \n" ∷ [];
     }
     ∷ []
 

@@ -4,6 +4,7 @@
 --   Edge      ==  the questions asked, and the number that they give
 --   zeros k   ==  k cells of 0
 --   fresh, short, full  ==  the bytes of an open register of 1 row, 1 column, top 1 and capacity 1; the same less the last byte; and with the entry 0
+--   tall, tallShort     ==  the bytes of an open register of 6 rows, and the same less the last byte
 --   edges     ==  the table
 --   EdgesHold ==  the statement: every edge gives its number
 --   Accepted  ==  of the numbers up to 103, those that are no refusals
@@ -13,11 +14,11 @@ use Prim.Native.Nat.{ℕ}
 use lib.ListN.{replicate}
 use Rattle.permutations.specs.Lists.{All, numbers, select}
 use Rattle.grids.specs.Questions.{Question, firstNo}
-use Rattle.canonical.specs.Represent.{representQuestions}
-use Rattle.canonical.specs.Same.{sameQuestions}
+use Rattle.canonical.specs.Represent.{representQuestions, terminalRepresentQuestions}
+use Rattle.canonical.specs.Same.{sameQuestions, terminalSameQuestions}
 use Rattle.bounds.specs.Prune.{pruneQuestions}
 use Rattle.machine.specs.Calls.{shape, openQuestions}
-use Rattle.machine.specs.CallLists.{enter, strike, fit, questionsOf, accepted}
+use Rattle.machine.specs.CallLists.{enter, strike, fit, terminalEnter, questionsOf, accepted}
 use Rattle.worked_cases.specs.Text.{text}
 
 pub record Edge : Type 0 where
@@ -35,6 +36,12 @@ short = text ("     1     1     1     1     0\n" ∷ "   " ∷ [])
 
 unfoldable pub full : List ℕ
 full = text ("     1     1     1     1     1\n" ∷ "  0\n" ∷ [])
+
+unfoldable pub tall : List ℕ
+tall = text ("     6     1     1     1     0\n" ∷ "                  \n" ∷ [])
+
+unfoldable pub tallShort : List ℕ
+tallShort = text ("     6     1     1     1     0\n" ∷ "                  " ∷ [])
 
 unfoldable pub edges : List Edge
 edges =
@@ -110,6 +117,37 @@ edges =
     ∷ record { asked = questionsOf fresh (fit (2 ∷ []) (0 ∷ [])); number = 7 }
     ∷ record { asked = questionsOf fresh (fit (1 ∷ []) (0 ∷ [])); number = 8 }
     ∷ record { asked = questionsOf fresh (fit (0 ∷ []) (0 ∷ [])); number = 0 }
+    -- a terminal's represent: 1, 14, 2, 3, 6, 7; rows 0 and 9 are still 1, and 6 rows with 17 columns is 14
+    ∷ record { asked = terminalRepresentQuestions 0 0 16 (17 ∷ []) []; number = 1 }
+    ∷ record { asked = terminalRepresentQuestions 9 17 16 (17 ∷ []) []; number = 1 }
+    ∷ record { asked = terminalRepresentQuestions 6 17 16 (17 ∷ []) []; number = 14 }
+    ∷ record { asked = terminalRepresentQuestions 7 0 16 (17 ∷ []) []; number = 14 }
+    ∷ record { asked = terminalRepresentQuestions 8 1 0 (zeros 8) (zeros 8); number = 14 }
+    ∷ record { asked = terminalRepresentQuestions 5 17 16 (17 ∷ []) []; number = 2 }
+    ∷ record { asked = terminalRepresentQuestions 5 16 16 (17 ∷ []) []; number = 3 }
+    ∷ record { asked = terminalRepresentQuestions 5 16 15 (17 ∷ []) []; number = 6 }
+    ∷ record { asked = terminalRepresentQuestions 1 1 15 (17 ∷ []) (17 ∷ []); number = 7 }
+    ∷ record { asked = terminalRepresentQuestions 5 16 15 (zeros 80) (zeros 80); number = 0 }
+    -- a terminal's same: 1, 14, 2, 3, 6, 7
+    ∷ record { asked = terminalSameQuestions 0 0 16 (17 ∷ []) []; number = 1 }
+    ∷ record { asked = terminalSameQuestions 9 17 16 (17 ∷ []) []; number = 1 }
+    ∷ record { asked = terminalSameQuestions 6 17 16 (17 ∷ []) []; number = 14 }
+    ∷ record { asked = terminalSameQuestions 8 1 0 (zeros 8) (zeros 8); number = 14 }
+    ∷ record { asked = terminalSameQuestions 5 17 16 (17 ∷ []) []; number = 2 }
+    ∷ record { asked = terminalSameQuestions 5 16 16 (17 ∷ []) []; number = 3 }
+    ∷ record { asked = terminalSameQuestions 5 16 15 (zeros 80) (17 ∷ []); number = 6 }
+    ∷ record { asked = terminalSameQuestions 1 1 15 (15 ∷ []) (17 ∷ []); number = 7 }
+    ∷ record { asked = terminalSameQuestions 5 16 15 (zeros 80) (zeros 80); number = 0 }
+    -- a terminal's enter: 5, 14, 6, 7, 9
+    ∷ record { asked = questionsOf tallShort (terminalEnter (2 ∷ 2 ∷ [])); number = 5 }
+    ∷ record { asked = questionsOf tall (terminalEnter (2 ∷ 2 ∷ [])); number = 14 }
+    ∷ record { asked = questionsOf tall (terminalEnter (zeros 6)); number = 14 }
+    ∷ record { asked = questionsOf short (terminalEnter (2 ∷ 2 ∷ [])); number = 5 }
+    ∷ record { asked = questionsOf full (terminalEnter (2 ∷ 2 ∷ [])); number = 6 }
+    ∷ record { asked = questionsOf full (terminalEnter (2 ∷ [])); number = 7 }
+    ∷ record { asked = questionsOf full (terminalEnter (1 ∷ [])); number = 9 }
+    ∷ record { asked = questionsOf full (terminalEnter (0 ∷ [])); number = 0 }
+    ∷ record { asked = questionsOf fresh (terminalEnter (1 ∷ [])); number = 0 }
     ∷ []
 
 unfoldable pub EdgesHold : Type 0

@@ -1,7 +1,7 @@
 -- Orders that follow each other, their reverses and the starting one, as one table: what the definitions give, and the numbers listed.
 --
 --   OrderCase   ==  a list that a definition gives, and its numbers
---   starting8   ==  8 positions, each holding its own number
+--   starting8, starting5  ==  8 positions, and 5, each holding its own number
 --   orders      ==  the table
 --   OrdersHold  ==  the statement: every list has these numbers
 use mathlib.Core.Path.{_≡_}
@@ -17,6 +17,9 @@ pub record OrderCase : Type 0 where
 
 abbrev pub starting8 : List ℕ
 starting8 = 0 ∷ 1 ∷ 2 ∷ 3 ∷ 4 ∷ 5 ∷ 6 ∷ 7 ∷ []
+
+abbrev pub starting5 : List ℕ
+starting5 = 0 ∷ 1 ∷ 2 ∷ 3 ∷ 4 ∷ []
 
 unfoldable pub orders : List OrderCase
 orders =
@@ -38,6 +41,12 @@ orders =
     ∷ record { gives = inversePadded 8 2 (1 ∷ 1 ∷ []); numbers = starting8 }
     ∷ record { gives = inversePadded 8 2 (0 ∷ 2 ∷ []); numbers = starting8 }
     ∷ record { gives = inversePadded 8 9 (1 ∷ 0 ∷ 2 ∷ 3 ∷ 4 ∷ 5 ∷ 6 ∷ 7 ∷ 8 ∷ []); numbers = starting8 }
+    -- in a terminal's 5; there the sizes end at 5
+    ∷ record { gives = identity 5; numbers = starting5 }
+    ∷ record { gives = composedPadded 5 3 (1 ∷ 0 ∷ 2 ∷ 9 ∷ []) 3 (0 ∷ 2 ∷ 1 ∷ 9 ∷ []); numbers = 1 ∷ 2 ∷ 0 ∷ 3 ∷ 4 ∷ [] }
+    ∷ record { gives = inversePadded 5 5 (4 ∷ 0 ∷ 1 ∷ 2 ∷ 3 ∷ []); numbers = 1 ∷ 2 ∷ 3 ∷ 4 ∷ 0 ∷ [] }
+    ∷ record { gives = inversePadded 5 6 (1 ∷ 0 ∷ 2 ∷ 3 ∷ 4 ∷ 5 ∷ []); numbers = starting5 }
+    ∷ record { gives = composedPadded 5 5 (1 ∷ 0 ∷ 2 ∷ 3 ∷ 5 ∷ []) 5 (0 ∷ 1 ∷ 2 ∷ 3 ∷ 4 ∷ []); numbers = starting5 }
     ∷ []
 
 unfoldable pub OrdersHold : Type 0

@@ -4,13 +4,14 @@
 --   prefixes    ==  their table
 --   PairCase    ==  two grids with m rows, n columns and this top, same's number, and how many leading cells agree
 --   pairs       ==  their table
+--   terminalPairs  ==  the table of a terminal's same
 --   PairsHold   ==  the statement: the definitions give these numbers
 use mathlib.Core.Path.{_≡_}
 use mathlib.Core.List.{List, [], _∷_}
 use Prim.Native.Nat.{ℕ}
 use Rattle.permutations.specs.Lists.{All}
 use Rattle.grids.specs.CommonPrefix.{commonPrefixLength}
-use Rattle.canonical.specs.Same.{sameNumber, sameAgreed}
+use Rattle.canonical.specs.Same.{sameNumber, sameAgreed, terminalSameNumber, terminalSameAgreed}
 
 pub record PrefixCase : Type 0 where
   pub a : List ℕ
@@ -68,7 +69,20 @@ pairs =
     ∷ record { m = 1; n = 2; top = 1; a = 0 ∷ 1 ∷ []; b = 0 ∷ 2 ∷ []; number = 7; agreed = 0 }
     ∷ []
 
+unfoldable pub terminalPairs : List PairCase
+terminalPairs =
+    -- M6 and M5
+    record { m = 2; n = 2; top = 1; a = 0 ∷ 0 ∷ 1 ∷ 1 ∷ []; b = 0 ∷ 1 ∷ 0 ∷ 1 ∷ []; number = 103; agreed = 1 }
+    ∷ record { m = 1; n = 3; top = 3; a = 3 ∷ 0 ∷ 2 ∷ []; b = 0 ∷ 2 ∷ 3 ∷ []; number = 0; agreed = 3 }
+    -- a refusal has 0; 6 rows are refused by 14 and 9 by 1, though the grids are equal
+    ∷ record { m = 6; n = 1; top = 0; a = 0 ∷ 0 ∷ 0 ∷ 0 ∷ 0 ∷ 0 ∷ []; b = 0 ∷ 0 ∷ 0 ∷ 0 ∷ 0 ∷ 0 ∷ []; number = 14; agreed = 0 }
+    ∷ record { m = 8; n = 17; top = 16; a = []; b = 0 ∷ []; number = 14; agreed = 0 }
+    ∷ record { m = 9; n = 1; top = 0; a = []; b = []; number = 1; agreed = 0 }
+    ∷ record { m = 5; n = 1; top = 0; a = 0 ∷ []; b = 0 ∷ []; number = 6; agreed = 0 }
+    ∷ []
+
 unfoldable pub PairsHold : Type 0
 PairsHold =
     All (λ c. commonPrefixLength (c .a) (c .b) ≡ c .agreed) prefixes
     × All (λ c. (sameNumber (c .m) (c .n) (c .top) (c .a) (c .b) ≡ c .number) × (sameAgreed (c .m) (c .n) (c .top) (c .a) (c .b) ≡ c .agreed)) pairs
+    × All (λ c. (terminalSameNumber (c .m) (c .n) (c .top) (c .a) (c .b) ≡ c .number) × (terminalSameAgreed (c .m) (c .n) (c .top) (c .a) (c .b) ≡ c .agreed)) terminalPairs

@@ -92,6 +92,16 @@ pub fn starting_match(number: u32, agreed: u32) -> Matched {
     }
 }
 
+/// A terminal's represent, its row order lengthened to the 8 positions of the others that it is
+/// compared with. That is little work beside the call.
+pub fn terminal_represent(m: usize, n: usize, top: usize, grid: &[u8], out: &mut [u8]) -> Arranged {
+    let arranged = plan_register::terminal_represent(m, n, top, grid, out);
+    let mut lengthened = starting(arranged.number);
+    lengthened.rows[..5].copy_from_slice(&arranged.rows);
+    lengthened.columns = arranged.columns;
+    lengthened
+}
+
 /// This number with no value removed.
 pub fn unpruned(number: u32) -> Counted {
     Counted { number, count: 0 }

@@ -21,9 +21,9 @@ const RANDOM_GRIDS: usize = 20;
 /// All inputs, the same in every run.
 pub fn inputs() -> Vec<Grids> {
     let mut inputs = vec![
-        random_grids(1, 8, 16, 15),
-        random_grids(2, 8, 16, 1),
-        random_grids(3, 5, 16, 15),
+        Grids::random("represent", 1, 8, 16, 15),
+        Grids::random("represent", 2, 8, 16, 1),
+        Grids::random("represent", 3, 5, 16, 15),
     ];
     let designs = [
         zero(8, 16),
@@ -35,26 +35,34 @@ pub fn inputs() -> Vec<Grids> {
         fano(),
         efpa(),
     ];
-    inputs.extend(designs.map(|design| Grids {
-        name: format!("represent: {}", design.name),
-        grids: vec![design],
-    }));
+    inputs.extend(designs.map(|design| Grids::one("represent", design)));
     inputs
 }
 
-fn random_grids(seed: u64, m: usize, n: usize, top: u8) -> Grids {
-    let mut random = Random::new(seed);
-    let name = format!("represent: random {m}x{n}, top {top}");
-    let grid = |_| Design {
-        name: name.clone(),
-        m,
-        n,
-        top,
-        cells: random.cells(m * n, top),
-    };
-    Grids {
-        grids: (0..RANDOM_GRIDS).map(grid).collect(),
-        name,
+impl Grids {
+    /// This grid alone, for the call of this name.
+    pub fn one(call: &str, design: Design) -> Grids {
+        Grids {
+            name: format!("{call}: {}", design.name),
+            grids: vec![design],
+        }
+    }
+
+    /// Random grids for the call of this name.
+    pub fn random(call: &str, seed: u64, m: usize, n: usize, top: u8) -> Grids {
+        let mut random = Random::new(seed);
+        let name = format!("{call}: random {m}x{n}, top {top}");
+        let grid = |_| Design {
+            name: name.clone(),
+            m,
+            n,
+            top,
+            cells: random.cells(m * n, top),
+        };
+        Grids {
+            grids: (0..RANDOM_GRIDS).map(grid).collect(),
+            name,
+        }
     }
 }
 

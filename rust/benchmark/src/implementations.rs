@@ -1,6 +1,6 @@
 //! The implementations that are compared, and the ratios of their times.
 
-use crate::call::{Change, Fit, Open, Prune, Represent, Same};
+use crate::call::{terminal_represent, Change, Fit, Open, Prune, Represent, Same};
 use crate::register_calls::Pass;
 use crate::table::{self, Table};
 use crate::{branch_and_bound, packed_theorem_1, same_search, theorem_1};
@@ -16,6 +16,16 @@ pub const REPRESENT: Table<Represent, 5> = Table {
         ("vectorised search", branch_and_bound::represent),
     ],
     ratios: &[(0, 2), (1, 2), (2, 3), (2, 4)],
+};
+
+/// Represent at a terminal: the terminal's time is the divisor.
+pub const TERMINAL: Table<Represent, 3> = Table {
+    implementations: [
+        ("Theorem 1", theorem_1::represent),
+        ("order system", plan_register::represent),
+        (table::TERMINAL, terminal_represent),
+    ],
+    ratios: &[(0, 2), (1, 2)],
 };
 
 /// Same.

@@ -19,6 +19,7 @@
 //! | `implementations`  | what is compared                                             |
 //! | `inputs`           | what the timing needs of inputs                              |
 //! | `grids`            | the grids that are timed                                     |
+//! | `terminal_grids`   | those that are timed at a terminal                           |
 //! | `pairs`            | the pairs of grids that are timed                            |
 //! | `bounds`           | the bounds that are timed                                    |
 //! | `openings`         | the registers that are opened                                |
@@ -54,6 +55,7 @@ pub mod same_pruning;
 pub mod same_search;
 mod scan;
 pub mod table;
+pub mod terminal_grids;
 pub mod theorem_1;
 pub mod timing;
 pub mod value_by_value;

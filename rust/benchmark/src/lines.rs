@@ -7,10 +7,12 @@ use crate::openings::{self, Opening};
 use crate::pairs::{self, Pairs};
 use crate::register_calls::{reading, writing, RegisterCall};
 use crate::registers;
+use crate::terminal_grids;
 
 /// The lines of each table.
 pub struct Lines {
     pub represent: Vec<Grids>,
+    pub terminal: Vec<Grids>,
     pub same: Vec<Pairs>,
     pub prune: Vec<Bounds>,
     pub open: Vec<Opening>,
@@ -24,6 +26,7 @@ impl Lines {
         let registers = registers::inputs();
         Lines {
             represent: grids::inputs(),
+            terminal: terminal_grids::inputs(),
             same: pairs::inputs(),
             prune: bounds::inputs(),
             open: openings::inputs(),
@@ -34,7 +37,8 @@ impl Lines {
 
     /// The names of the lines, in order.
     pub fn names(&self) -> Vec<&str> {
-        let represent = self.represent.iter().map(Input::name);
+        let represent = self.represent.iter().chain(&self.terminal);
+        let represent = represent.map(Input::name);
         let same = self.same.iter().map(Input::name);
         let prune = self.prune.iter().map(Input::name);
         let open = self.open.iter().map(Input::name);
@@ -54,6 +58,7 @@ impl Lines {
         let is_chosen =
             |name: &str| parts.is_empty() || parts.iter().any(|part| name.contains(part));
         self.represent.retain(|line| is_chosen(line.name()));
+        self.terminal.retain(|line| is_chosen(line.name()));
         self.same.retain(|line| is_chosen(line.name()));
         self.prune.retain(|line| is_chosen(line.name()));
         self.open.retain(|line| is_chosen(line.name()));
@@ -77,13 +82,14 @@ mod tests {
     #[test]
     fn no_two_lines_have_one_name() {
         let names = chosen(&[]).unwrap();
-        assert_eq!(names.len(), 46);
-        assert_eq!(BTreeSet::from_iter(names).len(), 46);
+        assert_eq!(names.len(), 56);
+        assert_eq!(BTreeSet::from_iter(names).len(), 56);
     }
 
     #[test]
     fn lines_are_chosen_by_parts_of_their_names() {
         assert_eq!(chosen(&["Fano"]).unwrap(), ["represent: Fano 7x7"]);
+        assert_eq!(chosen(&["terminal represent: "]).unwrap().len(), 10);
         assert_eq!(chosen(&["prune: "]).unwrap().len(), 6);
         assert_eq!(chosen(&["enter, held"]).unwrap().len(), 4);
         let two = ["represent: EFPA 4x6", "prune: one value 8x16, top 15"];

@@ -1,6 +1,6 @@
 //! Prints how fast the calls are on each input, as Markdown tables.
 
-use benchmark::implementations::{OPEN, PRUNE, READING, REPRESENT, SAME, WRITING};
+use benchmark::implementations::{OPEN, PRUNE, READING, REPRESENT, SAME, TERMINAL, WRITING};
 use benchmark::inputs::Input;
 use benchmark::lines::Lines;
 use benchmark::options::{read, Asked, Printed, HELP};
@@ -36,6 +36,7 @@ fn answered(arguments: impl Iterator<Item = String>) -> Result<(), String> {
 
 fn print_ratios(lines: &Lines) {
     print_table(&REPRESENT, &lines.represent);
+    print_table(&TERMINAL, &lines.terminal);
     print_table(&SAME, &lines.same);
     print_table(&PRUNE, &lines.prune);
     print_table(&OPEN, &lines.open);
@@ -75,6 +76,7 @@ fn print_register_table<const N: usize>(table: &Table<Pass, N>, calls: &[Registe
 fn print_times(lines: &Lines) {
     print!("{}", times_heading());
     print_times_of(&REPRESENT, &lines.represent);
+    print_times_of(&TERMINAL, &lines.terminal);
     print_times_of(&SAME, &lines.same);
     print_times_of(&PRUNE, &lines.prune);
     print_times_of(&OPEN, &lines.open);

@@ -47,8 +47,8 @@ the calls on a register beside a copy of its bytes.
     --list    print the names of the lines and measure nothing
     --help    print this, as does -h, and measure nothing
 
-Prints Markdown tables. All ratios take about two minutes, all times about half a minute; some of
-the lines take less.
+Prints Markdown tables. All ratios take two to three minutes, all times about half a minute; some
+of the lines take less.
 ";
 
 #[cfg(test)]

@@ -78,12 +78,16 @@ impl Search {
                 _ => self.m,
             };
         }
-        let (from, above) = self.bounded(k, placed, breaks);
+        let (from, above, made) = self.bounded(k, placed, breaks);
+        let lowest = self.best;
         for t in (from..self.m).filter(|&t| !above[t]) {
             if self.is_repeated(k, t, placed) {
                 continue;
             }
-            let next = self.candidate(k, t, placed, breaks);
+            let next = match made && t == from {
+                true => lowest,
+                false => self.candidate(k, t, placed, breaks),
+            };
             if self.lower_best(k, &next) != Ordering::Greater {
                 let back = self.place(k + 1, &next, &self.split(k, &next, breaks));
                 if back < k {
@@ -101,23 +105,29 @@ impl Search {
     }
 
     /// If no other row was tried at position k, lowers the best to the least candidate; not so
-    /// with four rows or fewer, where it does not pay. Returns the first position that can
-    /// attain the best, and the positions known to be above it.
-    fn bounded(&mut self, k: usize, placed: &Arranged, breaks: &[bool; 16]) -> (usize, [bool; 8]) {
-        let mut from = k;
+    /// with four rows or fewer, or with two left, where it does not pay. Returns the first
+    /// position that can attain the best, the positions known to be above it, and whether the best
+    /// is now the candidate at the first.
+    fn bounded(
+        &mut self,
+        k: usize,
+        placed: &Arranged,
+        breaks: &[bool; 16],
+    ) -> (usize, [bool; 8], bool) {
+        let (mut from, mut made) = (k, false);
         let mut above = [false; 8];
-        if self.m <= 4 || self.best.rows[..=k] != placed.rows[..=k] {
-            return (from, above);
+        if self.m <= 4 || self.m <= k + 2 || self.best.rows[..=k] != placed.rows[..=k] {
+            return (from, above, made);
         }
         for (t, is_above) in above.iter_mut().enumerate().take(self.m).skip(k) {
             let next = self.candidate(k, t, placed, breaks);
             match self.lower_best(k, &next) {
-                Ordering::Less => from = t,
+                Ordering::Less => (from, made) = (t, true),
                 Ordering::Equal => {}
                 Ordering::Greater => *is_above = true,
             }
         }
-        (from, above)
+        (from, above, made)
     }
 
     /// Does the row at position t equal one at a position from k up to t?

@@ -6,6 +6,9 @@ use std::time::Duration;
 /// The name of the verified library among the implementations.
 pub const LIBRARY: &str = "plan_register";
 
+/// Its name where its calls for terminals are beside those of the order system.
+pub const TERMINAL: &str = "terminal";
+
 /// A table: the implementations of a call by name, and which times are divided by which.
 pub struct Table<Call, const N: usize> {
     pub implementations: [(&'static str, Call); N],
@@ -20,7 +23,7 @@ impl<Call: Copy, const N: usize> Table<Call, N> {
     /// The call as the library answers it.
     pub fn library(&self) -> Call {
         let mut calls = self.implementations.iter();
-        let library = calls.find(|(name, _)| *name == LIBRARY);
+        let library = calls.find(|(name, _)| [LIBRARY, TERMINAL].contains(name));
         library.expect("the library is compared").1
     }
 
@@ -97,6 +100,11 @@ mod tests {
     #[test]
     fn the_library_is_found_by_its_name() {
         assert_eq!(TABLE.library(), 'l');
+        let at_terminal: Table<char, 2> = Table {
+            implementations: [("order system", 'o'), ("terminal", 't')],
+            ratios: &[(0, 1)],
+        };
+        assert_eq!(at_terminal.library(), 't');
     }
 
     #[test]

@@ -31,6 +31,7 @@ fn check(register: &mut Vec<u8>, call: &Call) -> u32 {
             let fitted = plain_register::fit(register, low, high);
             (fitted.number, fitted.count)
         }
+        Call::TerminalEnter(_) => unreachable!("plain Rust has no terminal's enter"),
     };
     let found = Answer {
         number,

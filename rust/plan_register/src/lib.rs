@@ -6,22 +6,25 @@
 //! not pass a call's questions is refused by number, and a refusal changes no byte.
 //! `docs/GUIDE.md` tells how to use them.
 //!
-//! | module      | what                                                      |
-//! |-------------|-----------------------------------------------------------|
-//! | `numbers`   | the numbers that the calls answer                         |
-//! | `grids`     | represent and same                                        |
-//! | `arranged`  | what represent returns                                    |
-//! | `matched`   | what same returns                                         |
-//! | `agreement` | how far two plans agree, in words                         |
-//! | `bounds`    | prune                                                     |
-//! | `bytes`     | open, enter, strike and fit                               |
-//! | `placed`    | what the first three return                               |
-//! | `counted`   | what prune and fit return                                 |
-//! | `register`  | a register that owns its bytes                            |
-//! | `entered`   | what it returns for a class entered                       |
-//! | `fields`    | the numbers that it reads from its bytes                  |
-//! | `refusal`   | the numbers of refusals, as errors                        |
-//! | `sys`       | the library's declarations, and why calling them is sound |
+//! | module              | what                                                      |
+//! |---------------------|-----------------------------------------------------------|
+//! | `numbers`           | the numbers that the calls answer                         |
+//! | `grids`             | represent and same                                        |
+//! | `arranged`          | what represent returns                                    |
+//! | `matched`           | what same returns                                         |
+//! | `agreement`         | how far two plans agree, in words                         |
+//! | `bounds`            | prune                                                     |
+//! | `bytes`             | open, enter, strike and fit                               |
+//! | `placed`            | what the first three return                               |
+//! | `counted`           | what prune and fit return                                 |
+//! | `terminals`         | a shop terminal's represent, same and enter               |
+//! | `terminal_arranged` | what a terminal's represent returns                       |
+//! | `terminal_matched`  | what a terminal's same returns                            |
+//! | `register`          | a register that owns its bytes                            |
+//! | `entered`           | what it returns for a class entered                       |
+//! | `fields`            | the numbers that it reads from its bytes                  |
+//! | `refusal`           | the numbers of refusals, as errors                        |
+//! | `sys`               | the library's declarations, and why calling them is sound |
 
 #![deny(unsafe_code)]
 
@@ -40,6 +43,9 @@ mod refusal;
 mod register;
 #[allow(unsafe_code)]
 mod sys;
+mod terminal_arranged;
+mod terminal_matched;
+mod terminals;
 
 pub use agreement::Agreement;
 pub use arranged::Arranged;
@@ -52,6 +58,9 @@ pub use matched::Matched;
 pub use placed::Placed;
 pub use refusal::Refusal;
 pub use register::Register;
+pub use terminal_arranged::TerminalArranged;
+pub use terminal_matched::TerminalMatched;
+pub use terminals::{terminal_enter, terminal_represent, terminal_same};
 
 /// The examples of the guide.
 #[cfg(doctest)]

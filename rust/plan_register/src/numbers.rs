@@ -1,6 +1,6 @@
-//! The numbers that the calls answer, document 01's own.
+//! The numbers that the calls answer, those of documents 01 and 02.
 //!
-//! 1 to 10 are refusals: the number of the first question that gets a no. The others are none.
+//! 1 to 10 and 14 are refusals: the number of the first question that gets a no. The others are none.
 
 /// The call is done.
 pub const DONE: u32 = 0;
@@ -24,6 +24,8 @@ pub const BOUNDS: u32 = 8;
 pub const FULL: u32 = 9;
 /// Refused: the class is not held.
 pub const NOT_HELD: u32 = 10;
+/// Refused: a terminal's rows are 6 to 8.
+pub const TERMINAL_ROWS: u32 = 14;
 /// Enter: the class was held already.
 pub const HELD: u32 = 101;
 /// Prune and fit: no grid within the bounds has allperm.

@@ -4,7 +4,8 @@ use crate::numbers;
 use std::error::Error;
 use std::fmt;
 
-/// The question that a call did not pass. Of several it is the first, in this order.
+/// The question that a call did not pass. Of several it is the first. They are asked by number, but
+/// 14, which only terminals ask, directly after 1, or after 5 where the rows come from a register.
 ///
 /// ```
 /// use plan_register::{Refusal, Register};
@@ -37,11 +38,13 @@ pub enum Refusal {
     Full = numbers::FULL,
     /// 10: the class is not held.
     NotHeld = numbers::NOT_HELD,
+    /// 14: a terminal's rows are 6 to 8.
+    TerminalRows = numbers::TERMINAL_ROWS,
 }
 
 impl Refusal {
     /// Every refusal, by number.
-    pub const ALL: [Refusal; 10] = [
+    pub const ALL: [Refusal; 11] = [
         Refusal::Rows,
         Refusal::Columns,
         Refusal::Top,
@@ -52,9 +55,10 @@ impl Refusal {
         Refusal::Bounds,
         Refusal::Full,
         Refusal::NotHeld,
+        Refusal::TerminalRows,
     ];
 
-    /// The question's number, 1 to 10.
+    /// The question's number, 1 to 10 or 14.
     #[must_use]
     pub fn number(self) -> u32 {
         self as u32
@@ -91,6 +95,7 @@ impl Refusal {
             Refusal::Bounds => "a low is above its high",
             Refusal::Full => "the class is not held, and the register is full",
             Refusal::NotHeld => "the class is not held",
+            Refusal::TerminalRows => "a terminal's rows are 6 to 8",
         }
     }
 }

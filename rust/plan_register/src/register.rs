@@ -2,8 +2,8 @@
 
 use crate::fields::{cells, number};
 use crate::numbers::{DONE, HELD, NO_GRID};
-use crate::{enter, fit, open, strike};
-use crate::{Entered, Refusal};
+use crate::{enter, fit, open, strike, terminal_enter};
+use crate::{Entered, Placed, Refusal};
 use std::fmt;
 
 /// Line 1: five fields, each 6 wide, and a line feed.
@@ -188,13 +188,23 @@ impl Register {
     /// assert_eq!(register.enter(&[0, 4]), Err(Refusal::Cell));
     /// ```
     pub fn enter(&mut self, grid: &[u8]) -> Result<Entered, Refusal> {
-        let entered = enter(&mut self.bytes, grid);
-        let place = entered.place as usize;
-        match entered.number {
-            DONE => Ok(Entered::New { place }),
-            HELD => Ok(Entered::Held { place }),
-            number => Err(Refusal::answered(number)),
-        }
+        entered(enter(&mut self.bytes, grid))
+    }
+
+    /// Enters the grid's class at a terminal, as [`terminal_enter`] does: where the register has at
+    /// most 5 rows, as [`Register::enter`]. Refused by number 14, 6, 7 or 9.
+    ///
+    /// ```
+    /// use plan_register::{Entered, Refusal, Register};
+    ///
+    /// let mut register = Register::open(1, 2, 3, 1).unwrap();
+    /// assert_eq!(register.terminal_enter(&[3, 0]), Ok(Entered::New { place: 1 }));
+    /// assert_eq!(register.enter(&[0, 3]), Ok(Entered::Held { place: 1 }));
+    /// let mut large = Register::open(6, 1, 3, 1).unwrap();
+    /// assert_eq!(large.terminal_enter(&[0; 6]), Err(Refusal::TerminalRows));
+    /// ```
+    pub fn terminal_enter(&mut self, grid: &[u8]) -> Result<Entered, Refusal> {
+        entered(terminal_enter(&mut self.bytes, grid))
     }
 
     /// Strikes the grid's class, as [`strike`] does: the line that its entry had. Refused by
@@ -236,6 +246,16 @@ impl Register {
             NO_GRID => Ok(None),
             number => Err(Refusal::answered(number)),
         }
+    }
+}
+
+/// What either enter answered.
+fn entered(placed: Placed) -> Result<Entered, Refusal> {
+    let place = placed.place as usize;
+    match placed.number {
+        DONE => Ok(Entered::New { place }),
+        HELD => Ok(Entered::Held { place }),
+        number => Err(Refusal::answered(number)),
     }
 }
 

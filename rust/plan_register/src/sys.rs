@@ -9,7 +9,7 @@
 //! come from one slice, which is lent until the call returns. A slice lent mutably overlaps no
 //! other.
 
-use crate::{Arranged, Counted, Matched, Placed};
+use crate::{Arranged, Counted, Matched, Placed, TerminalArranged, TerminalMatched};
 use std::mem::{align_of, offset_of, size_of};
 
 unsafe extern "C" {
@@ -74,6 +74,33 @@ unsafe extern "C" {
         high: *const u8,
         high_length: usize,
     ) -> Counted;
+
+    pub fn plan_register_terminal_represent(
+        m: usize,
+        n: usize,
+        top: usize,
+        grid: *const u8,
+        grid_length: usize,
+        out: *mut u8,
+        out_length: usize,
+    ) -> TerminalArranged;
+
+    pub fn plan_register_terminal_same(
+        m: usize,
+        n: usize,
+        top: usize,
+        a: *const u8,
+        a_length: usize,
+        b: *const u8,
+        b_length: usize,
+    ) -> TerminalMatched;
+
+    pub fn plan_register_terminal_enter(
+        register: *mut u8,
+        register_length: usize,
+        grid: *const u8,
+        grid_length: usize,
+    ) -> Placed;
 }
 
 // The structs as C lays them out.
@@ -96,4 +123,15 @@ const _: () = {
     assert!(size_of::<Counted>() == 8 && align_of::<Counted>() == 4);
     assert!(offset_of!(Counted, number) == 0);
     assert!(offset_of!(Counted, count) == 4);
+
+    assert!(size_of::<TerminalArranged>() == 28 && align_of::<TerminalArranged>() == 4);
+    assert!(offset_of!(TerminalArranged, number) == 0);
+    assert!(offset_of!(TerminalArranged, rows) == 4);
+    assert!(offset_of!(TerminalArranged, columns) == 9);
+
+    assert!(size_of::<TerminalMatched>() == 32 && align_of::<TerminalMatched>() == 4);
+    assert!(offset_of!(TerminalMatched, number) == 0);
+    assert!(offset_of!(TerminalMatched, agreed) == 4);
+    assert!(offset_of!(TerminalMatched, rows) == 8);
+    assert!(offset_of!(TerminalMatched, columns) == 13);
 };

@@ -38,7 +38,30 @@ strike 5, place 0
 strike 0, place 1
 strike 10, place 0
      2     2     1     1     0
-            \n";
+            \n\
+terminal represent 14: 0 1 2 3 4
+ 0 1 2 3 4 5 6 7 8 9 10 11 12 13 14 15
+ 9 9 9 9 9 9
+terminal represent 0: 1 0 2 3 4
+ 2 0 1 3 4 5 6 7 8 9 10 11 12 13 14 15
+ 1 2 3 3 2 2
+terminal same 0, agreed 6: 1 0 2 3 4
+ 2 0 1 3 4 5 6 7 8 9 10 11 12 13 14 15
+terminal same 14, agreed 0: 0 1 2 3 4
+ 0 1 2 3 4 5 6 7 8 9 10 11 12 13 14 15
+terminal same 103, agreed 5: 0 1 2 3 4
+ 0 1 2 3 4 5 6 7 8 9 10 11 12 13 14 15
+open 0, place 0
+terminal enter 0, place 1
+enter 101, place 1
+terminal enter 101, place 1
+terminal enter 9, place 0
+     2     2     1     1     1
+  0  1  1  0
+open 0, place 0
+terminal enter 14, place 0
+enter 0, place 1
+";
 
 fn root() -> &'static Path {
     let root = Path::new(env!("CARGO_MANIFEST_DIR")).ancestors().nth(2);

@@ -28,8 +28,11 @@ fn a_class_is_held_by_its_representative_alone() {
     let entered = check(Call::Enter(cells("10/01")), 0, 2);
     assert_eq!(entered, holding(2, 2, 1, 3, &three).bytes());
     check(Call::Enter(cells("10/01")), 101, 2);
+    check(Call::TerminalEnter(cells("10/01")), 101, 2);
     check(Call::Enter(cells("11/11")), 9, 0);
     assert_eq!(check(Call::Strike(cells("10/01")), 0, 2), before);
+    let entered = check(Call::TerminalEnter(cells("10/01")), 0, 2);
+    assert_eq!(entered, holding(2, 2, 1, 3, &three).bytes());
 }
 
 #[test]
@@ -66,7 +69,7 @@ impl Met {
     /// Notes what the answer to the call on this register brought up.
     fn note(&mut self, before: &Contents, call: &Call, answer: Answer) {
         match call {
-            Call::Enter(grid) if answer.number == 0 => {
+            Call::Enter(grid) | Call::TerminalEnter(grid) if answer.number == 0 => {
                 self.entered += usize::from(another_stands_in(before, grid));
             }
             Call::Strike(grid) if answer.number == 10 => {
@@ -90,9 +93,9 @@ fn another_stands_in(contents: &Contents, grid: &[u8]) -> bool {
     entries.any(|entry| *entry != least && in_class.contains(entry))
 }
 
-#[test]
-fn lists_on_random_entries() {
-    let mut random = Random::new(101);
+/// Checks lists of calls, which the pool makes so, on registers with random entries.
+fn check_lists(seed: u64, call: fn(&Pool, &mut Random) -> Call) {
+    let mut random = Random::new(seed);
     let mut met = Met::default();
     for _ in 0..400 {
         let (m, n) = (random.between(2, 3) as usize, random.between(1, 3) as usize);
@@ -103,11 +106,21 @@ fn lists_on_random_entries() {
         pool.grids.extend(entries);
         for _ in 0..30 {
             let before = Contents::read(&register).expect("it is a register");
-            let call = pool.call(&mut random);
+            let call = call(&pool, &mut random);
             let answer = check_call(&mut register, &call);
             met.note(&before, &call, answer);
         }
     }
     let least = met.entered.min(met.not_held).min(met.pruned);
     assert!(least > 50, "{met:?}");
+}
+
+#[test]
+fn lists_on_random_entries() {
+    check_lists(101, Pool::call);
+}
+
+#[test]
+fn lists_of_both_sets_on_random_entries() {
+    check_lists(102, Pool::call_of_either_set);
 }

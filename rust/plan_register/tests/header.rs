@@ -31,6 +31,7 @@ fn the_header_has_the_numbers_of_the_wrapper() {
         ("BOUNDS", numbers::BOUNDS),
         ("FULL", numbers::FULL),
         ("NOT_HELD", numbers::NOT_HELD),
+        ("TERMINAL_ROWS", numbers::TERMINAL_ROWS),
         ("HELD", numbers::HELD),
         ("NO_GRID", numbers::NO_GRID),
         ("TWO_CLASSES", numbers::TWO_CLASSES),
@@ -40,11 +41,12 @@ fn the_header_has_the_numbers_of_the_wrapper() {
 }
 
 #[test]
-fn the_numbers_are_document_01s() {
+fn the_numbers_are_those_of_documents_01_and_02() {
     let values = constants(HEADER, "PLAN_REGISTER_", " = ").into_iter();
     let values: Vec<u32> = values.map(|(_, value)| value).collect();
-    assert_eq!(values, [0, 1, 2, 3, 4, 5, 6, 7, 8, 9, 10, 101, 102, 103]);
-    assert_eq!(values[1..=10], Refusal::ALL.map(Refusal::number));
+    let refusals = [1, 2, 3, 4, 5, 6, 7, 8, 9, 10, 14];
+    assert_eq!(values, [&[0], &refusals[..], &[101, 102, 103]].concat());
+    assert_eq!(refusals, Refusal::ALL.map(Refusal::number));
 }
 
 /// A call: its name, the types of its arguments and of its answer, in C's words.
@@ -61,8 +63,20 @@ fn call(text: &str, types: impl Fn(&str) -> Vec<&'static str>) -> Call {
     (
         name.to_string(),
         arguments.flat_map(types).collect(),
-        answer.expect("a call has an answer").to_lowercase(),
+        in_c(answer.expect("a call has an answer")),
     )
+}
+
+/// The name that a struct of Rust's has in C, in lower case, with an underscore between its words.
+fn in_c(name: &str) -> String {
+    let mut in_c = String::new();
+    for letter in name.chars() {
+        if letter.is_uppercase() && !in_c.is_empty() {
+            in_c.push('_');
+        }
+        in_c.extend(letter.to_lowercase());
+    }
+    in_c
 }
 
 /// The calls that the library's source exports.
@@ -110,7 +124,7 @@ fn declared_in_c() -> Vec<Call> {
 #[test]
 fn the_declarations_are_the_calls_of_the_library() {
     let exported = exported();
-    assert_eq!(exported.len(), 7);
+    assert_eq!(exported.len(), 10);
     assert_eq!(declared_in_c(), exported);
     assert_eq!(declared_in_rust(), exported);
 }

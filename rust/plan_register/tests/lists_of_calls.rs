@@ -5,41 +5,14 @@ mod common;
 
 use common::book::Book;
 use common::calls::{check_call, holding, opened};
+use common::met::{Met, ANSWERS};
+use common::shapes_of;
 use reference::calls::Call;
 use reference::examples::shapes_up_to;
 use reference::grid::least;
 use reference::lists::Pool;
 use reference::machine::Machine;
 use reference::random::Random;
-use std::collections::BTreeMap;
-
-/// How often each call answered each number.
-type Met = BTreeMap<(&'static str, u32), usize>;
-
-/// Every number that a call can answer on a register that was opened.
-const ANSWERS: [(&str, u32); 14] = [
-    ("enter", 0),
-    ("enter", 6),
-    ("enter", 7),
-    ("enter", 9),
-    ("enter", 101),
-    ("fit", 0),
-    ("fit", 6),
-    ("fit", 7),
-    ("fit", 8),
-    ("fit", 102),
-    ("strike", 0),
-    ("strike", 6),
-    ("strike", 7),
-    ("strike", 10),
-];
-
-/// Checks that each number came up so often at least, and no other number did.
-fn check_met(met: &Met, times: usize) {
-    let numbers: Vec<(&str, u32)> = met.keys().copied().collect();
-    assert_eq!(numbers, ANSWERS);
-    assert!(met.values().all(|&met| met >= times), "{met:?}");
-}
 
 /// Checks a list of so many calls on a register that is opened with this capacity.
 fn check_list(random: &mut Random, pool: &Pool, capacity: usize, calls: usize, met: &mut Met) {
@@ -52,40 +25,39 @@ fn check_list(random: &mut Random, pool: &Pool, capacity: usize, calls: usize, m
 /// Checks a call on the register.
 fn make(random: &mut Random, pool: &Pool, register: &mut Vec<u8>, met: &mut Met) {
     let call = pool.call(random);
-    let number = check_call(register, &call).number;
-    *met.entry((call.name(), number)).or_default() += 1;
+    met.note(&call, check_call(register, &call));
 }
 
 #[test]
 fn lists_on_small_shapes() {
     let mut random = Random::new(81);
-    let mut met = Met::new();
+    let mut met = Met::default();
     for _ in 0..600 {
         let (m, n) = (random.between(1, 3) as usize, random.between(1, 3) as usize);
         let (top, capacity) = (random.between(0, 2) as u8, random.between(1, 5) as usize);
         let pool = Pool::drawn(&mut random, m, n, top, capacity + 3);
         check_list(&mut random, &pool, capacity, 60, &mut met);
     }
-    check_met(&met, 200);
+    met.check(&ANSWERS, 200);
 }
 
 #[test]
 fn lists_on_every_shape_of_up_to_5_rows() {
     let mut random = Random::new(82);
-    let mut met = Met::new();
-    for (m, n) in shapes_up_to(80).into_iter().filter(|&(m, _)| m <= 5) {
+    let mut met = Met::default();
+    for (m, n) in shapes_of(5, 80) {
         let (top, capacity) = (random.between(0, 15) as u8, random.between(1, 9) as usize);
         let pool = Pool::drawn(&mut random, m, n, top, capacity + 4);
         check_list(&mut random, &pool, capacity, 60, &mut met);
     }
-    check_met(&met, 20);
+    met.check(&ANSWERS, 20);
 }
 
 #[test]
 fn lists_on_shapes_of_6_to_8_rows() {
     // Few calls: the reference lists every row permutation.
     let mut random = Random::new(83);
-    let mut met = Met::new();
+    let mut met = Met::default();
     for (m, n, calls) in [
         (6, 9, 150),
         (6, 16, 150),
@@ -98,7 +70,7 @@ fn lists_on_shapes_of_6_to_8_rows() {
         check_list(&mut random, &pool, 2, calls, &mut met);
     }
     for number in [0, 9, 101] {
-        assert!(met.contains_key(&("enter", number)), "{met:?}");
+        assert!(met.times("enter", number) > 0, "{met:?}");
     }
 }
 
@@ -127,7 +99,7 @@ fn enters_and_strikes_on_every_shape() {
 #[test]
 fn lists_on_full_registers_of_every_capacity() {
     let mut random = Random::new(85);
-    let mut met = Met::new();
+    let mut met = Met::default();
     for capacity in (1..=40).chain([99, 100, 101, 499, 500]) {
         let pool = Pool::drawn(&mut random, 2, 2, 15, 2 * capacity);
         let classes: Vec<Vec<u8>> = pool.grids.iter().map(|grid| least(2, 2, grid)).collect();
@@ -138,7 +110,7 @@ fn lists_on_full_registers_of_every_capacity() {
             make(&mut random, &pool, &mut register, &mut met);
         }
     }
-    check_met(&met, 20);
+    met.check(&ANSWERS, 20);
 }
 
 #[test]

@@ -5,16 +5,17 @@ use std::collections::BTreeSet;
 use std::error::Error;
 
 #[test]
-fn the_numbers_are_1_to_10() {
+fn the_numbers_are_1_to_10_and_14() {
     let numbers = Refusal::ALL.map(Refusal::number);
-    assert_eq!(numbers, [1, 2, 3, 4, 5, 6, 7, 8, 9, 10]);
+    assert_eq!(numbers, [1, 2, 3, 4, 5, 6, 7, 8, 9, 10, 14]);
 }
 
 #[test]
 fn a_number_names_one_refusal_or_none() {
     for number in (0..1000).chain([u32::MAX]) {
         let named = Refusal::numbered(number);
-        assert_eq!(named.is_some(), (1..=10).contains(&number));
+        let is_refusal = (1..=10).contains(&number) || number == 14;
+        assert_eq!(named.is_some(), is_refusal);
         assert!(named.is_none_or(|refusal| refusal.number() == number));
     }
 }
@@ -33,6 +34,7 @@ fn the_words_say_what_was_asked() {
         "a low is above its high (number 8)",
         "the class is not held, and the register is full (number 9)",
         "the class is not held (number 10)",
+        "a terminal's rows are 6 to 8 (number 14)",
     ];
     assert_eq!(words, expected);
 }
@@ -53,6 +55,7 @@ fn every_refusal_is_met() {
     let open = |m, n, top, capacity| Register::open(m, n, top, capacity).unwrap_err();
     let mut register = Register::open(1, 2, 3, 1).unwrap();
     assert!(register.enter(&[0, 0]).is_ok());
+    let mut large = Register::open(6, 1, 3, 1).unwrap();
     let refusals = [
         open(0, 1, 1, 1),
         open(1, 0, 1, 1),
@@ -64,7 +67,8 @@ fn every_refusal_is_met() {
         register.fit(&[0, 1], &[0, 0]).unwrap_err(),
         register.enter(&[0, 1]).unwrap_err(),
         register.strike(&[0, 1]).unwrap_err(),
+        large.terminal_enter(&[0; 6]).unwrap_err(),
     ];
     assert_eq!(refusals, Refusal::ALL);
-    assert_eq!(BTreeSet::from(refusals).len(), 10);
+    assert_eq!(BTreeSet::from(refusals).len(), 11);
 }

@@ -86,12 +86,14 @@ fn other_bytes_are_refused() {
 
 /// What the register answers: the number, and the place or count.
 fn answered(register: &mut Register, call: &Call) -> (u32, u64) {
+    let entered = |entered: Result<Entered, Refusal>| match entered {
+        Ok(entered @ Entered::New { .. }) => (0, entered.place()),
+        Ok(entered @ Entered::Held { .. }) => (101, entered.place()),
+        Err(refusal) => (refusal.number(), 0),
+    };
     let (number, place) = match call {
-        Call::Enter(grid) => match register.enter(grid) {
-            Ok(entered @ Entered::New { .. }) => (0, entered.place()),
-            Ok(entered @ Entered::Held { .. }) => (101, entered.place()),
-            Err(refusal) => (refusal.number(), 0),
-        },
+        Call::Enter(grid) => entered(register.enter(grid)),
+        Call::TerminalEnter(grid) => entered(register.terminal_enter(grid)),
         Call::Strike(grid) => match register.strike(grid) {
             Ok(place) => (0, place),
             Err(refusal) => (refusal.number(), 0),
@@ -105,18 +107,22 @@ fn answered(register: &mut Register, call: &Call) -> (u32, u64) {
     (number, place as u64)
 }
 
-#[test]
-fn lists_of_calls_answer_as_the_machine() {
-    let mut random = Random::new(132);
+/// Checks lists of calls, which the pool makes so, on registers of at most so many rows. Returns how
+/// often each number was answered.
+fn check_lists(seed: u64, rows: u64, call: fn(&Pool, &mut Random) -> Call) -> [usize; 103] {
+    let mut random = Random::new(seed);
     let mut met = [0; 103];
     for _ in 0..200 {
-        let (m, n) = (random.between(1, 3) as usize, random.between(1, 3) as usize);
+        let (m, n) = (
+            random.between(1, rows) as usize,
+            random.between(1, 3) as usize,
+        );
         let (top, capacity) = (random.between(0, 2) as u8, random.between(1, 5) as usize);
         let pool = Pool::drawn(&mut random, m, n, top, capacity + 3);
         let mut register = Register::open(m, n, top.into(), capacity).unwrap();
         let mut machine = Machine::opened(m as u64, n as u64, top.into(), capacity as u64);
         for _ in 0..40 {
-            let call = pool.call(&mut random);
+            let call = call(&pool, &mut random);
             let expected = call.on_machine(&mut machine);
             let before = register.clone();
             let (number, place) = answered(&mut register, &call);
@@ -134,6 +140,18 @@ fn lists_of_calls_answer_as_the_machine() {
     for number in [0, 6, 7, 8, 9, 10, 101, 102] {
         assert!(met[number] > 20, "{number}");
     }
+    met
+}
+
+#[test]
+fn lists_of_calls_answer_as_the_machine() {
+    assert_eq!(check_lists(132, 3, Pool::call)[14], 0);
+}
+
+#[test]
+fn lists_of_both_sets_answer_as_the_machine() {
+    assert_eq!(check_lists(134, 5, Pool::call_of_either_set)[14], 0);
+    assert!(check_lists(135, 6, Pool::call_of_either_set)[14] > 50);
 }
 
 #[test]

@@ -3,85 +3,15 @@
 
 mod common;
 
-use common::calls::{answer, check_answer, check_call, holding};
+use common::calls::{answer, check_answer, holding};
+use common::faults::{check, registers, sets_of, slices};
 use reference::calls::Call;
 use reference::examples::cells;
+use reference::layout::Contents;
 
-/// Every set of the questions, with the number that a call answers which fails these: the
-/// first of them, or this one.
-fn sets_of(questions: [u32; 4], passed: u32) -> Vec<(Vec<u32>, u32)> {
-    let set = |bits: u32| -> Vec<u32> {
-        let chosen = questions.iter().enumerate();
-        let chosen = chosen.filter(|(k, _)| bits >> k & 1 == 1);
-        chosen.map(|(_, &question)| question).collect()
-    };
-    let with_first = |failed: Vec<u32>| {
-        let number = failed.first().copied().unwrap_or(passed);
-        (failed, number)
-    };
-    (0..1 << questions.len()).map(set).map(with_first).collect()
-}
-
-/// Registers of 2 by 3, top 3, full with two entries; damaged in several ways where 5 is to fail.
-fn registers(failed: &[u32]) -> Vec<Vec<u8>> {
-    let full = holding(2, 3, 3, 2, &[cells("000/111"), cells("001/121")]);
-    let bytes = full.bytes();
-    if !failed.contains(&5) {
-        return vec![bytes];
-    }
-    let mut descending = full.clone();
-    descending.entries.reverse();
-    let mut above_top = bytes.clone();
-    above_top[17] = b'1';
-    let mut other_rows = bytes.clone();
-    other_rows[5] = b'3';
-    let longer = [&bytes[..], b"\n"].concat();
-    let shorter = bytes[..bytes.len() - 1].to_vec();
-    vec![
-        shorter,
-        longer,
-        descending.bytes(),
-        above_top,
-        other_rows,
-        bytes[..31].to_vec(),
-        vec![],
-    ]
-}
-
-/// Slices made of a grid: those of other lengths where 6 is to fail, those with a cell above top
-/// where 7 is.
-fn slices(failed: &[u32], grid: &[u8]) -> Vec<Vec<u8>> {
-    let above = [4, 16, 255];
-    let mut slices = vec![grid.to_vec()];
-    if failed.contains(&7) {
-        let spoilt = |k: usize| {
-            above.map(|cell| {
-                let mut grid = grid.to_vec();
-                grid[k] = cell;
-                grid
-            })
-        };
-        slices = (0..grid.len()).flat_map(spoilt).collect();
-    }
-    if failed.contains(&6) {
-        let lengths = |slice: &Vec<u8>| {
-            let longer = [slice, &vec![0; 6][..]].concat();
-            [longer[..7].to_vec(), longer, slice[..5].to_vec()]
-        };
-        slices = slices.iter().flat_map(lengths).collect();
-        slices.push(vec![]);
-    }
-    slices
-}
-
-/// Checks that the call answers this number on the register and, unless that is 0, changes nothing.
-fn check(register: &[u8], call: &Call, number: u32) {
-    if number == 0 || number == 101 {
-        let found = check_call(&mut register.to_vec(), call);
-        assert_eq!(found.number, number, "{call:?}");
-    } else {
-        check_answer(register, call, answer(number, 0), register);
-    }
+/// A register of 2 by 3, top 3, full with two entries.
+fn full() -> Contents {
+    holding(2, 3, 3, 2, &[cells("000/111"), cells("001/121")])
 }
 
 #[test]
@@ -92,7 +22,7 @@ fn enter_answers_the_first_no_of_5_6_7_9() {
         } else {
             "121/100"
         };
-        for register in registers(&failed) {
+        for register in registers(&failed, &full()) {
             for grid in slices(&failed, &cells(class)) {
                 check(&register, &Call::Enter(grid), number);
             }
@@ -108,7 +38,7 @@ fn strike_answers_the_first_no_of_5_6_7_10() {
         } else {
             "121/100"
         };
-        for register in registers(&failed) {
+        for register in registers(&failed, &full()) {
             for grid in slices(&failed, &cells(class)) {
                 check(&register, &Call::Strike(grid), number);
             }
@@ -125,7 +55,7 @@ fn fit_answers_the_first_no_of_5_6_7_8() {
             "001/000"
         };
         let high = cells("111/333");
-        for register in registers(&failed) {
+        for register in registers(&failed, &full()) {
             for spoilt in slices(&failed, &high) {
                 let call = Call::Fit((cells(low), spoilt));
                 check(&register, &call, number);

@@ -3,39 +3,25 @@
 
 mod common;
 
+use common::sets::ORDER_SYSTEM;
 use common::{check_one_class, check_parting, check_same};
 use common::{random_shape, represented, shuffled};
 use plan_register::same;
-use reference::examples::{every_grid, plan, shapes_up_to};
-use reference::grid::{agreed, arrangement, least};
+use reference::examples::{plan, shapes_up_to};
+use reference::grid::arrangement;
 use reference::random::Random;
-
-/// Checks same on all pairs of grids of this shape and top.
-fn check_every_pair(m: usize, n: usize, top: u8) {
-    let with_least = |grid: Vec<u8>| (least(m, n, &grid), grid);
-    let grids: Vec<_> = every_grid(m * n, top).into_iter().map(with_least).collect();
-    for (least_of_a, a) in &grids {
-        for (least_of_b, b) in &grids {
-            if least_of_a == least_of_b {
-                check_one_class(m, n, top, a, b);
-            } else {
-                check_parting(m, n, top, a, b, agreed(least_of_a, least_of_b));
-            }
-        }
-    }
-}
 
 #[test]
 fn every_pair_of_tiny_grids() {
-    check_every_pair(1, 1, 15);
+    ORDER_SYSTEM.check_every_pair(1, 1, 15);
     for (m, n) in [(1, 2), (2, 1)] {
-        check_every_pair(m, n, 3);
+        ORDER_SYSTEM.check_every_pair(m, n, 3);
     }
     for (m, n) in [(1, 3), (3, 1), (2, 2)] {
-        check_every_pair(m, n, 2);
+        ORDER_SYSTEM.check_every_pair(m, n, 2);
     }
     for (m, n) in [(2, 3), (3, 2), (1, 8), (2, 4), (4, 2), (7, 1), (3, 3)] {
-        check_every_pair(m, n, 1);
+        ORDER_SYSTEM.check_every_pair(m, n, 1);
     }
 }
 

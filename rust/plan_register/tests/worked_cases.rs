@@ -4,14 +4,24 @@ mod common;
 
 use common::calls::{answer, check_answer, placed};
 use common::Lent;
-use plan_register::{open, same, Register};
-use reference::worked_cases::{books, openings, pairs, registers};
+use plan_register::{open, same, terminal_same, Register};
+use reference::worked_cases::{books, openings, pairs, registers, terminal_pairs};
 
 #[test]
 fn same_answers_as_the_table_says() {
     for pair in pairs() {
         let [m, n, top] = pair.shape.map(|number| number as usize);
         let found = same(m, n, top, &pair.a, &pair.b);
+        let expected = (pair.number, pair.agreed);
+        assert_eq!((found.number, found.agreed), expected, "{pair:?}");
+    }
+}
+
+#[test]
+fn a_terminal_s_same_answers_as_both_tables_say() {
+    for pair in pairs().into_iter().chain(terminal_pairs()) {
+        let [m, n, top] = pair.shape.map(|number| number as usize);
+        let found = terminal_same(m, n, top, &pair.a, &pair.b);
         let expected = (pair.number, pair.agreed);
         assert_eq!((found.number, found.agreed), expected, "{pair:?}");
     }

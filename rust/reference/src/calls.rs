@@ -2,7 +2,7 @@
 
 use crate::forms::Form;
 use crate::machine::Machine;
-use crate::register::{enter, fit, strike, Answer};
+use crate::register::{enter, fit, strike, terminal_enter, Answer};
 
 /// A call on an opened register: a grid, or the bounds of a form.
 #[derive(Clone, Debug, PartialEq, Eq)]
@@ -10,6 +10,7 @@ pub enum Call {
     Enter(Vec<u8>),
     Strike(Vec<u8>),
     Fit(Form),
+    TerminalEnter(Vec<u8>),
 }
 
 impl Call {
@@ -19,6 +20,15 @@ impl Call {
             Call::Enter(_) => "enter",
             Call::Strike(_) => "strike",
             Call::Fit(_) => "fit",
+            Call::TerminalEnter(_) => "terminal enter",
+        }
+    }
+
+    /// The call as a terminal makes it: enter is another call there, and the others have no other.
+    pub fn at_terminal(self) -> Call {
+        match self {
+            Call::Enter(grid) => Call::TerminalEnter(grid),
+            other => other,
         }
     }
 
@@ -28,6 +38,7 @@ impl Call {
             Call::Enter(grid) => enter(register, grid),
             Call::Strike(grid) => strike(register, grid),
             Call::Fit((low, high)) => fit(register, low, high),
+            Call::TerminalEnter(grid) => terminal_enter(register, grid),
         }
     }
 
@@ -37,6 +48,7 @@ impl Call {
             Call::Enter(grid) => machine.enter(grid),
             Call::Strike(grid) => machine.strike(grid),
             Call::Fit((low, high)) => machine.fit(low, high),
+            Call::TerminalEnter(grid) => machine.terminal_enter(grid),
         }
     }
 }

@@ -46,7 +46,12 @@ pub fn two_rows(m: usize, n: usize) -> Design {
 
 /// The identity matrix.
 pub fn identity(size: usize) -> Design {
-    design("identity", size, size, |i, j| usize::from(i == j))
+    identity_rows(size, size)
+}
+
+/// A 1 where row and column have one number, and 0 elsewhere: rows of an identity matrix.
+pub fn identity_rows(m: usize, n: usize) -> Design {
+    design("identity", m, n, |i, j| usize::from(i == j))
 }
 
 /// Two identity matrices side by side.
@@ -63,9 +68,17 @@ pub fn near_identity(size: usize) -> Design {
     })
 }
 
+/// Row 0 is 0, 1, 2 and so on, and each row is the row above moved on by one.
+pub fn cyclic(m: usize, n: usize) -> Design {
+    design("cyclic", m, n, |i, j| (i + j) % n)
+}
+
 /// The Latin square of the cyclic group.
 pub fn cyclic_latin(size: usize) -> Design {
-    design("cyclic Latin square", size, size, |i, j| (i + j) % size)
+    Design {
+        name: format!("cyclic Latin square {size}x{size}"),
+        ..cyclic(size, size)
+    }
 }
 
 /// The Latin square of the elementary abelian group of this order, 2, 4 or 8: for 4 the Klein group.
@@ -156,6 +169,9 @@ pub fn all() -> Vec<Design> {
     for (m, n) in [(1, 1), (1, 16), (8, 1), (5, 7), (8, 16)] {
         designs.extend([zero(m, n), equal_rows(m, n), equal_columns(m, n)]);
         designs.push(two_rows(m, n));
+    }
+    for (m, n) in [(3, 2), (5, 7), (5, 16)] {
+        designs.extend([identity_rows(m, n), cyclic(m, n)]);
     }
     for size in [2, 3, 5, 6, 7, 8] {
         designs.extend([identity(size), double_identity(size), near_identity(size)]);

@@ -1,4 +1,4 @@
-//! A plain reference implementation of the plan register: document 01 and request 1 of document 02.
+//! A plain reference for the plan register: document 01 and requests 1 and 2 of document 02.
 //!
 //! It is written to be seen right: every row permutation is listed, the columns
 //! are sorted, the least arrangement is taken; bounds are pruned by listing every
@@ -12,10 +12,10 @@
 //! | `permutation`  | orders: the starting one, following, reverse         |
 //! | `grid`         | grids, arrangements, classes                         |
 //! | `questions`    | the questions, one function each                     |
-//! | `grid_calls`   | represent and same                                   |
+//! | `grid_calls`   | represent and same, also those of a terminal         |
 //! | `bounds`       | forms and allperm; prune                             |
 //! | `layout`       | the register's bytes, and question 5                 |
-//! | `register`     | open, enter, strike, fit                             |
+//! | `register`     | open, enter, strike, fit, a terminal's enter         |
 //! | `machine`      | the plain machine of demand 3                        |
 //! | `planbook`     | the program, input bytes to output bytes             |
 //! | `random`       | a small generator for tests                          |

@@ -41,6 +41,15 @@ impl Pool {
         }
     }
 
+    /// A call of either set: half of the enters are a terminal's.
+    pub fn call_of_either_set(&self, random: &mut Random) -> Call {
+        let call = self.call(random);
+        match random.once_in(2) {
+            true => call.at_terminal(),
+            false => call,
+        }
+    }
+
     /// A grid of the pool, its rows and columns shuffled.
     pub fn grid(&self, random: &mut Random) -> Vec<u8> {
         let grid = &self.grids[random.below(self.grids.len() as u64) as usize];

@@ -34,6 +34,12 @@ impl Machine {
         answered(self.try_enter(grid))
     }
 
+    /// A terminal's enter: enter with 14 asked first.
+    pub fn terminal_enter(&mut self, grid: &[u8]) -> Answer {
+        let asked = questions::terminal_rows(self.rows);
+        answered(asked.and_then(|()| self.try_enter(grid)))
+    }
+
     /// Strike: class in the set, it is removed, 0; else 10.
     pub fn strike(&mut self, grid: &[u8]) -> Answer {
         answered(self.try_strike(grid))

@@ -3,6 +3,9 @@
 /// The most rows of a grid: the positions of a row permutation.
 pub const ROW_LIMIT: usize = 8;
 
+/// The most rows of a grid at a terminal: the positions of a row permutation there.
+pub const TERMINAL_ROW_LIMIT: usize = 5;
+
 /// The most columns of a grid: the positions of a column permutation.
 pub const COLUMN_LIMIT: usize = 16;
 
@@ -15,6 +18,9 @@ pub struct Permutation<const LIMIT: usize> {
 
 /// Document 01's row order.
 pub type RowPermutation = Permutation<ROW_LIMIT>;
+
+/// The row order of a terminal, document 02's request 2.
+pub type TerminalRowPermutation = Permutation<TERMINAL_ROW_LIMIT>;
 
 /// Document 01's column order.
 pub type ColumnPermutation = Permutation<COLUMN_LIMIT>;

@@ -1,5 +1,5 @@
-//! The questions of document 01, one function each but for question 5, which is `layout`'s. A yes
-//! is `Ok`; a no is `Err` with the question's number.
+//! The questions of document 01, one function each but for question 5, which is `layout`'s, and
+//! question 14 of document 02. A yes is `Ok`; a no is `Err` with the question's number.
 
 use crate::grid::rank;
 
@@ -58,4 +58,9 @@ pub fn held_or_room(held: bool, count: u64, capacity: u64) -> Asked {
 /// 10. Is the class held?
 pub fn held(held: bool) -> Asked {
     ask(held, 10)
+}
+
+/// 14. Are a terminal's rows not 6 to 8? Asked directly after 1, or 5 where a register states them.
+pub fn terminal_rows(m: u64) -> Asked {
+    ask(!(6..=8).contains(&m), 14)
 }

@@ -1,4 +1,4 @@
-//! The calls on a register's bytes: open, enter, strike, fit.
+//! The calls on a register's bytes: open, enter, strike, fit, a terminal's enter.
 
 use crate::bounds::{lies_in, pruned_form};
 use crate::grid::{compare, least};
@@ -25,6 +25,11 @@ pub fn open(m: u64, n: u64, top: u64, capacity: u64, register: &mut [u8]) -> Ans
 /// Enter: 0 if the grid's class is new and now held, 101 if it was held. It passes 5, 6, 7, 9.
 pub fn enter(register: &mut [u8], grid: &[u8]) -> Answer {
     answered(try_enter(register, grid))
+}
+
+/// A terminal's enter: as enter. It passes 5, 14, 6, 7, 9.
+pub fn terminal_enter(register: &mut [u8], grid: &[u8]) -> Answer {
+    answered(try_terminal_enter(register, grid))
 }
 
 /// Strike: the entry of the grid's class goes. It passes 5, 6, 7, 10.
@@ -58,7 +63,18 @@ fn try_open(m: u64, n: u64, top: u64, capacity: u64, register: &mut [u8]) -> Res
 }
 
 fn try_enter(register: &mut [u8], grid: &[u8]) -> Result<Answer, u32> {
-    let mut contents = Contents::asked(register)?;
+    let contents = Contents::asked(register)?;
+    enter_into(contents, register, grid)
+}
+
+fn try_terminal_enter(register: &mut [u8], grid: &[u8]) -> Result<Answer, u32> {
+    let contents = Contents::asked(register)?;
+    questions::terminal_rows(contents.rows)?;
+    enter_into(contents, register, grid)
+}
+
+/// Enters the grid's class into the register with these contents, once 6, 7 and 9 got a yes.
+fn enter_into(mut contents: Contents, register: &mut [u8], grid: &[u8]) -> Result<Answer, u32> {
     questions::lengths(&[grid], contents.rows * contents.columns)?;
     questions::cells(&[grid], contents.top)?;
     let class = least_grid(&contents, grid);

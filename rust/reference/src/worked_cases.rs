@@ -55,17 +55,26 @@ pub fn prefixes() -> Vec<(Vec<u8>, Vec<u8>, usize)> {
     cases.iter().map(read).collect()
 }
 
-/// The pairs of grids.
+/// The pairs of grids that same is asked of.
 pub fn pairs() -> Vec<Pair> {
-    let cases = table("Pairs", "pairs", " number = ");
-    let read = |case: &String| Pair {
+    let [of_same, _] = tables("Pairs", ["pairs", "terminalPairs"], " number = ");
+    of_same.iter().map(|case| pair(case)).collect()
+}
+
+/// Those that a terminal's same is asked of.
+pub fn terminal_pairs() -> Vec<Pair> {
+    let [_, of_terminal] = tables("Pairs", ["pairs", "terminalPairs"], " number = ");
+    of_terminal.iter().map(|case| pair(case)).collect()
+}
+
+fn pair(case: &str) -> Pair {
+    Pair {
         shape: ["m", "n", "top"].map(|name| numbers(field(case, name))[0]),
         a: cells(field(case, "a")),
         b: cells(field(case, "b")),
         number: numbers(field(case, "number"))[0] as u32,
         agreed: numbers(field(case, "agreed"))[0] as u32,
-    };
-    cases.iter().map(read).collect()
+    }
 }
 
 /// The byte strings of question 5.
@@ -115,15 +124,22 @@ pub fn transcripts() -> Vec<Run> {
 
 /// The records of the list in the file. Each of them has the mark once.
 fn table(file: &str, list: &str, mark: &str) -> Vec<String> {
+    let [records] = tables(file, [list], mark);
+    records
+}
+
+/// The records of each list in the file. Each of them has the mark once, and nothing else has it.
+fn tables<const N: usize>(file: &str, lists: [&str; N], mark: &str) -> [Vec<String>; N] {
     let path = format!(
         "{}/../../crates/worked_cases/specs/{file}.antt",
         env!("CARGO_MANIFEST_DIR")
     );
     let text = std::fs::read_to_string(&path).unwrap_or_else(|error| panic!("{path}: {error}"));
     let text = without_comments(&text);
-    let records = records(&text, list);
-    assert_eq!(records.len(), text.matches(mark).count(), "{path}: {list}");
-    records
+    let tables = lists.map(|list| records(&text, list));
+    let read: usize = tables.iter().map(Vec::len).sum();
+    assert_eq!(read, text.matches(mark).count(), "{path}: {lists:?}");
+    tables
 }
 
 /// The calls of a book, each with its answer.
@@ -141,7 +157,7 @@ fn calls(book: &str) -> Vec<(Call, Answer)> {
 
 /// The calls of a list, each from its name to the next one's.
 fn call_texts(value: &str) -> Vec<&str> {
-    let names = ["enter", "strike", "fit"];
+    let names = ["enter", "strike", "fit", "terminalEnter"];
     let mut starts: Vec<usize> = names
         .iter()
         .flat_map(|name| value.match_indices(name).map(|(i, _)| i))
@@ -162,6 +178,7 @@ fn call(text: &str) -> Call {
         Some("enter") => Call::Enter(next()),
         Some("strike") => Call::Strike(next()),
         Some("fit") => Call::Fit((next(), next())),
+        Some("terminalEnter") => Call::TerminalEnter(next()),
         _ => panic!("a call: {text}"),
     }
 }
@@ -174,4 +191,29 @@ fn grids(value: &str) -> Vec<Vec<u8>> {
 /// The cells in a text.
 fn cells(value: &str) -> Vec<u8> {
     numbers(value).iter().map(|&v| v as u8).collect()
+}
+
+#[cfg(test)]
+mod tests {
+    use super::{call, call_texts};
+    use crate::calls::Call;
+
+    #[test]
+    fn calls_are_read_by_their_names() {
+        let text = "enter (1 ∷ 0 ∷ [])
+          ∷ terminalEnter (0 ∷ 15 ∷ [])
+          ∷ terminalEnter ([])
+          ∷ strike (2 ∷ [])
+          ∷ fit (0 ∷ []) (1 ∷ [])
+          ∷ []";
+        let calls: Vec<Call> = call_texts(text).into_iter().map(call).collect();
+        let expected = [
+            Call::Enter(vec![1, 0]),
+            Call::TerminalEnter(vec![0, 15]),
+            Call::TerminalEnter(vec![]),
+            Call::Strike(vec![2]),
+            Call::Fit((vec![0], vec![1])),
+        ];
+        assert_eq!(calls, expected);
+    }
 }

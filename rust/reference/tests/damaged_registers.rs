@@ -6,7 +6,7 @@ use common::register;
 use reference::grid::compare;
 use reference::layout::{number, read_number, Contents};
 use reference::random::Random;
-use reference::register::{enter, fit, strike, Answer};
+use reference::register::{enter, fit, strike, terminal_enter, Answer};
 
 /// The numbers in the fields of a line, read without strictness.
 fn loose_numbers(line: &str, width: usize) -> Option<Vec<u64>> {
@@ -70,7 +70,7 @@ fn registers() -> Vec<Vec<u8>> {
     ]
 }
 
-/// Calls enter, strike and fit on the bytes and compares with `valid`.
+/// Makes each call on the bytes and compares with `valid`.
 fn check_calls(bytes: &[u8], valid: bool) {
     let refusal = Answer {
         number: 5,
@@ -79,9 +79,11 @@ fn check_calls(bytes: &[u8], valid: bool) {
     let cells = Contents::read(bytes).map_or(4, |c| (c.rows * c.columns) as usize);
     let grid = vec![0; cells];
     let mut entered = bytes.to_vec();
+    let mut entered_at_terminal = bytes.to_vec();
     let mut struck = bytes.to_vec();
     let answers = [
         enter(&mut entered, &grid),
+        terminal_enter(&mut entered_at_terminal, &grid),
         strike(&mut struck, &grid),
         fit(bytes, &grid, &grid),
     ];
@@ -89,6 +91,7 @@ fn check_calls(bytes: &[u8], valid: bool) {
         assert_eq!(answer.number == 5, !valid);
         assert!(valid || answer == refusal);
     }
+    assert_eq!(entered_at_terminal, entered);
     assert!(valid || (entered == bytes && struck == bytes));
     assert!(!valid || (is_laid_out(&entered) && is_laid_out(&struck)));
 }

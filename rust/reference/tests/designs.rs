@@ -1,8 +1,8 @@
 //! The designs are what their names say.
 
 use reference::designs::{
-    affine_planes, all, cyclic_latin, efpa, every_column, fano, hadamard, half_hadamard,
-    klein_latin, pairs, product_latin, two_rows, Design,
+    affine_planes, all, cyclic, cyclic_latin, efpa, every_column, fano, hadamard, half_hadamard,
+    identity, identity_rows, klein_latin, pairs, product_latin, two_rows, Design,
 };
 use std::collections::BTreeSet;
 
@@ -56,6 +56,22 @@ fn latin_squares_have_every_value_in_each_row_and_column() {
             assert_eq!(distinct(&column), square.m, "{}", square.name);
         }
     }
+}
+
+#[test]
+fn rows_of_squares() {
+    for (m, n) in [(3, 5), (5, 16), (8, 16)] {
+        let (square, some) = (cyclic_latin(n), cyclic(m, n));
+        assert_eq!(rows(&some), rows(&square)[..m], "{}", some.name);
+        let (square, some) = (identity(n), identity_rows(m, n));
+        assert_eq!(rows(&some), rows(&square)[..m], "{}", some.name);
+    }
+    assert_eq!(cyclic(2, 3).cells, [0, 1, 2, 1, 2, 0]);
+    assert_eq!(identity_rows(2, 3).cells, [1, 0, 0, 0, 1, 0]);
+    assert_eq!(identity_rows(3, 2).cells, [1, 0, 0, 1, 0, 0]);
+    assert_eq!(cyclic(5, 16).name, "cyclic 5x16");
+    assert_eq!(cyclic_latin(5).name, "cyclic Latin square 5x5");
+    assert_eq!(identity_rows(5, 16).name, "identity 5x16");
 }
 
 #[test]

@@ -1,7 +1,9 @@
 //! Orders: the starting one, following, reverse.
 
 use reference::grid::{arrangement, identity, is_permutation, permutations};
-use reference::permutation::{ColumnPermutation, Permutation, RowPermutation};
+use reference::permutation::{
+    ColumnPermutation, Permutation, RowPermutation, TerminalRowPermutation,
+};
 use reference::random::Random;
 use std::collections::BTreeSet;
 
@@ -31,6 +33,7 @@ fn is_permutation_refuses_repeated_and_large_numbers() {
 fn the_identity_holds_each_position_s_own_number() {
     for size in [0, 1, 5, 8, 9, usize::MAX] {
         assert_eq!(RowPermutation::identity(size).at, [0, 1, 2, 3, 4, 5, 6, 7]);
+        assert_eq!(TerminalRowPermutation::identity(size).at, [0, 1, 2, 3, 4]);
     }
     assert_eq!(ColumnPermutation::identity(3).at.to_vec(), identity(16));
 }
@@ -42,6 +45,11 @@ fn composition_sends_i_to_p_of_r_of_i() {
     assert_eq!(p.composed(r).at, [3, 1, 2, 0, 4, 5, 6, 7]);
     assert_eq!(r.composed(p).at, [0, 1, 3, 2, 4, 5, 6, 7]);
     assert_eq!(p.inverse().at, [2, 0, 1, 3, 4, 5, 6, 7]);
+    let p = TerminalRowPermutation::listed(&[1, 2, 0, 3]);
+    let r = TerminalRowPermutation::listed(&[3, 0, 1, 2]);
+    assert_eq!(p.composed(r).at, [3, 1, 2, 0, 4]);
+    assert_eq!(r.composed(p).at, [0, 1, 3, 2, 4]);
+    assert_eq!(p.inverse().at, [2, 0, 1, 3, 4]);
 }
 
 fn check_laws<const LIMIT: usize>(
@@ -66,6 +74,8 @@ fn laws_for_all_permutations_of_three() {
             for r in permutations(3) {
                 let listed = RowPermutation::listed;
                 check_laws(listed(&p), listed(&q), listed(&r));
+                let listed = TerminalRowPermutation::listed;
+                check_laws(listed(&p), listed(&q), listed(&r));
             }
         }
     }
@@ -77,6 +87,10 @@ fn laws_for_random_permutations_of_every_size() {
     for _ in 0..200 {
         for size in 1..=8 {
             let mut next = || RowPermutation::listed(&random.permutation(size));
+            check_laws(next(), next(), next());
+        }
+        for size in 1..=5 {
+            let mut next = || TerminalRowPermutation::listed(&random.permutation(size));
             check_laws(next(), next(), next());
         }
         for size in 1..=16 {
@@ -132,11 +146,38 @@ fn what_is_no_permutation_gives_the_identity() {
 }
 
 #[test]
+fn a_terminal_s_row_order_has_at_most_5_positions() {
+    let with = |size: usize, at: [u8; 5]| TerminalRowPermutation { size, at };
+    assert!(with(5, [4, 3, 2, 1, 0]).is_permutation());
+    for bad in [
+        with(5, [4, 3, 2, 1, 1]),
+        with(5, [4, 3, 2, 1, 5]),
+        with(0, [1, 0, 2, 3, 4]),
+        with(6, [1, 0, 2, 3, 4]),
+        with(8, [1, 0, 2, 3, 4]),
+        with(usize::MAX, [1, 0, 2, 3, 4]),
+    ] {
+        assert!(!bad.is_permutation());
+        assert_eq!(bad.inverse().at, [0, 1, 2, 3, 4]);
+        assert_eq!(bad.composed(bad).at, [0, 1, 2, 3, 4]);
+        for size in 1..=5 {
+            let good = TerminalRowPermutation::listed(&Random::new(size as u64).permutation(size));
+            assert_eq!(bad.composed(good).at, [0, 1, 2, 3, 4]);
+            assert_eq!(good.composed(bad).at, [0, 1, 2, 3, 4]);
+        }
+    }
+}
+
+#[test]
 fn different_sizes_give_the_identity() {
     let three = ColumnPermutation::listed(&[2, 0, 1]);
     let four = ColumnPermutation::listed(&[2, 0, 1, 3]);
     assert_eq!(three.composed(four).at.to_vec(), identity(16));
     assert_eq!(four.composed(three).at.to_vec(), identity(16));
+    let three = TerminalRowPermutation::listed(&[2, 0, 1]);
+    let four = TerminalRowPermutation::listed(&[2, 0, 1, 3]);
+    assert_eq!(three.composed(four).at, [0, 1, 2, 3, 4]);
+    assert_eq!(four.composed(three).at, [0, 1, 2, 3, 4]);
 }
 
 #[test]
@@ -150,4 +191,11 @@ fn positions_past_the_size_are_not_looked_at_and_hold_their_own_number() {
     assert_eq!(odd.composed(odd), RowPermutation::identity(2));
     let one = RowPermutation::identity(2);
     assert_eq!(odd.composed(one), RowPermutation::listed(&[1, 0]));
+    let odd = TerminalRowPermutation {
+        size: 2,
+        at: [1, 0, 0, 9, 255],
+    };
+    assert!(odd.is_permutation());
+    assert_eq!(odd.inverse(), TerminalRowPermutation::listed(&[1, 0]));
+    assert_eq!(odd.composed(odd), TerminalRowPermutation::identity(2));
 }

@@ -2,55 +2,12 @@
 
 mod common;
 
+use common::faults::{numbers, refusal, sets_of, slice};
 use common::{cells, register, unopened};
 use reference::bounds::{prune, Counted};
 use reference::grid_calls::{represent, same, Arranged, Matched};
 use reference::layout::{register_length, Contents};
 use reference::register::{enter, fit, open, strike, Answer};
-
-/// Every set of the questions, and the number that a call answers that fails these: the
-/// first of them, or 0.
-fn sets_of(questions: &[u32]) -> Vec<(Vec<u32>, u32)> {
-    let set = |bits: u32| -> Vec<u32> {
-        let chosen = |k: &usize| bits >> k & 1 == 1;
-        (0..questions.len())
-            .filter(chosen)
-            .map(|k| questions[k])
-            .collect()
-    };
-    (0..1 << questions.len())
-        .map(set)
-        .map(|failed| (failed.clone(), failed.first().copied().unwrap_or(0)))
-        .collect()
-}
-
-/// Numbers that pass questions 1 to 4, those of `failed` excepted.
-fn numbers(failed: &[u32]) -> (u64, u64, u64, u64) {
-    let pick = |number: u32, bad: u64, good: u64| match failed.contains(&number) {
-        true => bad,
-        false => good,
-    };
-    (
-        pick(1, 9, 2),
-        pick(2, 17, 3),
-        pick(3, 16, 3),
-        pick(4, 501, 2),
-    )
-}
-
-/// Cells 1 of the length m * n; one too many where 6 is to fail, one above top where 7 is.
-fn slice(failed: &[u32], m: u64, n: u64, top: u64) -> Vec<u8> {
-    let extra = usize::from(failed.contains(&6));
-    let mut slice = vec![1; (m * n) as usize + extra];
-    if failed.contains(&7) {
-        slice[1] = top as u8 + 1;
-    }
-    slice
-}
-
-fn refusal(number: u32) -> Answer {
-    Answer { number, place: 0 }
-}
 
 #[test]
 fn represent_asks_1_2_3_6_7_in_order() {

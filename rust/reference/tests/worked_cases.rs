@@ -1,11 +1,14 @@
 //! The worked cases of the definitions, answered by the reference.
 
+use reference::calls::Call;
 use reference::grid::agreed;
-use reference::grid_calls::same;
+use reference::grid_calls::{same, terminal_same};
 use reference::layout::Contents;
 use reference::planbook::transcript;
 use reference::register::{open, Answer};
-use reference::worked_cases::{books, openings, pairs, prefixes, registers, transcripts};
+use reference::worked_cases::{
+    books, openings, pairs, prefixes, registers, terminal_pairs, transcripts,
+};
 
 #[test]
 fn lists_agree_as_far_as_the_table_says() {
@@ -22,6 +25,18 @@ fn same_answers_as_the_table_says() {
         let expected = (pair.number, pair.agreed);
         assert_eq!((found.number, found.agreed), expected, "{pair:?}");
     }
+}
+
+#[test]
+fn a_terminal_s_same_answers_as_both_tables_say() {
+    for pair in pairs().into_iter().chain(terminal_pairs()) {
+        let [m, n, top] = pair.shape;
+        let found = terminal_same(m, n, top, &pair.a, &pair.b);
+        let expected = (pair.number, pair.agreed);
+        assert_eq!((found.number, found.agreed), expected, "{pair:?}");
+    }
+    assert!(pairs().iter().all(|pair| pair.shape[0] <= 5));
+    assert!(terminal_pairs().iter().any(|pair| pair.number == 14));
 }
 
 #[test]
@@ -53,6 +68,18 @@ fn books_are_kept_as_the_table_says() {
         }
         assert_eq!(register, book.leaves, "{book:?}");
     }
+}
+
+#[test]
+fn some_books_have_calls_of_both_sets() {
+    let of_both = |calls: &[(Call, Answer)]| {
+        ["enter", "terminal enter"].map(|name| calls.iter().any(|(call, _)| call.name() == name))
+    };
+    let mixed = books()
+        .iter()
+        .filter(|book| of_both(&book.calls) == [true, true])
+        .count();
+    assert_eq!(mixed, 2);
 }
 
 #[test]

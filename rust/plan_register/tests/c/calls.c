@@ -25,6 +25,20 @@ static void print_matched(const char *call, plan_register_matched matched)
     print_bytes(matched.columns, sizeof matched.columns);
 }
 
+static void print_terminal_arranged(const char *call, plan_register_terminal_arranged arranged)
+{
+    printf("%s %u:", call, (unsigned)arranged.number);
+    print_bytes(arranged.rows, sizeof arranged.rows);
+    print_bytes(arranged.columns, sizeof arranged.columns);
+}
+
+static void print_terminal_matched(const char *call, plan_register_terminal_matched matched)
+{
+    printf("%s %u, agreed %u:", call, (unsigned)matched.number, (unsigned)matched.agreed);
+    print_bytes(matched.rows, sizeof matched.rows);
+    print_bytes(matched.columns, sizeof matched.columns);
+}
+
 static void print_placed(const char *call, plan_register_placed placed)
 {
     printf("%s %u, place %u\n", call, (unsigned)placed.number, (unsigned)placed.place);
@@ -82,10 +96,42 @@ static void call_on_a_register(void)
     fwrite(bytes, 1, length, stdout);
 }
 
+static void call_on_grids_at_a_terminal(void)
+{
+    const uint8_t grid[6] = {2, 2, 3, 2, 3, 1};
+    uint8_t out[6] = {9, 9, 9, 9, 9, 9};
+    print_terminal_arranged("terminal represent", plan_register_terminal_represent(6, 1, 3, grid, 6, out, 6));
+    print_bytes(out, 6);
+    print_terminal_arranged("terminal represent", plan_register_terminal_represent(2, 3, 3, grid, 6, out, 6));
+    print_bytes(out, 6);
+    print_terminal_matched("terminal same", plan_register_terminal_same(2, 3, 3, grid, 6, out, 6));
+    print_terminal_matched("terminal same", plan_register_terminal_same(6, 1, 3, grid, 6, out, 6));
+    out[5] = 3;
+    print_terminal_matched("terminal same", plan_register_terminal_same(2, 3, 3, grid, 6, out, 6));
+}
+
+static void call_on_registers_at_a_terminal(void)
+{
+    uint8_t bytes[PLAN_REGISTER_BYTES(2, 2, 1)], large[PLAN_REGISTER_BYTES(6, 1, 1)];
+    const size_t length = sizeof bytes;
+    const uint8_t grid[4] = {1, 0, 0, 1}, other[4] = {0, 0, 1, 1}, column[6] = {0, 0, 0, 0, 0, 0};
+    print_placed("open", plan_register_open(2, 2, 1, 1, bytes, length));
+    print_placed("terminal enter", plan_register_terminal_enter(bytes, length, grid, 4));
+    print_placed("enter", plan_register_enter(bytes, length, grid, 4));
+    print_placed("terminal enter", plan_register_terminal_enter(bytes, length, grid, 4));
+    print_placed("terminal enter", plan_register_terminal_enter(bytes, length, other, 4));
+    fwrite(bytes, 1, length, stdout);
+    print_placed("open", plan_register_open(6, 1, 1, 1, large, sizeof large));
+    print_placed("terminal enter", plan_register_terminal_enter(large, sizeof large, column, 6));
+    print_placed("enter", plan_register_enter(large, sizeof large, column, 6));
+}
+
 int main(void)
 {
     call_on_grids();
     call_on_bounds();
     call_on_a_register();
+    call_on_grids_at_a_terminal();
+    call_on_registers_at_a_terminal();
     return 0;
 }

@@ -1,7 +1,7 @@
 //! Calls on a register, each compared with the reference.
 
 use super::Lent;
-use plan_register::{enter, fit, open, strike, Counted, Placed};
+use plan_register::{enter, fit, open, strike, terminal_enter, Counted, Placed};
 use reference::calls::Call;
 use reference::grid::compare;
 use reference::layout::Contents;
@@ -39,6 +39,9 @@ pub fn check_answer(register: &[u8], call: &Call, answer: Answer, left: &[u8]) {
         Call::Fit((low, high)) => fitted(lending(low, |low| {
             lending(high, |high| fit(lent.slice(), low, high))
         })),
+        Call::TerminalEnter(grid) => {
+            placed(lending(grid, |grid| terminal_enter(lent.slice_mut(), grid)))
+        }
     };
     assert_eq!(found, answer, "{call:?} on\n{}", beginning(register));
     lent.check(left);

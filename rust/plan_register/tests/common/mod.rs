@@ -1,51 +1,48 @@
 //! What several tests share: the calls, with all their promises checked but the least itself.
+//!
+//! | module       | what                                                           |
+//! |--------------|----------------------------------------------------------------|
+//! | `lent`       | a slice to lend, between margins that no call may touch        |
+//! | `limits`     | numbers at and past the limits                                 |
+//! | `numbers`    | rows, columns and top of a call, and grids that fail questions |
+//! | `sets`       | represent and same, of the order system and of a terminal      |
+//! | `calls`      | calls on a register, each compared with the reference          |
+//! | `met`        | which numbers the calls of lists answered                      |
+//! | `faults`     | registers and slices that fail questions                       |
+//! | `question_5` | question 5 on bytes that may be no register                    |
+//! | `book`       | a register beside what it is to hold, for shapes of many rows  |
 #![allow(dead_code)]
 
 pub mod book;
 pub mod calls;
+pub mod faults;
 mod lent;
 pub mod limits;
+pub mod met;
+pub mod numbers;
 pub mod question_5;
+pub mod sets;
 
 pub use lent::Lent;
-use plan_register::{prune, represent, same, Arranged, Counted, Matched};
-use reference::grid::{agreed, arrangement, identity, is_permutation, least};
+use plan_register::{prune, Counted};
+use reference::examples::shapes_up_to;
+use reference::grid::{agreed, arrangement};
 use reference::random::Random;
+use sets::ORDER_SYSTEM;
 
-/// Calls represent on a grid that passes. Checks that its orders are two permutations with
-/// their own numbers past m and n, that they produce what it wrote, and that no other byte
-/// changed. So what it wrote is in the grid's class.
+/// Calls represent on a grid that passes, and returns what it wrote, which is in the grid's class.
 pub fn represented(m: usize, n: usize, top: u8, grid: &[u8]) -> Vec<u8> {
-    let (lent, mut out) = (Lent::holding(grid), Lent::sentinels(m * n));
-    let orders = represent(m, n, top.into(), lent.slice(), out.slice_mut());
-    assert_eq!(orders.number, 0, "{m}x{n} top {top}: {grid:?}");
-    check_orders(m, n, orders.rows, orders.columns);
-    let produced = arrangement(m, n, &orders.rows, &orders.columns, grid);
-    lent.check(grid);
-    out.check(&produced);
-    produced
+    ORDER_SYSTEM.represented(m, n, top, grid)
 }
 
 /// Checks same on two grids that pass, against the reference. Are they in one class?
 pub fn check_same(m: usize, n: usize, top: u8, a: &[u8], b: &[u8]) -> bool {
-    let (of_a, of_b) = (least(m, n, a), least(m, n, b));
-    if of_a == of_b {
-        check_one_class(m, n, top, a, b);
-    } else {
-        check_parting(m, n, top, a, b, agreed(&of_a, &of_b));
-    }
-    of_a == of_b
+    ORDER_SYSTEM.check_same(m, n, top, a, b)
 }
 
-/// Calls same on two grids of one class. Checks that all cells agree, that its orders are two
-/// permutations with their own numbers past m and n, that they carry `a` to `b`, and that no
-/// byte changed.
+/// Checks same on two grids of one class.
 pub fn check_one_class(m: usize, n: usize, top: u8, a: &[u8], b: &[u8]) {
-    let orders = unchanging_same(m, n, top, a, b);
-    assert_eq!(orders.number, 0, "{m}x{n} top {top}: {a:?} {b:?}");
-    assert_eq!(orders.agreed as usize, m * n);
-    check_orders(m, n, orders.rows, orders.columns);
-    assert_eq!(arrangement(m, n, &orders.rows, &orders.columns, a), b);
+    ORDER_SYSTEM.check_one_class(m, n, top, a, b);
 }
 
 /// Calls same on two grids of two classes. Checks its answer by what represent writes for them,
@@ -55,23 +52,9 @@ pub fn check_two_classes(m: usize, n: usize, top: u8, a: &[u8], b: &[u8]) {
     check_parting(m, n, top, a, b, agreed(&of_a, &of_b));
 }
 
-/// Calls same on two grids of two classes, in either order. Checks that it answers 103 with the
-/// starting orders and that so many cells agree, fewer than there are; and that no byte changed.
+/// Checks same on two grids of two classes, in either order: so many cells agree.
 pub fn check_parting(m: usize, n: usize, top: u8, a: &[u8], b: &[u8], agreed: usize) {
-    assert!(agreed < m * n);
-    for (a, b) in [(a, b), (b, a)] {
-        let found = unchanging_same(m, n, top, a, b);
-        let expected = unmatched(103, agreed as u32);
-        assert_eq!(found, expected, "{m}x{n} top {top}: {a:?} {b:?}");
-    }
-}
-
-fn unchanging_same(m: usize, n: usize, top: u8, a: &[u8], b: &[u8]) -> Matched {
-    let (lent_a, lent_b) = (Lent::holding(a), Lent::holding(b));
-    let orders = same(m, n, top.into(), lent_a.slice(), lent_b.slice());
-    lent_a.check(a);
-    lent_b.check(b);
-    orders
+    ORDER_SYSTEM.check_parting(m, n, top, a, b, agreed);
 }
 
 /// Calls prune on bounds that pass. Checks its answer and what it wrote against the reference,
@@ -108,35 +91,6 @@ pub fn check_pruned(
     lent_high.check(new_high);
 }
 
-fn check_orders(m: usize, n: usize, rows: [u8; 8], columns: [u8; 16]) {
-    assert!(is_permutation(&rows[..m]), "{rows:?}");
-    assert!(is_permutation(&columns[..n]), "{columns:?}");
-    assert_eq!(rows[m..], identity(8)[m..]);
-    assert_eq!(columns[n..], identity(16)[n..]);
-}
-
-/// This number with the starting orders.
-pub fn starting(number: u32) -> Arranged {
-    let reference = reference::grid_calls::Arranged::starting(number);
-    Arranged {
-        number: reference.number,
-        rows: reference.rows,
-        columns: reference.columns,
-    }
-}
-
-/// Same's answer where the grids are not carried to each other: this number, so many cells, and
-/// the starting orders.
-pub fn unmatched(number: u32, agreed: u32) -> Matched {
-    let reference = reference::grid_calls::Matched::starting(number, agreed);
-    Matched {
-        number: reference.number,
-        agreed: reference.agreed,
-        rows: reference.rows,
-        columns: reference.columns,
-    }
-}
-
 /// The grid with its rows and its columns shuffled.
 pub fn shuffled(random: &mut Random, m: usize, n: usize, grid: &[u8]) -> Vec<u8> {
     let (rows, columns) = (random.permutation(m), random.permutation(n));
@@ -147,4 +101,25 @@ pub fn shuffled(random: &mut Random, m: usize, n: usize, grid: &[u8]) -> Vec<u8>
 pub fn random_shape(random: &mut Random, rows: u64) -> (usize, usize) {
     let (m, n) = (random.between(1, rows), random.between(1, 16));
     (m as usize, n as usize)
+}
+
+/// Every shape of at most so many rows and so many cells.
+pub fn shapes_of(rows: usize, cells: usize) -> Vec<(usize, usize)> {
+    let shapes = shapes_up_to(cells).into_iter();
+    shapes.filter(|&(m, _)| m <= rows).collect()
+}
+
+/// Up to this many grids of one shape and top are all tried.
+const ALL_TRIED: u32 = 1 << 16;
+
+/// Every shape of at most so many rows with every top of which all grids are tried.
+pub fn small_shapes(rows: usize) -> Vec<(usize, usize, u8)> {
+    let few = |cells: usize, top: u8| {
+        let grids = (u32::from(top) + 1).checked_pow(cells as u32);
+        grids.is_some_and(|grids| grids <= ALL_TRIED)
+    };
+    let shapes = shapes_of(rows, 16).into_iter();
+    let every_top = |(m, n)| (0..=15).map(move |top| (m, n, top));
+    let shapes = shapes.flat_map(every_top);
+    shapes.filter(|&(m, n, top)| few(m * n, top)).collect()
 }

@@ -1,4 +1,4 @@
-//! Question 5 on bytes that may be no register, by enter, strike and fit.
+//! Question 5 on bytes that may be no register, by enter, strike, fit and a terminal's enter.
 
 use super::calls::check_call;
 use plan_register::{Refusal, Register};
@@ -19,7 +19,7 @@ pub fn check_layout(bytes: &[u8]) -> bool {
     check_with(bytes, &[])
 }
 
-/// Checks enter, strike and fit on the bytes, with this as grid or bounds, against the reference,
+/// Checks all calls on the bytes, with this as grid or bounds, against the reference,
 /// and that `Register` takes the bytes or refuses them by number 5.
 fn check_with(bytes: &[u8], grid: &[u8]) -> bool {
     let is_register = Contents::read(bytes).is_some();
@@ -28,6 +28,7 @@ fn check_with(bytes: &[u8], grid: &[u8]) -> bool {
         Call::Enter(grid()),
         Call::Strike(grid()),
         Call::Fit((grid(), grid())),
+        Call::TerminalEnter(grid()),
     ] {
         let number = check_call(&mut bytes.to_vec(), &call).number;
         assert_eq!(number == 5, !is_register);

@@ -1,6 +1,8 @@
 //! What several tests share.
 #![allow(dead_code, unused_imports)]
 
+pub mod faults;
+
 pub use reference::examples::{cells, every_grid, plan, register, shapes_up_to};
 use reference::layout::register_length;
 

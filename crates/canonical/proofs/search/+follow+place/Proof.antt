@@ -1,17 +1,20 @@
 -- `follow` and `place` meet their contracts. From one `place` to the next one inside it the number of rows that are not placed falls: the
 -- measure is twice that number, and one more in `place`. The loop's invariant: what is found improves the best, covers the branches of the
--- rows before position t, and does not go back to before position k. The loop's measure is what is left of m.
-use mathlib.Core.Path.{refl}
+-- rows before position t, does not go back to before position k; the bound's best is the candidate at t where it was made so. The loop's measure is what is left of m.
+use mathlib.Core.Path.{_≡_, refl, sym}
+use mathlib.Core.Bool.{true, true≢false}
 use mathlib.Core.Logic.{⊎-elim}
 use Prim.Native.Nat.{ℕ, _<_, _≤_, _+_, _*_, _-_}
 use native.Mathlib.Omega.{arith}
 use borrow.Author.Tests.{not-false}
 use borrow.Fn.Kinds.{In}
 use borrow.Fn.PlainCycle.{Measures, is, falls, and}
-use Rattle.canonical.specs.Search.{Followed}
+use Rattle.canonical.specs.Search.{Candidate, Followed}
 use Rattle.canonical.proofs.SearchLaws.{searching-better}
-use Rattle.canonical.proofs.FollowSteps.{further, follow-cut, follow-jump, follow-settled, follow-again}
-use Rattle.canonical.proofs.PlaceLaws.{searched-better, followed-bound, followed-above, followed-repeated, followed-self, followed-better, followed-all, outcome-searched, outcome-better}
+use Rattle.permutations.specs.Lists.{tabulate}
+use Rattle.canonical.proofs.BoundLaws.{none-marked, bound-none, bound-placed}
+use Rattle.canonical.proofs.FollowSteps.{further, follow-cut, follow-jump, follow-last, follow-settled, follow-again}
+use Rattle.canonical.proofs.PlaceLaws.{followed-bound, followed-above, followed-repeated, followed-self, followed-better, followed-all, outcome-searched, outcome-better}
 use Rattle.canonical.proofs.search.follow.Reads as follow
 use Rattle.canonical.proofs.search.follow.Kinds as follow-kinds
 use Rattle.canonical.proofs.search.+follow+place.Lts-follow as follow-lts
@@ -61,6 +64,10 @@ follow-claims t = (
   lesser-reads.Learnt,
   split-reads.Asked,
   split-reads.Learnt,
+  last-reads.Asked,
+  last-reads.Learnt,
+  bounded-reads.Asked,
+  bounded-reads.Learnt,
   place-below t,
   place.Post,
   settled-reads.Asked,
@@ -80,49 +87,75 @@ follow-split-requires t c κs =
     let p = c .before .before .before .before .before .pre .1 in
     (p .0 .columns-fit, omega (arith, p .1, p .2, p .0 .rows-fit), p .4 .orders .columns)
 
-follow-add-place : (t : ℕ) → follow-lts.Need-add-place (follow-claims t) (follow-at t) follow.Post
-follow-add-place t c = let p = c .before .before .before .before .before .before .pre .1 in omega (arith, p .1, p .2, p .0 .rows-fit)
+follow-add-if2 : (t : ℕ) → follow-lts.Need-add-if2 (follow-claims t) (follow-at t) follow.Post
+follow-add-if2 t c = let p = c .before .before .before .before .before .before .pre .1 in omega (arith, p .1, p .2, p .0 .rows-fit)
 
-follow-place-requires : (t : ℕ) → follow-lts.Need-place-requires (follow-claims t) (follow-at t) follow.Post
-follow-place-requires t c κs =
-    let p = c .before .before .before .before .before .before .pre .1 in (
-      omega (arith, c .before .before .before .before .before .before .pre .0, p .1, p .2),
-      further _ _ _ _ _ _ _ _ _ _ (p .0) (p .1) (p .2) (p .3) (p .4) (c .before .before .before .before .compare-at .ensures) _ (c .before .lesser .ensures) _ (c .before .before .before .is-greater .ensures) (c .before .before .if1 .left) _ (c .split .ensures),
-    )
+follow-add-last : (t : ℕ) → follow-lts.Need-add-last (follow-claims t) (follow-at t) follow.Post
+follow-add-last t c = let p = c .before .before .before .before .before .before .before .pre .1 in omega (arith, p .1, p .2, p .0 .rows-fit)
+
+follow-last-requires : (t : ℕ) → follow-lts.Need-last-requires (follow-claims t) (follow-at t) follow.Post
+follow-last-requires t c κs =
+    let p = c .before .before .before .before .before .before .before .pre .1 in
+    (further _ _ _ _ _ _ _ _ _ _ (p .0) (p .1) (p .2) (p .3) (p .4) (c .before .before .before .before .before .compare-at .ensures) _ (c .before .before .lesser .ensures) _ (c .before .before .before .before .is-greater .ensures) (c .before .before .before .if1 .left) _ (c .before .split .ensures), omega (arith, c .if2 .taken))
 
 follow-returns-2 : (t : ℕ) → follow-lts.Need-returns-2 (follow-claims t) (follow-at t) follow.Post
 follow-returns-2 t c =
-    let p = c .before .before .before .before .before .before .before .before .before .pre .1 in
-    follow-jump _ _ _ _ _ _ _ _ _ _ (p .0) (p .1) (p .2) (p .3) (p .4) (c .before .before .before .before .before .before .before .compare-at .ensures) _ (c .before .before .before .before .lesser .ensures) _ _ (c .before .before .place .ensures) (c .if2 .taken)
+    let p = c .before .before .before .before .before .before .before .before .pre .1 in
+    follow-last _ _ _ _ _ _ _ _ _ _ (p .0) (p .1) (p .2) (p .3) (p .4) (c .before .before .before .before .before .before .compare-at .ensures) _ (c .before .before .before .lesser .ensures) _ _ (c .last .ensures .1) (c .last .ensures .0)
+
+follow-add-bounded : (t : ℕ) → follow-lts.Need-add-bounded (follow-claims t) (follow-at t) follow.Post
+follow-add-bounded t c = let p = c .before .before .before .before .before .before .before .pre .1 in omega (arith, p .1, p .2, p .0 .rows-fit)
+
+follow-bounded-requires : (t : ℕ) → follow-lts.Need-bounded-requires (follow-claims t) (follow-at t) follow.Post
+follow-bounded-requires t c κs =
+    let p = c .before .before .before .before .before .before .before .pre .1 in
+    further _ _ _ _ _ _ _ _ _ _ (p .0) (p .1) (p .2) (p .3) (p .4) (c .before .before .before .before .before .compare-at .ensures) _ (c .before .before .lesser .ensures) _ (c .before .before .before .before .is-greater .ensures) (c .before .before .before .if1 .left) _ (c .before .split .ensures)
+
+follow-add-place : (t : ℕ) → follow-lts.Need-add-place (follow-claims t) (follow-at t) follow.Post
+follow-add-place t c = let p = c .before .before .before .before .before .before .before .before .pre .1 in omega (arith, p .1, p .2, p .0 .rows-fit)
+
+follow-place-requires : (t : ℕ) → follow-lts.Need-place-requires (follow-claims t) (follow-at t) follow.Post
+follow-place-requires t c κs =
+    let p = c .before .before .before .before .before .before .before .before .pre .1 in (
+      omega (arith, c .before .before .before .before .before .before .before .before .pre .0, p .1, p .2),
+      bound-placed _ _ _ _ _ _ _ _ (further _ _ _ _ _ _ _ _ _ _ (p .0) (p .1) (p .2) (p .3) (p .4) (c .before .before .before .before .before .before .compare-at .ensures) _ (c .before .before .before .lesser .ensures) _ (c .before .before .before .before .before .is-greater .ensures) (c .before .before .before .before .if1 .left) _ (c .before .before .split .ensures)) (c .bounded .ensures),
+    )
 
 follow-returns-3 : (t : ℕ) → follow-lts.Need-returns-3 (follow-claims t) (follow-at t) follow.Post
 follow-returns-3 t c =
     let p = c .before .before .before .before .before .before .before .before .before .before .before .pre .1 in
-    follow-settled _ _ _ _ _ _ _ _ _ _ (p .0) (p .1) (p .2) (p .3) (p .4) (c .before .before .before .before .before .before .before .before .before .compare-at .ensures) _ (c .before .before .before .before .before .before .lesser .ensures) _ _ (c .before .before .before .before .place .ensures) (c .before .before .if2 .left) _ (c .before .settled .ensures) (c .if3 .taken)
-
-follow-add-place-2 : (t : ℕ) → follow-lts.Need-add-place-2 (follow-claims t) (follow-at t) follow.Post
-follow-add-place-2 t c = let p = c .before .before .before .before .before .before .before .before .before .before .before .pre .1 in omega (arith, p .1, p .2, p .0 .rows-fit)
-
-follow-place-requires-2 : (t : ℕ) → follow-lts.Need-place-requires-2 (follow-claims t) (follow-at t) follow.Post
-follow-place-requires-2 t c κs =
-    let p = c .before .before .before .before .before .before .before .before .before .before .before .pre .1 in (
-      omega (arith, c .before .before .before .before .before .before .before .before .before .before .before .pre .0, p .1, p .2),
-      searching-better _ _ _ _ _ _ _ _ (further _ _ _ _ _ _ _ _ _ _ (p .0) (p .1) (p .2) (p .3) (p .4) (c .before .before .before .before .before .before .before .before .before .compare-at .ensures) _ (c .before .before .before .before .before .before .lesser .ensures) _ (c .before .before .before .before .before .before .before .before .is-greater .ensures) (c .before .before .before .before .before .before .before .if1 .left) _ (c .before .before .before .before .before .split .ensures)) (c .before .before .before .before .place .ensures .improves),
-    )
+    follow-jump _ _ _ _ _ _ _ _ _ _ (p .0) (p .1) (p .2) (p .3) (p .4) (c .before .before .before .before .before .before .before .before .before .compare-at .ensures) _ (c .before .before .before .before .before .before .lesser .ensures) _ _ (outcome-better _ _ _ _ _ _ _ _ _ (c .before .before .before .bounded .ensures .improves) (c .before .before .place .ensures)) (c .if3 .taken)
 
 follow-returns-4 : (t : ℕ) → follow-lts.Need-returns-4 (follow-claims t) (follow-at t) follow.Post
 follow-returns-4 t c =
-    let p = c .before .before .before .before .before .before .before .before .before .before .before .before .pre .1 in
-    follow-again _ _ _ _ _ _ _ _ _ _ (p .0) (p .1) (p .2) (p .3) (p .4) (c .before .before .before .before .before .before .before .before .before .before .compare-at .ensures) _ (c .before .before .before .before .before .before .before .lesser .ensures) _ _ (c .before .before .before .before .before .place .ensures) _ (c .place2 .ensures)
+    let p = c .before .before .before .before .before .before .before .before .before .before .before .before .before .pre .1 in
+    follow-settled _ _ _ _ _ _ _ _ _ _ (p .0) (p .1) (p .2) (p .3) (p .4) (c .before .before .before .before .before .before .before .before .before .before .before .compare-at .ensures) _ (c .before .before .before .before .before .before .before .before .lesser .ensures) _ _ (outcome-better _ _ _ _ _ _ _ _ _ (c .before .before .before .before .before .bounded .ensures .improves) (c .before .before .before .before .place .ensures)) (c .before .before .if3 .left) _ (c .before .settled .ensures) (c .if4 .taken)
+
+follow-add-place-2 : (t : ℕ) → follow-lts.Need-add-place-2 (follow-claims t) (follow-at t) follow.Post
+follow-add-place-2 t c = let p = c .before .before .before .before .before .before .before .before .before .before .before .before .before .before .pre .1 in omega (arith, p .1, p .2, p .0 .rows-fit)
+
+follow-add-place-3 : (t : ℕ) → follow-lts.Need-add-place-3 (follow-claims t) (follow-at t) follow.Post
+follow-add-place-3 t c = let p = c .before .before .before .before .before .before .before .before .before .before .before .before .before .before .pre .1 in omega (arith, p .1, p .2, p .0 .rows-fit)
+
+follow-place-requires-2 : (t : ℕ) → follow-lts.Need-place-requires-2 (follow-claims t) (follow-at t) follow.Post
+unfolding tabulate
+follow-place-requires-2 t c κs =
+    let p = c .before .before .before .before .before .before .before .before .before .before .before .before .before .before .pre .1 in
+    let f = further _ _ _ _ _ _ _ _ _ _ (p .0) (p .1) (p .2) (p .3) (p .4) (c .before .before .before .before .before .before .before .before .before .before .before .before .compare-at .ensures) _ (c .before .before .before .before .before .before .before .before .before .lesser .ensures) _ (c .before .before .before .before .before .before .before .before .before .before .before .is-greater .ensures) (c .before .before .before .before .before .before .before .before .before .before .if1 .left) _ (c .before .before .before .before .before .before .before .before .split .ensures) in
+    let i = (outcome-better _ _ _ _ _ _ _ _ _ (c .before .before .before .before .before .before .bounded .ensures .improves) (c .before .before .before .before .before .place .ensures)) .improves in (
+      omega (arith, c .before .before .before .before .before .before .before .before .before .before .before .before .before .before .pre .0, p .1, p .2),
+      (searching-better _ _ _ _ _ _ _ _ f i, bound-none _ _ _ _ _ _ _ _ refl refl (λ s h. none-marked s) refl (i .orders)),
+    )
+
+follow-returns-5 : (t : ℕ) → follow-lts.Need-returns-5 (follow-claims t) (follow-at t) follow.Post
+follow-returns-5 t c =
+    let p = c .before .before .before .before .before .before .before .before .before .before .before .before .before .before .before .pre .1 in
+    follow-again _ _ _ _ _ _ _ _ _ _ (p .0) (p .1) (p .2) (p .3) (p .4) (c .before .before .before .before .before .before .before .before .before .before .before .before .before .compare-at .ensures) _ (c .before .before .before .before .before .before .before .before .before .before .lesser .ensures) _ _ (outcome-better _ _ _ _ _ _ _ _ _ (c .before .before .before .before .before .before .before .bounded .ensures .improves) (c .before .before .before .before .before .before .place .ensures)) _ (c .place2 .ensures)
 
 -- ---- `place`
 
 abbrev place-claims : ℕ → place-lts.Claims
 place-claims t = (
-  last-reads.Asked,
-  last-reads.Learnt,
-  bounded-reads.Asked,
-  bounded-reads.Learnt,
   repeated-reads.Asked,
   repeated-reads.Learnt,
   candidate-reads.Asked,
@@ -132,78 +165,60 @@ place-claims t = (
 )
 
 abbrev place-Inv-loop : place-lts.InvT-loop
-place-Inv-loop grid m n k placed breaks jumps above found₀ t₀ found t = (k ≤ t) × Followed m n grid k t placed (found₀ .best) (found .best) × (t₀ ≤ t) × (k ≤ found .back)
+place-Inv-loop grid m n k placed breaks jumps ahead above lowest found₀ made₀ t₀ found made t =
+    (k ≤ t) × Followed m n grid k t placed (found₀ .best) (found .best) × (t₀ ≤ t) × (k ≤ found .back) × (made ≡ true → Candidate m n grid k t placed breaks lowest)
 
 abbrev place-μ-loop : place-lts.MeasureT-loop
-place-μ-loop grid m n k placed breaks jumps above found₀ t₀ found t = m - t
-
-place-add-if1 : (t : ℕ) → place-lts.Need-add-if1 (place-claims t) (place-at t) place.Post place-Inv-loop place-μ-loop
-place-add-if1 t c = let s = c .before .pre .1 in omega (arith, s .placed-fits, s .rows-fit)
-
-place-last-requires : (t : ℕ) → place-lts.Need-last-requires (place-claims t) (place-at t) place.Post place-Inv-loop place-μ-loop
-place-last-requires t c κs = (c .before .before .pre .1, c .if1 .taken)
-
-place-returns : (t : ℕ) → place-lts.Need-returns (place-claims t) (place-at t) place.Post place-Inv-loop place-μ-loop
-place-returns t c = c .last .ensures
-
-place-bounded-requires : (t : ℕ) → place-lts.Need-bounded-requires (place-claims t) (place-at t) place.Post place-Inv-loop place-μ-loop
-place-bounded-requires t c κs = c .before .before .pre .1
+place-μ-loop grid m n k placed breaks jumps ahead above lowest found₀ made₀ t₀ found made t = m - t
 
 place-loop-holds : (t : ℕ) → place-lts.Need-loop-holds (place-claims t) (place-at t) place.Post place-Inv-loop place-μ-loop
-place-loop-holds t c = let b = c .before .before .bounded .ensures in (b .first, followed-bound _ _ _ _ _ _ _ b, omega arith, c .before .before .before .before .before .pre .1 .placed-fits)
+place-loop-holds t c = let p = c .before .before .before .pre .1 in (p .1 .first, followed-bound _ _ _ _ _ _ _ _ (p .1), omega arith, p .0 .placed-fits, p .1 .candidate)
 
-place-array-read-if2 : (t : ℕ) → place-lts.Need-array-read-if2 (place-claims t) (place-at t) place.Post place-Inv-loop place-μ-loop
-place-array-read-if2 t c = omega (arith, c .loop-test .taken, c .before .before .before .before .before .before .before .pre .1 .rows-fit)
+place-array-read-if1 : (t : ℕ) → place-lts.Need-array-read-if1 (place-claims t) (place-at t) place.Post place-Inv-loop place-μ-loop
+place-array-read-if1 t c = omega (arith, c .loop-test .taken, c .before .before .before .before .before .pre .1 .0 .rows-fit)
 
 place-repeated-requires : (t : ℕ) → place-lts.Need-repeated-requires (place-claims t) (place-at t) place.Post place-Inv-loop place-μ-loop
-place-repeated-requires t c κs = omega (arith, c .before .before .before .before .before .before .before .before .pre .1 .columns-fit)
+place-repeated-requires t c κs = omega (arith, c .before .before .before .before .before .before .pre .1 .0 .columns-fit)
 
 place-candidate-requires : (t : ℕ) → place-lts.Need-candidate-requires (place-claims t) (place-at t) place.Post place-Inv-loop place-μ-loop
 place-candidate-requires t c κs =
     let l = c .before .before .before .before .loop .inv in
-    let s = searching-better _ _ _ _ _ _ _ _ (c .before .before .before .before .before .before .before .before .before .before .pre .1) (c .before .before .before .before .before .before .before .bounded .ensures .improves) in
-    (searching-better _ _ _ _ _ _ _ _ s (l .1 .improves), l .0, c .before .before .before .loop-test .taken)
+    (c .before .before .before .before .before .before .before .before .pre .1 .0, l .0, c .before .before .before .loop-test .taken, l .4)
 
 place-follow-requires : (t : ℕ) → place-lts.Need-follow-requires (place-claims t) (place-at t) place.Post place-Inv-loop place-μ-loop
 place-follow-requires t c κs =
     let l = c .before .before .before .before .before .loop .inv in
-    let pre = c .before .before .before .before .before .before .before .before .before .before .before .pre in
-    let s = searching-better _ _ _ _ _ _ _ _ (pre .1) (c .before .before .before .before .before .before .before .before .bounded .ensures .improves) in (
-      omega (arith, pre .0),
+    let s = c .before .before .before .before .before .before .before .before .before .pre .1 .0 in (
+      omega (arith, c .before .before .before .before .before .before .before .before .before .pre .0),
       (searching-better _ _ _ _ _ _ _ _ s (l .1 .improves), l .0, c .before .before .before .before .loop-test .taken, followed-self _ _ _ _ _ _ _ _ _ s (l .1), c .candidate .ensures),
     )
 
-place-returns-2 : (t : ℕ) → place-lts.Need-returns-2 (place-claims t) (place-at t) place.Post place-Inv-loop place-μ-loop
-place-returns-2 t c =
-    outcome-better _ _ _ _ _ _ _ _ _ (c .before .before .before .before .before .before .before .before .before .before .before .bounded .ensures .improves)
-    (outcome-better _ _ _ _ _ _ _ _ _ (c .before .before .before .before .before .before .before .before .loop .inv .1 .improves) (c .before .before .follow .ensures .returns (c .if4 .taken)))
+place-returns : (t : ℕ) → place-lts.Need-returns (place-claims t) (place-at t) place.Post place-Inv-loop place-μ-loop
+place-returns t c = outcome-better _ _ _ _ _ _ _ _ _ (c .before .before .before .before .before .before .before .before .loop .inv .1 .improves) (c .before .before .follow .ensures .returns (c .if3 .taken))
 
 place-loop-again : (t : ℕ) → place-lts.Need-loop-again (place-claims t) (place-at t) place.Post place-Inv-loop place-μ-loop
 place-loop-again t c =
     let l = c .before .before .loop in
     let tm = c .before .loop-test .taken in
-    let b = c .before .before .before .before .before .bounded .ensures in
-    let s = searching-better _ _ _ _ _ _ _ _ (c .before .before .before .before .before .before .before .before .pre .1) (b .improves) in (
+    let p = c .before .before .before .before .before .before .pre .1 in
+    let s = p .0 in (
       omega (arith, l .inv .0),
       ⊎-elim (λ w. rw (w .7) (followed-better _ _ _ _ _ _ _ _ _ s (l .inv .1) _ (w .4 .ensures .goes-on (w .6 .left))))
           (⊎-elim
           (λ w.
           let r = w .1 .ensures .found (not-false _ (w .2 .left)) in
           rw (w .3) (followed-repeated _ _ _ _ _ _ _ _ _ s (l .inv .1) (r .0) (r .1) (r .2) tm (r .3)))
-          (λ w. rw (w .1) (followed-above _ _ _ _ _ _ _ _ _ s (l .inv .1) (b .above (l .t) (l .inv .2) tm (w .0 .left)))))
-          (c .if2 .came),
+          (λ w. rw (w .1) (followed-above _ _ _ _ _ _ _ _ _ s (l .inv .1) (p .1 .above (l .t) (l .inv .2) tm (w .0 .left)))))
+          (c .if1 .came),
       omega (arith, l .inv .2),
-      ⊎-elim (λ w. rw (w .7) (w .6 .left)) (⊎-elim (λ w. rw (w .3) (l .inv .3)) (λ w. rw (w .1) (l .inv .3))) (c .if2 .came),
+      ⊎-elim (λ w. rw (w .7) (w .6 .left)) (⊎-elim (λ w. rw (w .3) (l .inv .3)) (λ w. rw (w .1) (l .inv .3))) (c .if1 .came),
+      λ y. absurd (true≢false (sym y)),
     )
 
-place-returns-3 : (t : ℕ) → place-lts.Need-returns-3 (place-claims t) (place-at t) place.Post place-Inv-loop place-μ-loop
-place-returns-3 t c =
-    let i = c .before .before .before .before .bounded .ensures .improves in
-    let s = c .before .before .before .before .before .before .before .pre .1 in
+place-returns-2 : (t : ℕ) → place-lts.Need-returns-2 (place-claims t) (place-at t) place.Post place-Inv-loop place-μ-loop
+place-returns-2 t c =
     let l = c .before .loop in
-    outcome-searched _ _ _ _ _ _ _ _ (l .inv .3)
-    (searched-better _ _ _ _ _ _ _ _ i
-    (followed-all _ _ _ _ (l .t) _ _ _ _ (searching-better _ _ _ _ _ _ _ _ s i) (l .inv .1) (omega (arith, c .before .before .before .before .before .if1 .left)) (c .loop-test .left)))
+    outcome-searched _ _ _ _ _ _ _ _ (l .inv .3) (followed-all _ _ _ _ (l .t) _ _ _ _ (c .before .before .before .before .before .pre .1 .0) (l .inv .1) (c .loop-test .left))
 
 -- ---- both
 
@@ -218,30 +233,33 @@ pub +follow+place-spec : {M : Type 1} → statement M
     (follow-returns t)
     (λ c κs. tt)
     (follow-split-requires t)
+    (follow-add-if2 t)
+    (follow-add-last t)
+    (follow-last-requires t)
+    (follow-returns-2 t)
+    (follow-add-bounded t)
+    (follow-bounded-requires t)
     (follow-add-place t)
     (follow-place-requires t)
-    (follow-returns-2 t)
-    (λ c κs. tt)
     (follow-returns-3 t)
+    (λ c κs. tt)
+    (follow-returns-4 t)
     (follow-add-place-2 t)
+    (follow-add-place-3 t)
     (follow-place-requires-2 t)
-    (follow-returns-4 t))
+    (follow-returns-5 t))
     λ t. place-lts.spec (place-claims t)
     (place-at t)
     place.Post
     place-Inv-loop
     place-μ-loop
-    (place-add-if1 t)
-    (place-last-requires t)
-    (place-returns t)
-    (place-bounded-requires t)
     (place-loop-holds t)
-    (place-array-read-if2 t)
+    (place-array-read-if1 t)
     (place-repeated-requires t)
     (place-candidate-requires t)
     (place-follow-requires t)
-    (place-returns-2 t)
+    (place-returns t)
     (λ c. omega arith)
     (λ c. omega arith)
     (place-loop-again t)
-    (place-returns-3 t)
+    (place-returns-2 t)

@@ -1,6 +1,7 @@
 -- `lowered` meets its contract. The loop's invariant: `out` improves the best, comes after none of the candidates before position t,
--- and covers those before `from` and those marked in `above`. The measure is what is left of m.
-use mathlib.Core.Path.{refl}
+-- covers those before `from` and those marked in `above`, and is the candidate at `from` where it was made so. The measure is what is left of m.
+use mathlib.Core.Path.{refl, sym}
+use mathlib.Core.Bool.{true≢false}
 use mathlib.Core.Logic.{⊎-elim}
 use Prim.Native.Nat.{_≤_, _-_}
 use native.Mathlib.Omega.{arith}
@@ -14,19 +15,19 @@ use Rattle.canonical.proofs.search.lowered.Statement.{statement}
 use Rattle.canonical.proofs.search.lowered.Tie as tie
 
 abbrev Inv-loop : tie.InvT-loop
-Inv-loop grid m n k placed breaks out₀ from₀ above₀ t₀ out from above t = (k ≤ t) × Lowest m n grid k t placed out₀ out from above
+Inv-loop grid m n k placed breaks out₀ from₀ above₀ made₀ t₀ out from above made t = (k ≤ t) × Lowest m n grid k t placed breaks out₀ out from above made
 
 abbrev μ-loop : tie.MeasureT-loop
-μ-loop grid m n k placed breaks out₀ from₀ above₀ t₀ out from above t = m - t
+μ-loop grid m n k placed breaks out₀ from₀ above₀ made₀ t₀ out from above made t = m - t
 
 loop-holds : tie.Need-loop-holds Inv-loop μ-loop
 unfolding tabulate
-loop-holds c = (omega arith, lowest-none _ _ _ _ _ _ _ (c .before .pre .best-orders) refl none-marked)
+loop-holds c = (omega arith, lowest-none _ _ _ _ _ _ _ _ (c .before .pre .best-orders) refl none-marked)
 
 candidate-requires : tie.Need-candidate-requires Inv-loop μ-loop
 candidate-requires c κs =
     let l = c .before .loop in
-    (searching-better _ _ _ _ _ _ _ _ (c .before .before .before .pre) (l .inv .1 .improves), omega arith, omega arith)
+    (searching-better _ _ _ _ _ _ _ _ (c .before .before .before .pre) (l .inv .1 .improves), omega arith, omega arith, λ y. absurd (true≢false (sym y)))
 
 compare-at-requires : tie.Need-compare-at-requires Inv-loop μ-loop
 compare-at-requires c κs = c .before .before .before .before .pre .columns-fit
@@ -52,19 +53,19 @@ loop-again c =
       omega (arith, l .inv .0),
       ⊎-elim
           (λ w.
-          rw (w .1, w .2, w .3)
-          (lowest-greater _ _ _ _ _ _ _ _ _ _ _ _ s next (l .inv .1) (omega (arith, l .inv .0, tm)) (omega (arith, tm, pre .rows-fit)) (greater-yes _ _ _ _ found test (w .0 .taken))))
+          rw (w .1, w .2, w .3, w .4)
+          (lowest-greater _ _ _ _ _ _ _ _ _ _ _ _ _ s next (l .inv .1) (omega (arith, l .inv .0, tm)) (omega (arith, tm, pre .rows-fit)) (greater-yes _ _ _ _ found test (w .0 .taken))))
           (⊎-elim
-          (λ w. rw (w .3, w .4, w .5) (lowest-less _ _ _ _ _ _ _ _ _ _ _ _ s next (l .inv .1) (omega (arith, l .inv .0, tm)) (less-yes _ _ _ _ found (w .1 .ensures) (w .2 .taken))))
+          (λ w. rw (w .3, w .4, w .5, w .6) (lowest-less _ _ _ _ _ _ _ _ _ _ _ _ _ s next (l .inv .1) (omega (arith, l .inv .0, tm)) (less-yes _ _ _ _ found (w .1 .ensures) (w .2 .taken))))
           (λ w.
-          rw (w .3, w .4, w .5)
-          (lowest-equal _ _ _ _ _ _ _ _ _ _ _ _ s next (l .inv .1) (omega (arith, l .inv .0, tm))
+          rw (w .3, w .4, w .5, w .6)
+          (lowest-equal _ _ _ _ _ _ _ _ _ _ _ _ _ s next (l .inv .1) (omega (arith, l .inv .0, tm))
           (≼-antisymm _ _ (greater-no _ _ _ _ found test (w .0 .left)) (less-no _ _ _ _ found (w .1 .ensures) (w .2 .left))))))
           (c .if1 .came),
     )
 
 returns : tie.Need-returns Inv-loop μ-loop
-returns c = let l = c .before .loop in lowest-bound _ _ _ _ (l .t) _ _ _ (omega arith) (l .inv .1)
+returns c = let l = c .before .loop in lowest-bound _ _ _ _ (l .t) _ _ _ _ (omega arith) (l .inv .1)
 
 pub lowered-spec : {M : Type 1} → statement M
 lowered-spec {M} = tie.close (search (tie.spec {M = M} Inv-loop μ-loop, loop-holds, candidate-requires, compare-at-requires, array-write-above, add-t, loop-less, loop-again, returns, needs))

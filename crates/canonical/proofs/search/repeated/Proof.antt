@@ -5,37 +5,28 @@ use mathlib.Core.Bool.{true≢false}
 use Prim.Native.Nat.{_≤_, _-_}
 use native.Mathlib.Omega.{arith}
 use borrow.Author.Needs.{needs}
-use Rattle.permutations.specs.Permutations.{identity}
 use Rattle.permutations.specs.Rows.{rowNumbers}
-use Rattle.grids.proofs.ComparisonLaws.{equal-yes, equal-no}
-use Rattle.canonical.proofs.RepeatedRows.{rows-compared, NoneUpTo, none-first, none-next, none-all}
+use Rattle.canonical.proofs.RepeatedRows.{rows-named, NoneUpTo, none-first, none-next, none-all}
 use Rattle.canonical.proofs.search.repeated.Statement.{statement}
 use Rattle.canonical.proofs.search.repeated.Tie as tie
 
 abbrev Inv-loop : tie.InvT-loop
-Inv-loop grid n rows k t start row s₀ s = (k ≤ s) × NoneUpTo n grid (rowNumbers rows) k t s
+Inv-loop grid n rows k t row s₀ s = (k ≤ s) × NoneUpTo n grid (rowNumbers rows) k t s
 
 abbrev μ-loop : tie.MeasureT-loop
-μ-loop grid n rows k t start row s₀ s = t - s
+μ-loop grid n rows k t row s₀ s = t - s
 
 loop-holds : tie.Need-loop-holds Inv-loop μ-loop
 loop-holds c = (omega arith, none-first _ _ _ _ _)
 
-compare-rows-requires : tie.Need-compare-rows-requires Inv-loop μ-loop
-compare-rows-requires c κs = omega arith
+equal-rows-requires : tie.Need-equal-rows-requires Inv-loop μ-loop
+equal-rows-requires c κs = omega arith
 
 returns : tie.Need-returns Inv-loop μ-loop
 returns c =
-    let l = c .before .before .before .before .before .loop in
-    let start = c .before .before .before .before .before .before .before .identity .ensures .numbers in
-    let second = c .before .before .before .before .before .before .row .ensures in
-    let first = c .before .before .before .row2 .ensures in
-    let found = rows-compared _ _ _ _ _ _ _ _ (omega arith) start first second (c .before .before .compare-rows .ensures) in
-    let test = c .before .is-equal .ensures in
-    record {
-      found = λ e. (l .s, l .inv .0, omega arith, equal-yes _ _ _ _ found test (c .if1 .taken));
-      none = λ e. absurd (true≢false e);
-    }
+    let l = c .before .before .before .before .loop in
+    let e = rows-named _ _ _ _ _ _ _ (c .before .before .row2 .ensures) (c .before .before .before .before .before .row .ensures) (c .before .equal-rows .ensures) in
+    record { found = λ z. (l .s, l .inv .0, omega arith, e .yes (c .if1 .taken)); none = λ z. absurd (true≢false z) }
 
 add-s : tie.Need-add-s Inv-loop μ-loop
 add-s c = omega arith
@@ -45,13 +36,9 @@ loop-less c = omega arith
 
 loop-again : tie.Need-loop-again Inv-loop μ-loop
 loop-again c =
-    let l = c .before .before .before .before .before .loop in
-    let start = c .before .before .before .before .before .before .before .identity .ensures .numbers in
-    let second = c .before .before .before .before .before .before .row .ensures in
-    let first = c .before .before .before .row2 .ensures in
-    let found = rows-compared _ _ _ _ _ _ _ _ (omega arith) start first second (c .before .before .compare-rows .ensures) in
-    let test = c .before .is-equal .ensures in
-    (omega arith, none-next _ _ _ _ _ (l .s) (equal-no _ _ _ _ found test (c .if1 .left)) (l .inv .1))
+    let l = c .before .before .before .before .loop in
+    let e = rows-named _ _ _ _ _ _ _ (c .before .before .row2 .ensures) (c .before .before .before .before .before .row .ensures) (c .before .equal-rows .ensures) in
+    (omega arith, none-next _ _ _ _ _ (l .s) (e .no (c .if1 .left)) (l .inv .1))
 
 returns-2 : tie.Need-returns-2 Inv-loop μ-loop
 returns-2 c =
@@ -59,4 +46,4 @@ returns-2 c =
     record { found = λ e. absurd (true≢false (sym e)); none = λ e. none-all _ _ _ _ _ (l .s) (omega arith) (l .inv .1) }
 
 pub repeated-spec : {M : Type 1} → statement M
-repeated-spec {M} = tie.close (search (tie.spec {M = M} Inv-loop μ-loop, loop-holds, compare-rows-requires, returns, add-s, loop-less, loop-again, returns-2, needs))
+repeated-spec {M} = tie.close (search (tie.spec {M = M} Inv-loop μ-loop, loop-holds, equal-rows-requires, returns, add-s, loop-less, loop-again, returns-2, needs))

@@ -1,16 +1,16 @@
--- `ask` meets its contract: question 5 gets a no, or what represent answers is the first no of questions 6 and 7.
+-- `ask` meets its contract: question 5 gets a no, or what represent answers, or a terminal's represent, is the first no.
 use mathlib.Core.Path.{sym, _∙_}
 use native.Mathlib.Omega.{arith}
 use borrow.Author.Needs.{needs}
 use borrow.Author.Tests.{not-true}
-use Rattle.register.proofs.AskSteps.{laid-yes, laid-head, head-size, asked-no, asked-yes}
+use Rattle.register.proofs.AskSteps.{laid-yes, laid-head, head-size, asked-no, asked-5, asked-yes}
 use Rattle.register.proofs.asking.ask.Statement.{statement}
 use Rattle.register.proofs.asking.ask.Tie as tie
 
 returns : tie.Need-returns
 returns c =
     let t = c .before .before .is-laid-out in
-    asked-no (sym (t .ensures) ∙ not-true (t .result) (c .before .if1 .taken)) (c .before .before .before .before .before .before .pre) (c .refusal .ensures)
+    asked-no (asked-5 (c .before .before .before .before .before .before .args .terminal) _ _ (sym (t .ensures) ∙ not-true (t .result) (c .before .if1 .taken))) (c .before .before .before .before .before .before .pre) (c .refusal .ensures)
 
 read-head-requires : tie.Need-read-head-requires
 read-head-requires c κs = laid-head _ (laid-yes _ (c .before .is-laid-out .ensures) (c .if1 .left))
@@ -18,8 +18,8 @@ read-head-requires c κs = laid-head _ (laid-yes _ (c .before .is-laid-out .ensu
 mul-size : tie.Need-mul-size
 mul-size c = omega (arith, head-size (laid-yes _ (c .before .before .before .is-laid-out .ensures) (c .before .before .if1 .left)) (c .before .read-head .ensures))
 
-part-represent-end : tie.Need-part-represent-end
-part-represent-end c = omega (arith, head-size (laid-yes _ (c .before .before .before .is-laid-out .ensures) (c .before .before .if1 .left)) (c .before .read-head .ensures), c .before .before .before .before .before .before .before .pre)
+part-write-least-end : tie.Need-part-write-least-end
+part-write-least-end c = omega (arith, head-size (laid-yes _ (c .before .before .before .is-laid-out .ensures) (c .before .before .if1 .left)) (c .before .read-head .ensures), c .before .before .before .before .before .before .before .pre)
 
 same-length : tie.Need-same-length
 same-length c = search needs
@@ -27,9 +27,10 @@ same-length c = search needs
 returns-2 : tie.Need-returns-2
 returns-2 c =
     let a = c .before .before .before .before .before .before .before .before .before .before .before in
-    let r = c .before .before .represent in
-    asked-yes (laid-yes _ (c .before .before .before .before .before .before .before .is-laid-out .ensures) (c .before .before .before .before .before .before .if1 .left)) (c .before .before .before .before .before .read-head .ensures) _ (a .args .least .now) (r .last .1 .1 .1 .1 .0) (a .pre) (r .kept .1 .1 .1 .1 .0) (r .ensures)
+    let r = c .before .before .write-least in
+    asked-yes (laid-yes _ (c .before .before .before .before .before .before .before .is-laid-out .ensures) (c .before .before .before .before .before .before .if1 .left))
+    (c .before .before .before .before .before .read-head .ensures) (a .args .terminal) _ (a .args .least .now) (r .last .1 .1 .1 .1 .1 .0) (a .pre) (r .kept .1 .1 .1 .1 .1 .0) (r .ensures)
 
 pub ask-spec : {M : Type 1} → statement M
 ask-spec =
-    tie.close (search (tie.spec, returns, read-head-requires, mul-size, part-represent-end, same-length, returns-2, needs))
+    tie.close (search (tie.spec, returns, read-head-requires, mul-size, part-write-least-end, same-length, returns-2, needs))

@@ -1,0 +1,61 @@
+-- A terminal's enter: where question 14 gets a yes it is enter; elsewhere it is refused, by 5 or by 14.
+--
+--   terminal-entered   ==  where question 14 gets a yes, a terminal's enter answers and leaves what enter does
+--   enter-alike        ==  so on a register of up to 5 rows both enters are alike, of every implementation that meets their contracts
+--   unlaid-terminal-entered, no-terminal-entered, terminal-entered-many  ==  bytes that are not laid out are refused by 5; a register of 6 to 8 rows is by 14
+--   terminal-cases     ==  what holds of enter's outcome and of these two refusals holds of its outcome
+--   terminal-entered-refused  ==  where a question gets a no, it answers the number, and nothing changes
+--   terminal-held-unchanged, terminal-entered-length  ==  101 changes nothing; the slice keeps its length
+use mathlib.Core.Path.{_≡_, refl, sym, ap, subst, _∙_}
+use mathlib.Core.List.{List}
+use mathlib.Core.Bool.{true, false}
+use mathlib.Core.Logic.{_⊎_, inl, inr}
+use Prim.Native.Nat.{ℕ, suc, _≤_}
+use native.Mathlib.Omega.{arith}
+use lib.ListN.{length}
+use Rattle.permutations.proofs.BoolLaws.{yes-or-no}
+use Rattle.grids.specs.Questions.{firstNo, question14}
+use Rattle.grids.proofs.TerminalLaws.{after-yes, after-no, after-stop, few-rows, many-rows}
+use Rattle.layout.specs.Layout.{decodeShape, decode, laidOut}
+use Rattle.machine.specs.Calls.{Outcome, refusal, answered, question5, leastIn, enterInto, enterQuestions, enterRegister, entered, terminalEnterQuestions, terminalEnterRegister, terminalEntered}
+use Rattle.machine.specs.CallLists.{Implementation, Meets, EnterAlike}
+use Rattle.machine.proofs.RefusalLaws.{answered-refused, held-unchanged}
+use Rattle.machine.proofs.CallLaws.{entered-length}
+
+module _ (b g : List ℕ) where
+  pub terminal-entered : question14 (decode b .shape .rows) .answer ≡ true → terminalEntered b g ≡ entered b g
+  unfolding terminalEntered terminalEnterRegister terminalEnterQuestions entered enterRegister
+  terminal-entered e = ap (λ (k : ℕ). answered k b (enterInto b (decode b) (leastIn (decode b .shape) g))) (after-yes _ (enterQuestions b (decode b) g (leastIn (decode b .shape) g)) e)
+
+  pub terminal-entered-refused : (k : ℕ) → firstNo (terminalEnterQuestions b (decode b) g (leastIn (decode b .shape) g)) ≡ suc k → terminalEntered b g ≡ refusal (suc k) b
+  unfolding terminalEntered terminalEnterRegister
+  terminal-entered-refused k e = answered-refused _ k b _ e
+
+  pub unlaid-terminal-entered : laidOut b ≡ false → terminalEntered b g ≡ refusal 5 b
+  unfolding terminalEnterQuestions enterQuestions question5
+  unlaid-terminal-entered e = terminal-entered-refused 4 (after-stop _ (question5 b) _ e)
+
+  pub no-terminal-entered : laidOut b ≡ true → question14 (decode b .shape .rows) .answer ≡ false → terminalEntered b g ≡ refusal 14 b
+  unfolding terminalEnterQuestions enterQuestions question5 question14
+  no-terminal-entered e h = terminal-entered-refused 13 (after-no _ (question5 b) _ e h)
+
+  pub terminal-entered-many : laidOut b ≡ true → 6 ≤ decode b .shape .rows → decode b .shape .rows ≤ 8 → terminalEntered b g ≡ refusal 14 b
+  terminal-entered-many e x y = no-terminal-entered e (many-rows _ x y)
+
+  pub terminal-cases : (P : Outcome → Type 0) → P (entered b g) → P (refusal 5 b) → P (refusal 14 b) → P (terminalEntered b g)
+  terminal-cases P p x y = go (yes-or-no (question14 (decode b .shape .rows) .answer)) (yes-or-no (laidOut b))
+    where
+      go : (question14 (decode b .shape .rows) .answer ≡ true) ⊎ (question14 (decode b .shape .rows) .answer ≡ false) → (laidOut b ≡ true) ⊎ (laidOut b ≡ false) → P (terminalEntered b g)
+      go (inl e) l = subst P (sym (terminal-entered e)) p
+      go (inr h) (inl e) = subst P (sym (no-terminal-entered e h)) y
+      go (inr h) (inr e) = subst P (sym (unlaid-terminal-entered e)) x
+
+  pub terminal-held-unchanged : terminalEntered b g .number ≡ 101 → terminalEntered b g .bytes ≡ b
+  terminal-held-unchanged = terminal-cases (λ o. o .number ≡ 101 → o .bytes ≡ b) (held-unchanged b g) (λ e. refl) (λ e. refl)
+
+  pub terminal-entered-length : length (terminalEntered b g .bytes) ≡ length b
+  terminal-entered-length = terminal-cases (λ o. length (o .bytes) ≡ length b) (entered-length b g) refl refl
+
+pub enter-alike : (i : Implementation) → Meets i → EnterAlike i
+unfolding EnterAlike decode
+enter-alike i h b g r = h .terminalEnters b g ∙ terminal-entered b g (few-rows _ r) ∙ sym (h .enters b g)

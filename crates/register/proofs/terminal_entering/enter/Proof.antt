@@ -1,0 +1,37 @@
+-- A terminal's `enter` meets its contract: a refusal of questions 5, 14, 6 and 7, or what entering the least grid gives.
+use borrow.Author.Needs.{needs}
+use Rattle.machine.specs.Valid.{enteredLeast}
+use Rattle.machine.proofs.LeastSteps.{terminal-entered-asked}
+use Rattle.register.proofs.AskSteps.{asked-fits, asked-valid, call-refused, call-least}
+use Rattle.register.proofs.terminal_entering.enter.Statement.{statement}
+use Rattle.register.proofs.terminal_entering.enter.Tie as tie
+
+returns : tie.Need-returns
+returns c =
+    let a = c .before .before .before .before .before .before .before .before .before in
+    let k = c .before .before .before .before .ask in
+    call-refused (k .ensures) (enteredLeast (a .args .register .now)) (terminal-entered-asked (a .args .register .now) (a .args .grid .now)) (c .before .if1 .taken) (c .refused .ensures .0) (c .refused .ensures .1)
+
+part-enter-least-end : tie.Need-part-enter-least-end
+part-enter-least-end c =
+    let k = c .before .before .before .before .before .ask in
+    asked-fits (k .ensures) (c .before .before .if1 .left)
+
+enter-least-requires : tie.Need-enter-least-requires
+enter-least-requires c κs =
+    let k = c .before .before .before .before .before .before .ask in
+    let z = c .before .before .before .if1 .left in
+    (asked-valid (k .ensures) z, k .ensures .capacity-is z)
+
+same-length-2 : tie.Need-same-length-2
+same-length-2 c = search needs
+
+returns-2 : tie.Need-returns-2
+returns-2 c =
+    let a = c .before .before .before .before .before .before .before .before .before .before .before .before .before .before in
+    let k = c .before .before .before .before .before .before .before .before .before .ask in
+    call-least (k .ensures) (enteredLeast (a .args .register .now)) (terminal-entered-asked (a .args .register .now) (a .args .grid .now)) (c .before .before .before .before .before .before .if1 .left) (c .before .before .enter-least .ensures)
+
+pub enter-spec : {M : Type 1} → statement M
+enter-spec =
+    tie.close (search (tie.spec, returns, part-enter-least-end, enter-least-requires, same-length-2, returns-2, needs))

@@ -1,0 +1,20 @@
+// A terminal's enter: at most five rows.
+use crate::answers;
+use crate::answers::Placed;
+use crate::asking;
+use crate::entering;
+ghost use mathlib.Core.Path.{_≡_};
+ghost use Rattle.machine.specs.Calls.{terminalEntered, placed};
+
+// Enters the class of a grid, as enter does. Where a question gets a no: its number with place 0, and the register as it was.
+pub fn enter(register: &mut [u8], grid: &[u8]) -> Placed
+    ensures { λ r. ⌜ placed (r .number) (r .place) (now (register .exit)) ≡ terminalEntered (now (register .entry)) (now (grid .entry)) ⌝ }
+{
+    let mut least = [0u8; 128];
+    let asked = asking::ask(register, grid, &mut least, true);
+    if asked.number != 0 {
+        return answers::refused(asked.number);
+    }
+    let size = asked.size;
+    entering::enter_least(register, asked.capacity, asked.count, &least[0..size])
+}
