@@ -10,7 +10,8 @@
 --   same-first-no, number-asked, same-asked  ==  a refusal has its question's number; 0 is no refusal
 --   represented-by, compared-by  ==  there is an answer where the rows fit the width
 --   represent-answers, same-answers  ==  so on all arguments represent and same have one
---   represent-refused, same-refused  ==  in a refusal and with 103: the number, orders that move nothing, and the slice as it was
+--   represented-refused, compared-refused  ==  in a refusal and with 103: the number, orders that move nothing, and the slice as it was
+--   represent-refused, same-refused  ==  so it is of represent and same
 --   produces-past        ==  orders that produce a grid have `width` and 16 positions, and those past the rows and columns hold their own number
 --   same-orders          ==  orders by which B is the arrangement of A, from those that produce the least grid from each
 use mathlib.Core.Path.{_≡_, refl, sym, ap, _∙_}
@@ -241,21 +242,31 @@ same-answers m n top a b = compared-by 8 _ _ m n a b λ z.
 
 -- ---- what a caller reads off an answer
 
-pub represent-refused : (m n top : ℕ) (g out : List ℕ) (k : ℕ) → firstNo (representQuestions m n top g out) ≡ suc k →
-    (number : ℕ) (rows columns out′ : List ℕ) → Represented m n top g out number rows columns out′ →
-    (number ≡ suc k) × (rows ≡ identity 8) × (columns ≡ identity 16) × (out′ ≡ out)
-represent-refused m n top g out k e number rows columns out′ r =
+pub represented-refused : (width k m n : ℕ) (g out : List ℕ) (j : ℕ) → k ≡ suc j →
+    (number : ℕ) (rows columns out′ : List ℕ) → RepresentedBy width k m n g out number rows columns out′ →
+    (number ≡ suc j) × (rows ≡ identity width) × (columns ≡ identity 16) × (out′ ≡ out)
+represented-refused width k m n g out j e number rows columns out′ r =
     let z = r .number-is ∙ e in
     let s = r .starting (λ h. omega arith) in
     (z, s .row-identity, s .column-identity, r .unchanged (λ h. omega arith))
 
-pub same-refused : (m n top : ℕ) (a b : List ℕ) (k : ℕ) → sameNumber m n top a b ≡ suc k →
-    (number agreed : ℕ) (rows columns : List ℕ) → Compared m n top a b number agreed rows columns →
-    (number ≡ suc k) × (rows ≡ identity 8) × (columns ≡ identity 16)
-same-refused m n top a b k e number agreed rows columns r =
+pub represent-refused : (m n top : ℕ) (g out : List ℕ) (k : ℕ) → firstNo (representQuestions m n top g out) ≡ suc k →
+    (number : ℕ) (rows columns out′ : List ℕ) → Represented m n top g out number rows columns out′ →
+    (number ≡ suc k) × (rows ≡ identity 8) × (columns ≡ identity 16) × (out′ ≡ out)
+represent-refused m n top g out k e = represented-refused 8 _ m n g out k e
+
+pub compared-refused : (width k c m n : ℕ) (a b : List ℕ) (j : ℕ) → k ≡ suc j →
+    (number agreed : ℕ) (rows columns : List ℕ) → ComparedBy width k c m n a b number agreed rows columns →
+    (number ≡ suc j) × (rows ≡ identity width) × (columns ≡ identity 16)
+compared-refused width k c m n a b j e number agreed rows columns r =
     let z = r .number-is ∙ e in
     let s = r .starting (λ h. omega arith) in
     (z, s .row-identity, s .column-identity)
+
+pub same-refused : (m n top : ℕ) (a b : List ℕ) (k : ℕ) → sameNumber m n top a b ≡ suc k →
+    (number agreed : ℕ) (rows columns : List ℕ) → Compared m n top a b number agreed rows columns →
+    (number ≡ suc k) × (rows ≡ identity 8) × (columns ≡ identity 16)
+same-refused m n top a b k e = compared-refused 8 _ _ m n a b k e
 
 pub produces-past : (width m n : ℕ) (a b rows columns : List ℕ) → Produces width m n a b rows columns →
     (length rows ≡ width) × (length columns ≡ 16) × ((i : ℕ) → i < width → m ≤ i → getD rows i 0 ≡ i) × ((j : ℕ) → j < 16 → n ≤ j → getD columns j 0 ≡ j)

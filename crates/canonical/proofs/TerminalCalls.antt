@@ -16,16 +16,15 @@ use Prim.Native.Nat.{ℕ, _*_, _≤_}
 use native.Mathlib.Omega.{arith}
 use lib.ListN.{length, take}
 use lib.Seq.{take-take}
-use Rattle.permutations.specs.Permutations.{identity}
 use Rattle.permutations.specs.Padded.{padded}
 use Rattle.permutations.specs.declared.terminal_rows.TerminalRowPermutation.{TerminalRowPermutation}
 use Rattle.permutations.specs.Rows.{rowNumbers}
 use Rattle.permutations.specs.TerminalRows.{terminalRowNumbers, ListsTerminalRows}
 use Rattle.permutations.specs.Columns.{columnNumbers}
 use Rattle.permutations.proofs.PaddedLaws.{take-padded}
-use Rattle.grids.specs.Grids.{IsGrid, OneClass}
-use Rattle.grids.specs.Least.{IsLeast, least}
-use Rattle.grids.specs.Questions.{Question, firstNo, Limits, question14}
+use Rattle.grids.specs.Grids.{IsGrid}
+use Rattle.grids.specs.Least.{least}
+use Rattle.grids.specs.Questions.{firstNo, Limits, question14}
 use Rattle.grids.proofs.LeastLaws.{least-is}
 use Rattle.grids.proofs.TerminalLaws.{after-yes, few-rows, many-rows, terminal-rows, terminal-no, terminal-pass}
 use Rattle.canonical.specs.declared.search.Orders.{Orders}

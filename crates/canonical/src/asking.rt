@@ -19,7 +19,7 @@ pub fn represent_no(m: usize, n: usize, top: usize, grid: &[u8], out: &[u8]) -> 
     0
 }
 
-// The same of same.
+// Questions 1, 2, 3, 6 and 7 of same, likewise.
 pub fn same_no(m: usize, n: usize, top: usize, a: &[u8], b: &[u8]) -> u32
     ensures { λ r. ⌜ r ≡ firstNo (sameQuestions m n top (now (a .entry)) (now (b .entry))) ⌝ }
 {
@@ -47,7 +47,7 @@ pub fn terminal_represent_no(m: usize, n: usize, top: usize, grid: &[u8], out: &
     represent_no(m, n, top, grid, out)
 }
 
-// The same of a terminal's same.
+// Those of a terminal's same, likewise.
 pub fn terminal_same_no(m: usize, n: usize, top: usize, a: &[u8], b: &[u8]) -> u32
     ensures { λ r. ⌜ r ≡ firstNo (terminalSameQuestions m n top (now (a .entry)) (now (b .entry))) ⌝ }
 {

@@ -3,7 +3,6 @@
 --   after-yes    ==  where it gets a yes, the first no is that of the other questions
 --   after-no     ==  where it gets a no and the first question a yes, it is its number
 --   after-stop   ==  where the first question gets a no, it is that question's number
---   after-each   ==  what holds of the number of each question, and of its number, holds of each number then
 --   other-rows, few-rows, many-rows  ==  question 14 gets a yes for rows other than 6 to 8, so for at most 5; a no for 6 to 8
 --   rows-above   ==  from 6 rows on it asks whether they are more than 8
 --   terminal-rows  ==  rows of at most 8 that get a yes are at most 5
@@ -20,7 +19,7 @@ use lib.Dec.{ltb}
 use borrow.Author.Tests.{lt-ltb, le-ltb}
 use Rattle.permutations.proofs.BoolLaws.{yes-or-no}
 use Rattle.grids.specs.Questions.{Question, firstNo, question1, question14, afterFirst}
-use Rattle.grids.proofs.QuestionLaws.{EachNumber, firstNo-pass, firstNo-stop, yes-range}
+use Rattle.grids.proofs.QuestionLaws.{firstNo-pass, firstNo-stop, yes-range}
 use Rattle.grids.proofs.QuestionSteps.{range-no}
 
 -- ---- after the first question
@@ -37,11 +36,6 @@ after-no q x l yes-first e = firstNo-pass x (q ∷ l) yes-first ∙ firstNo-stop
 pub after-stop : (q x : Question) (l : List Question) → x .answer ≡ false → firstNo (afterFirst q (x ∷ l)) ≡ x .number
 unfolding afterFirst
 after-stop q x l e = firstNo-stop x (q ∷ l) e
-
-pub after-each : (P : ℕ → Type 0) (q : Question) (l : List Question) → P (q .number) → EachNumber P l → EachNumber P (afterFirst q l)
-unfolding afterFirst
-after-each P q [] p h = (p, tt)
-after-each P q (x ∷ l) p h = (h .0, (p, h .1))
 
 -- ---- question 14
 

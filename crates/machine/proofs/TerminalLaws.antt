@@ -11,12 +11,11 @@ use mathlib.Core.List.{List}
 use mathlib.Core.Bool.{true, false}
 use mathlib.Core.Logic.{_⊎_, inl, inr}
 use Prim.Native.Nat.{ℕ, suc, _≤_}
-use native.Mathlib.Omega.{arith}
 use lib.ListN.{length}
 use Rattle.permutations.proofs.BoolLaws.{yes-or-no}
 use Rattle.grids.specs.Questions.{firstNo, question14}
 use Rattle.grids.proofs.TerminalLaws.{after-yes, after-no, after-stop, few-rows, many-rows}
-use Rattle.layout.specs.Layout.{decodeShape, decode, laidOut}
+use Rattle.layout.specs.Layout.{decode, laidOut}
 use Rattle.machine.specs.Calls.{Outcome, refusal, answered, question5, leastIn, enterInto, enterQuestions, enterRegister, entered, terminalEnterQuestions, terminalEnterRegister, terminalEntered}
 use Rattle.machine.specs.CallLists.{Implementation, Meets, EnterAlike}
 use Rattle.machine.proofs.RefusalLaws.{answered-refused, held-unchanged}

@@ -3,7 +3,7 @@
 --
 --   liveNext m n a was c k  ==  whether the class of a is live after the call c with the number k, where `was` says whether it was before
 --   liveAfter m n a was calls os  ==  the same after the calls with the outcomes os
---   live i s b calls a   ==  the same from an open that left the bytes b: the last accepted enter or strike of the class is an enter
+--   live i s b calls a   ==  the same from an open that left the bytes b: the last accepted enter or strike of the class is an enter, a terminal's or not
 --   Once l               ==  no grid stands twice in l
 --   ListsLive m n live l ==  l lists the least grid of each live class once
 --   AfterOpen i s b calls  ==  what holds after the open left b and the calls were made

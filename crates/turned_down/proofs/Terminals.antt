@@ -28,7 +28,7 @@ use Rattle.canonical.specs.Demand2.{TerminalRepresentLeast}
 use Rattle.canonical.proofs.CallLaws.{represent-pass}
 use Rattle.layout.specs.Decimal.{lead, field, digit, valueFrom, value}
 use Rattle.layout.specs.Layout.{Shape, gridSize, fields, entryWidth, lineLength, entryLine, blankLine, headLine, layout, layoutLength, numberAt, count, entryAt, decodeShape, decode, InLimits, inLimits, ascending, isRegister, laidOut}
-use Rattle.machine.specs.Calls.{Outcome, placed, question5, gridQuestions, leastIn, holds, question9, placeIn, insert, enterQuestions, terminalEnterQuestions}
+use Rattle.machine.specs.Calls.{Outcome, placed, question5, gridQuestions, holds, question9, placeIn, insert, enterQuestions, terminalEnterQuestions}
 use Rattle.machine.specs.CallLists.{terminalEnter, Implementation, called, questionsOf, accepted}
 use Rattle.machine.specs.Machine.{sorted, shown, stepUnless, enterClass, step, outcome}
 use Rattle.machine.specs.Demand1.{Demand1}

@@ -1,6 +1,6 @@
 -- `same` meets its contract: a refusal has the number of the first no; past the questions the two least arrangements decide,
 -- and where these are equal, a's orders followed by the inverses of b's carry a to b.
-use mathlib.Core.Path.{_≡_, refl, sym, _∙_}
+use mathlib.Core.Path.{_≡_, sym, _∙_}
 use native.Mathlib.Omega.{arith}
 use borrow.Author.Tests.{not-true, not-false}
 use borrow.Author.Needs.{needs}

@@ -6,7 +6,7 @@ use native.Mathlib.Omega.{arith}
 use borrow.Author.Tests.{not-true, not-false}
 use borrow.Author.Needs.{needs}
 use Rattle.grids.specs.Grids.{IsGrid}
-use Rattle.grids.specs.Questions.{firstNo, Limits, question14}
+use Rattle.grids.specs.Questions.{firstNo, Limits}
 use Rattle.grids.proofs.TerminalLaws.{few-rows}
 use Rattle.canonical.specs.Same.{sameQuestions, terminalSameNumber, terminalSameAgreed}
 use Rattle.canonical.proofs.CallLaws.{same-pass}
