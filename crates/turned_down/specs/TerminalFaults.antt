@@ -16,7 +16,7 @@
 --   StoresAsSent i        ==  a terminal's enter stores the grid in the order in which it was sent
 --   TerminalAppends i     ==  its new entry goes behind the others
 --   OnlyAcknowledges i    ==  it stores nothing
---   EntersTwice i         ==  it holds no class to be held already
+--   EntersTwice i         ==  it never answers 101, so that a class that is held is entered again
 use mathlib.Core.Path.{_≡_}
 use mathlib.Core.List.{List}
 use mathlib.Core.Bool.{true, false}
