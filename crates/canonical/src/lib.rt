@@ -2,6 +2,7 @@
 pub mod answers;
 mod asking;
 mod blocks;
+mod comparing;
 pub mod represent;
 pub mod same;
 mod search;

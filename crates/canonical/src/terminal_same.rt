@@ -2,7 +2,7 @@
 use crate::answers;
 use crate::answers::TerminalMatch;
 use crate::asking;
-use crate::same;
+use crate::comparing;
 use crate::terminal_search;
 use grids::comparisons;
 use permutations::terminal_rows::TerminalRowPermutation;
@@ -21,7 +21,7 @@ pub fn same(m: usize, n: usize, top: usize, a: &[u8], b: &[u8]) -> TerminalMatch
     }
     let p = terminal_search::least_orders(a, m, n);
     let q = terminal_search::least_orders(b, m, n);
-    let compared = same::compare_arrangements(a, b, m, n, p, q);
+    let compared = comparing::compare_arrangements(a, b, m, n, p, q);
     let found = compared.found;
     let agreed = compared.agreed as u32;
     if !comparisons::is_equal(found) {

@@ -10,6 +10,7 @@
 --   represent-asked   ==  of a register's numbers, and a slice of the right length, represent asks questions 6 and 7
 --   represent-first, terminal-represent-first, least-first  ==  its first no, and that of a terminal's represent, is then the first no asked for
 --   asked-yes         ==  question 5 gets a yes: what represent answers is the first no, and what it writes the least grid
+--   entered-by        ==  either enter: these, then the least grid
 --   asked-fits, asked-valid  ==  what is known where each got a yes
 --   call-refused, call-least  ==  a call that asks these first, and then goes by the least grid
 use mathlib.Core.Path.{_≡_, refl, sym, ap, ap₂, _∙_}
@@ -35,11 +36,11 @@ use Rattle.layout.proofs.LineLaws.{laid-lines}
 use Rattle.lines.specs.declared.head.Head.{Head}
 use Rattle.lines.specs.Head.{States}
 use Rattle.machine.specs.Calls.{Outcome, answered, question5, gridQuestions, leastIn, placed}
-use Rattle.machine.specs.Valid.{Valid, asked, terminalAsked}
-use Rattle.machine.proofs.LeastSteps.{answered-refusal}
+use Rattle.machine.specs.Valid.{Valid, asked, terminalAsked, enteredLeast}
+use Rattle.machine.proofs.LeastSteps.{answered-refusal, entered-asked, terminal-entered-asked}
 use Rattle.machine.proofs.ValidLaws.{valid-sizes}
 use Rattle.register.specs.declared.asking.Asked.{Asked}
-use Rattle.register.specs.Asked.{leastQuestions, WritesLeast, askedBy, Asks}
+use Rattle.register.specs.Asked.{leastQuestions, WritesLeast, askedBy, enteredBy, Asks}
 
 pub laid-yes : {t : Bool} (b : List ℕ) → t ≡ laidOut b → not t ≡ false → laidOut b ≡ true
 laid-yes {t} b e y = sym e ∙ not-false t y
@@ -131,6 +132,11 @@ module _ {b : List ℕ} {h : Head} (laid : laidOut b ≡ true) (st : States b h)
         capacity-is = λ _. head-capacity;
         least-is = λ e. take-at ys _ (h .rows * h .columns) (k ∙ z) ∙ r .written e ∙ ap₂ (λ (m n : ℕ). least m n g) head-rows head-columns;
       }
+
+-- either enter asks these first
+pub entered-by : (t : Bool) (b g : List ℕ) → enteredBy t b g ≡ answered (askedBy t b g) b (enteredLeast b (leastIn (decode b .shape) g))
+entered-by true b g = terminal-entered-asked b g
+entered-by false b g = entered-asked b g
 
 -- a call that asks these first, and then goes by the least grid
 module _ {j : ℕ} {b g out : List ℕ} {r : Asked} (k : Asks j b g out r) where

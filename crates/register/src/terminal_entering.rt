@@ -1,7 +1,5 @@
 // A terminal's enter: at most five rows.
-use crate::answers;
 use crate::answers::Placed;
-use crate::asking;
 use crate::entering;
 ghost use mathlib.Core.Path.{_≡_};
 ghost use Rattle.machine.specs.Calls.{terminalEntered, placed};
@@ -10,11 +8,5 @@ ghost use Rattle.machine.specs.Calls.{terminalEntered, placed};
 pub fn enter(register: &mut [u8], grid: &[u8]) -> Placed
     ensures { λ r. ⌜ placed (r .number) (r .place) (now (register .exit)) ≡ terminalEntered (now (register .entry)) (now (grid .entry)) ⌝ }
 {
-    let mut least = [0u8; 128];
-    let asked = asking::ask(register, grid, &mut least, true);
-    if asked.number != 0 {
-        return answers::refused(asked.number);
-    }
-    let size = asked.size;
-    entering::enter_least(register, asked.capacity, asked.count, &least[0..size])
+    entering::enter_by(register, grid, true)
 }

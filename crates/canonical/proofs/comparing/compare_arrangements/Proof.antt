@@ -3,8 +3,8 @@ use native.Mathlib.Omega.{arith}
 use borrow.Author.Needs.{needs}
 use Rattle.grids.proofs.QuestionLaws.{size-fits}
 use Rattle.canonical.proofs.CallSteps.{written-within, arrangements-compared}
-use Rattle.canonical.proofs.same.compare_arrangements.Statement.{statement}
-use Rattle.canonical.proofs.same.compare_arrangements.Tie as tie
+use Rattle.canonical.proofs.comparing.compare_arrangements.Statement.{statement}
+use Rattle.canonical.proofs.comparing.compare_arrangements.Tie as tie
 
 mul-size : tie.Need-mul-size
 mul-size c = let a = c .before .before .args in omega (arith, size-fits (a .m) (a .n) (omega arith) (omega arith))

@@ -1,16 +1,15 @@
--- `enter` meets its contract: a refusal of questions 5, 6 and 7, or what entering the least grid gives.
+-- `enter_by` meets its contract: a refusal of what is asked first, or what entering the least grid gives.
 use borrow.Author.Needs.{needs}
 use Rattle.machine.specs.Valid.{enteredLeast}
-use Rattle.machine.proofs.LeastSteps.{entered-asked}
-use Rattle.register.proofs.AskSteps.{asked-fits, asked-valid, call-refused, call-least}
-use Rattle.register.proofs.entering.enter.Statement.{statement}
-use Rattle.register.proofs.entering.enter.Tie as tie
+use Rattle.register.proofs.AskSteps.{asked-fits, asked-valid, entered-by, call-refused, call-least}
+use Rattle.register.proofs.entering.enter_by.Statement.{statement}
+use Rattle.register.proofs.entering.enter_by.Tie as tie
 
 returns : tie.Need-returns
 returns c =
     let a = c .before .before .before .before .before .before .before .before .before in
     let k = c .before .before .before .before .ask in
-    call-refused (k .ensures) (enteredLeast (a .args .register .now)) (entered-asked (a .args .register .now) (a .args .grid .now)) (c .before .if1 .taken) (c .refused .ensures .0) (c .refused .ensures .1)
+    call-refused (k .ensures) (enteredLeast (a .args .register .now)) (entered-by (a .args .terminal) (a .args .register .now) (a .args .grid .now)) (c .before .if1 .taken) (c .refused .ensures .0) (c .refused .ensures .1)
 
 part-enter-least-end : tie.Need-part-enter-least-end
 part-enter-least-end c =
@@ -30,8 +29,8 @@ returns-2 : tie.Need-returns-2
 returns-2 c =
     let a = c .before .before .before .before .before .before .before .before .before .before .before .before .before .before in
     let k = c .before .before .before .before .before .before .before .before .before .ask in
-    call-least (k .ensures) (enteredLeast (a .args .register .now)) (entered-asked (a .args .register .now) (a .args .grid .now)) (c .before .before .before .before .before .before .if1 .left) (c .before .before .enter-least .ensures)
+    call-least (k .ensures) (enteredLeast (a .args .register .now)) (entered-by (a .args .terminal) (a .args .register .now) (a .args .grid .now)) (c .before .before .before .before .before .before .if1 .left) (c .before .before .enter-least .ensures)
 
-pub enter-spec : {M : Type 1} → statement M
-enter-spec =
+pub enter-by-spec : {M : Type 1} → statement M
+enter-by-spec =
     tie.close (search (tie.spec, returns, part-enter-least-end, enter-least-requires, same-length-2, returns-2, needs))
