@@ -41,7 +41,7 @@ enum {
     PLAN_REGISTER_NOT_HELD = 10,      /* the class is not held */
     PLAN_REGISTER_TERMINAL_ROWS = 14, /* a terminal's rows are 6 to 8 */
     PLAN_REGISTER_HELD = 101,         /* enter: the class was held already */
-    PLAN_REGISTER_NO_GRID = 102,      /* prune and fit: no grid within the bounds has allperm */
+    PLAN_REGISTER_NO_GRID = 102,      /* prune: no grid within the bounds has allperm */
     PLAN_REGISTER_TWO_CLASSES = 103   /* same: the two grids are in two classes */
 };
 
@@ -73,10 +73,10 @@ typedef struct plan_register_placed {
     uint32_t place; /* the line of the entry, the first entry's being 1; 0 by open and with a refusal */
 } plan_register_placed;
 
-/* What prune and fit return. */
+/* What prune and count return. */
 typedef struct plan_register_counted {
     uint32_t number;
-    uint32_t count; /* of values removed by prune, of entries by fit; 0 with any number but 0 */
+    uint32_t count; /* of values removed by prune, of entries by count; 0 with any number but 0 */
 } plan_register_counted;
 
 /* What a terminal's represent returns: as represent, but for at most 5 rows. */
@@ -148,7 +148,7 @@ plan_register_placed plan_register_open(size_t m, size_t n, size_t top, size_t c
                                         uint8_t *bytes, size_t bytes_length);
 
 /* Enter: the grid's class is held from then on by the register in bytes. The grid has m * n bytes, as
- * the register states them; so have the grid of strike and the bounds of fit.
+ * the register states them; so have the grid of strike and the bounds of count.
  * 0 with the entry's place if the class was new; 101 with its place if it was held, and nothing is
  * written; otherwise 5, 6, 7 or 9. */
 plan_register_placed plan_register_enter(uint8_t *bytes, size_t bytes_length,
@@ -159,11 +159,13 @@ plan_register_placed plan_register_enter(uint8_t *bytes, size_t bytes_length,
 plan_register_placed plan_register_strike(uint8_t *bytes, size_t bytes_length,
                                           const uint8_t *grid, size_t grid_length);
 
-/* Fit: counts the entries within the bounds, once these are pruned as by prune. Writes nothing.
- * 0 with the count of entries; 102 if no grid within the bounds has allperm; otherwise 5, 6, 7 or 8. */
-plan_register_counted plan_register_fit(const uint8_t *bytes, size_t bytes_length,
-                                        const uint8_t *low, size_t low_length,
-                                        const uint8_t *high, size_t high_length);
+/* Count: counts the entries within the bounds, both included. Prunes nothing, writes nothing. On a
+ * register that only calls wrote, the count of bounds that were pruned by prune, with the register's
+ * m, n and top, is that of the bounds as they were.
+ * 0 with the count of entries; otherwise 5, 6, 7 or 8. */
+plan_register_counted plan_register_count(const uint8_t *bytes, size_t bytes_length,
+                                          const uint8_t *low, size_t low_length,
+                                          const uint8_t *high, size_t high_length);
 
 /* The calls of the shop terminals, for at most 5 rows. There they answer as represent, same and enter,
  * but which pair of orders is returned is free. A register may be used through both sets of calls. */

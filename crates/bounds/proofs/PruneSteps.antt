@@ -6,10 +6,12 @@
 --   span-counts          ==  it is counted by the numbers a and b
 --   removed-at-first     ==  no cell, no value removed
 --   span-falls, cell-removed  ==  of the spans of a cell, the old and the new: the difference, and the values removed with one cell more
+-- The first no of two bounds:
+--   bounds-lengths-no, bounds-cells-no, bounds-order-no  ==  those before get a yes, this one a no: 6, 7, 8
+--   bounds-yes           ==  each gets a yes
 -- The answers of prune:
---   prune-shape-no, prune-cells-no, prune-order-no  ==  a question gets a no: one of the shape, 7, 8
---   prune-lengths        ==  past the shape: low is no longer than high
---   prune-asked          ==  no question gets a no
+--   prune-limits-no, prune-bounds-no  ==  a question gets a no: one of 1 to 3, one of 6 to 8
+--   prune-yes            ==  no question gets a no
 --   prune-size           ==  past the questions: there are at most 128 cells
 --   narrow-ready         ==  the arguments fit narrow
 --   prune-none           ==  narrow says no: 102
@@ -17,7 +19,7 @@
 --   parts-within, parts-fit, removed-ready  ==  what it wrote, at the beginning of two arrays, fits the calls after it
 --   prune-some           ==  with the values removed and the new bounds: 0
 use mathlib.Core.Path.{_≡_, refl, sym, ap, _∙_}
-use mathlib.Core.List.{List, [], _∷_, _++_, foldr}
+use mathlib.Core.List.{List, [], _∷_, _++_, foldr, List·Memᴰ·head, List·Memᴰ·tail}
 use mathlib.Core.Bool.{Bool, true, false, _&&_, and-true}
 use mathlib.Core.Logic.{_↔_}
 use Prim.Native.Nat.{ℕ, zero, suc, _+_, _*_, _-_, _≤_, _<_}
@@ -33,9 +35,9 @@ use Rattle.permutations.proofs.BoolLaws.{and-yes, refuted}
 use Rattle.permutations.proofs.ListLaws.{every-next, part-within, part-is, length-numbers}
 use Rattle.permutations.proofs.SelectLaws.{select-yes, select-no, length-select}
 use Rattle.grids.specs.Order.{rank}
-use Rattle.grids.specs.Asked.{shapeNo}
-use Rattle.grids.specs.Questions.{firstNo, Limits, question7}
-use Rattle.grids.proofs.QuestionLaws.{firstNo-pass, firstNo-stop, size-fits, shape-refuses, shape-fits, cells-refuse, cells-pass}
+use Rattle.grids.specs.Asked.{limitsNo}
+use Rattle.grids.specs.Questions.{firstNo, Limits, question6, question7}
+use Rattle.grids.proofs.QuestionLaws.{firstNo-pass, firstNo-stop, all-two, lengths-asked, limits-refuse, size-fits}
 use Rattle.bounds.specs.Bounds.{IsBounds, ranksWithin, between}
 use Rattle.bounds.specs.Kept.{Obeyed, keptLow, keptHigh, removed}
 use Rattle.bounds.specs.Allperm.{Allperm, allperm}
@@ -44,7 +46,7 @@ use Rattle.bounds.specs.Narrowed.{rowOf, AllLead, Narrowed, NarrowOutcom
 use Rattle.bounds.specs.Prune.{question8, boundsQuestions, pruneQuestions, prunedTo}
 use Rattle.bounds.specs.Demand2.{Prunes}
 use Rattle.bounds.proofs.BoundsLaws.{bounds-wider, ranks-within, between-fewer}
-use Rattle.bounds.proofs.PruneLaws.{prune-pass, pruned-refused, pruned-some, pruned-none, prunes}
+use Rattle.bounds.proofs.PruneLaws.{prune-pass, prune-asked, pruned-refused, pruned-some, pruned-none, prunes}
 use Rattle.bounds.proofs.NarrowSteps.{copied}
 use Rattle.bounds.proofs.NarrowedLaws.{narrowed-obeyed, narrowed-low, narrowed-high, narrowed-inside, narrowed-removed}
 
@@ -154,6 +156,43 @@ module _ (size top : ℕ) (low high lows highs : List ℕ) (i : Inside size top 
   pub cell-removed : (count : ℕ) → count ≡ removedBy k top low high lows highs → count + (s - t) ≡ removedBy (k + 1) top low high lows highs
   cell-removed count e = rw (old-span, new-span, e, removed-more k top low high lows highs)
 
+-- ---- questions 6, 7 and 8
+
+module _ (size top : ℕ) (low high : List ℕ) where
+  lengths-decide : (question6 size (low ∷ high ∷ []) .answer ≡ true) ↔ ((length low ≡ size) × (length high ≡ size))
+  lengths-decide =
+      let a = lengths-asked size (low ∷ high ∷ []) in
+      (λ e. (a .0 e low (List·Memᴰ·head refl), a .0 e high (List·Memᴰ·tail (List·Memᴰ·head refl))), λ h. a .1 (all-two (λ s. length s ≡ size) low high (h .0) (h .1)))
+
+  pub bounds-lengths-no : ((length low ≡ size) × (length high ≡ size) → ⊥) → 6 ≡ firstNo (boundsQuestions size top low high)
+  unfolding boundsQuestions question6
+  bounds-lengths-no h = sym (firstNo-stop (question6 size (low ∷ high ∷ [])) _ (refuted (question6 size (low ∷ high ∷ []) .answer) lengths-decide h))
+
+  module _ (sizes : (length low ≡ size) × (length high ≡ size)) where
+    past-lengths : firstNo (boundsQuestions size top low high) ≡ firstNo (question7 top (low ∷ high ∷ []) ∷ question8 size low high ∷ [])
+    unfolding boundsQuestions
+    past-lengths = firstNo-pass (question6 size (low ∷ high ∷ [])) _ (lengths-decide .1 sizes)
+
+    pub bounds-cells-no : question7 top (low ∷ high ∷ []) .answer ≡ false → 7 ≡ firstNo (boundsQuestions size top low high)
+    unfolding question7
+    bounds-cells-no e = sym (past-lengths ∙ firstNo-stop (question7 top (low ∷ high ∷ [])) _ e)
+
+    -- t is the answer to question 8
+    module _ (e : question7 top (low ∷ high ∷ []) .answer ≡ true) (t : Bool) (ordered : t ≡ question8 (length low) low high .answer) where
+      past-cells : firstNo (boundsQuestions size top low high) ≡ firstNo (question8 size low high ∷ [])
+      past-cells = past-lengths ∙ firstNo-pass (question7 top (low ∷ high ∷ [])) _ e
+
+      order-answer : question8 size low high .answer ≡ t
+      order-answer = sym (rw (sizes .0) at ordered)
+
+      pub bounds-order-no : t ≡ false → 8 ≡ firstNo (boundsQuestions size top low high)
+      unfolding question8
+      bounds-order-no f = sym (past-cells ∙ firstNo-stop (question8 size low high) [] (order-answer ∙ f))
+
+      pub bounds-yes : t ≡ true → 0 ≡ firstNo (boundsQuestions size top low high)
+      unfolding firstNo
+      bounds-yes f = sym (past-cells ∙ firstNo-pass (question8 size low high) [] (order-answer ∙ f))
+
 -- ---- the call
 
 -- no question gets a no, and narrow wrote low′ and high′
@@ -166,36 +205,16 @@ module _ (m n top : ℕ) (low high : List ℕ) where
   refused zero e h = absurd (h refl)
   refused (suc k) e h = prunes m n top low high _ (sym (pruned-refused m n top low high k e))
 
-  -- k is the first no of the shape
-  module _ (k : ℕ) (found : k ≡ shapeNo m n top (length low) (length high)) where
-    pub prune-shape-no : (k ≡ 0 → ⊥) → Prunes m n top low high (prunedTo k 0 low high)
-    unfolding boundsQuestions
-    prune-shape-no h = refused k (shape-refuses m n top low high k found _ h) h
+  pub prune-limits-no : (k : ℕ) → k ≡ limitsNo m n top → (k ≡ 0 → ⊥) → Prunes m n top low high (prunedTo k 0 low high)
+  prune-limits-no k found h = refused k (limits-refuse m n top _ (λ z. h (found ∙ z)) ∙ sym found) h
 
-    module _ (z : k ≡ 0) where
-      pub prune-cells-no : question7 top (low ∷ high ∷ []) .answer ≡ false → Prunes m n top low high (prunedTo 7 0 low high)
-      unfolding boundsQuestions
-      prune-cells-no e = refused 7 (cells-refuse m n top low high k found z (low ∷ high ∷ []) _ e) (omega arith)
+  -- k is the first no of the bounds
+  module _ (l : Limits m n top) (k : ℕ) (found : k ≡ firstNo (boundsQuestions (m * n) top low high)) where
+    pub prune-bounds-no : (k ≡ 0 → ⊥) → Prunes m n top low high (prunedTo k 0 low high)
+    prune-bounds-no h = refused k (prune-asked m n top low high l ∙ sym found) h
 
-      pub prune-lengths : length low ≤ length high
-      prune-lengths = let f = shape-fits m n top low high k found z in omega (arith, f .1, f .2)
-
-      -- t is the answer to question 8
-      module _ (e : question7 top (low ∷ high ∷ []) .answer ≡ true) (t : Bool) (ordered : t ≡ question8 (length low) low high .answer) where
-        order-first : firstNo (pruneQuestions m n top low high) ≡ firstNo (question8 (m * n) low high ∷ [])
-        unfolding boundsQuestions
-        order-first = cells-pass m n top low high k found z (low ∷ high ∷ []) _ e
-
-        order-answer : question8 (m * n) low high .answer ≡ t
-        order-answer = sym (rw (shape-fits m n top low high k found z .1) at ordered)
-
-        pub prune-order-no : t ≡ false → Prunes m n top low high (prunedTo 8 0 low high)
-        unfolding question8
-        prune-order-no f = refused 8 (order-first ∙ firstNo-stop (question8 (m * n) low high) [] (order-answer ∙ f)) (omega arith)
-
-        pub prune-asked : t ≡ true → firstNo (pruneQuestions m n top low high) ≡ 0
-        unfolding firstNo
-        prune-asked f = order-first ∙ firstNo-pass (question8 (m * n) low high) [] (order-answer ∙ f)
+    pub prune-yes : k ≡ 0 → firstNo (pruneQuestions m n top low high) ≡ 0
+    prune-yes z = prune-asked m n top low high l ∙ sym found ∙ z
 
   -- past the questions
   module _ (e : firstNo (pruneQuestions m n top low high) ≡ 0) where

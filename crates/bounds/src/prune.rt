@@ -1,5 +1,5 @@
 // The call prune.
-use crate::order;
+use crate::asking;
 use crate::rows;
 use crate::values;
 use grids::questions;
@@ -48,29 +48,15 @@ fn narrow(m: usize, n: usize, low: &[u8], high: &[u8], lows: &mut [u8], highs: &
 pub fn prune(m: usize, n: usize, top: usize, low: &mut [u8], high: &mut [u8]) -> Counted
     ensures { λ r. ⌜ Prunes m n top (now (low .entry)) (now (high .entry)) (prunedTo (r .number) (r .count) (now (low .exit)) (now (high .exit))) ⌝ }
 {
-    let number = questions::shape_no(m, n, top, low.len(), high.len());
+    let number = questions::limits_no(m, n, top);
     if number != 0 {
         return Counted { number, count: 0 };
     }
-    if !questions::is_capped(low, top) {
-        return Counted {
-            number: 7,
-            count: 0,
-        };
-    }
-    if !questions::is_capped(high, top) {
-        return Counted {
-            number: 7,
-            count: 0,
-        };
-    }
-    if !order::is_ordered(low, high) {
-        return Counted {
-            number: 8,
-            count: 0,
-        };
-    }
     let size = m * n;
+    let number = asking::bounds_no(size, top, low, high);
+    if number != 0 {
+        return Counted { number, count: 0 };
+    }
     let mut lows = [0u8; 128];
     let mut highs = [0u8; 128];
     if !narrow(m, n, low, high, &mut lows[0..size], &mut highs[0..size]) {

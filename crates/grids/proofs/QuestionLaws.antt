@@ -18,11 +18,10 @@
 --   shapeThen m n top x y l  ==  questions 1, 2, 3 and 6 of the slices x and y, then those of l
 --   shape-refuses, cells-refuse  ==  it is that of the shape, else that of the cells
 --   cells-pass             ==  where neither gets a no, it is that of the questions after
---   shape-fits             ==  where the shape gets no no, the limits and the lengths
 --   one-capped, two-capped ==  question 7 gets a yes for one slice, for two
 --   first-cells-no, second-cells-no  ==  it gets a no for the first slice, for the second
 use mathlib.Core.Path.{_≡_, refl, sym, _∙_}
-use mathlib.Core.List.{List, [], _∷_, _++_, List·Memᴰ, List·Memᴰ·head, List·Memᴰ·tail, List·Memᴰ·not-nil, List·Memᴰ·cases-cons}
+use mathlib.Core.List.{List, [], _∷_, _++_, List·Memᴰ, List·Memᴰ·not-nil, List·Memᴰ·cases-cons}
 use mathlib.Core.Bool.{Bool, true, false, and-true}
 use mathlib.Core.Logic.{_⊎_, inl, inr, _↔_}
 use Prim.Native.Nat.{ℕ, _*_, _≤_, _<_}
@@ -229,12 +228,6 @@ module _ (m n top : ℕ) (x y : List ℕ) where
     module _ (z : k ≡ 0) where
       no-no : firstNo (shapeThen []) ≡ 0
       no-no = shape-is ∙ sym found ∙ z
-
-      pub shape-fits : Limits m n top × (length x ≡ m * n) × (length y ≡ m * n)
-      shape-fits =
-          let a = limits-asked m n top (question6 (m * n) (x ∷ y ∷ []) ∷ []) .0 (first-no-zero (shapeThen []) shape-numbered .0 no-no) in
-          let s = lengths-asked (m * n) (x ∷ y ∷ []) .0 (a .1 .0) in
-          (a .0, s x (List·Memᴰ·head refl), s y (List·Memᴰ·tail (List·Memᴰ·head refl)))
 
       module _ (cs : List (List ℕ)) (l : List Question) where
         shape-passes : firstNo (shapeThen (question7 top cs ∷ l)) ≡ firstNo (question7 top cs ∷ l)

@@ -6,7 +6,7 @@
 --   open-pass    ==  open's: the limits, and a slice of the exact length
 --   enter-pass   ==  enter's: a register, a grid, and its class held or room for it
 --   strike-pass  ==  strike's: a register, a grid, and its class held
---   fit-pass     ==  fit's: a register, and bounds
+--   count-pass   ==  count's: a register, and bounds
 use mathlib.Core.Path.{_≡_, refl}
 use mathlib.Core.List.{List, [], _∷_, _++_, List·Memᴰ·head}
 use mathlib.Core.Bool.{true, _||_}
@@ -21,7 +21,7 @@ use Rattle.grids.proofs.QuestionLaws.{AllYes, Numbered, first-no-zero, range-ye
 use Rattle.bounds.specs.Bounds.{IsBounds}
 use Rattle.bounds.proofs.BoundsLaws.{bounds-asked, bounds-numbered}
 use Rattle.layout.specs.Layout.{Shape, Register, gridSize, layoutLength, InLimits, laidOut}
-use Rattle.machine.specs.Calls.{question4, question5, gridQuestions, holds, question9, question10, openQuestions, enterQuestions, strikeQuestions, fitQuestions}
+use Rattle.machine.specs.Calls.{question4, question5, gridQuestions, holds, question9, question10, openQuestions, enterQuestions, strikeQuestions, countQuestions}
 use Rattle.machine.specs.Valid.{numbersNo}
 
 -- ---- a grid's questions
@@ -93,7 +93,7 @@ open-pass s b = (to, back)
           (yes-range 1 500 (s .capacity) (h .0 .capacity-limits), (lengths-asked (layoutLength s) (b ∷ []) .1 (all-one (λ x. length x ≡ layoutLength s) b (h .1)), tt)),
         ))
 
--- ---- enter, strike and fit
+-- ---- enter, strike and count
 
 -- question 5, a grid's questions, and one more
 then-numbered : (b : List ℕ) (s : Shape) (g : List ℕ) (q : Question) → 0 < q .number → Numbered (question5 b ∷ (gridQuestions s g ++ (q ∷ [])))
@@ -120,13 +120,13 @@ module _ (b : List ℕ) (x : Register) (g r : List ℕ) where
   unfolding strikeQuestions question10
   strike-pass = then-pass b (x .shape) g (question10 x r) (omega arith)
 
-fit-numbered : (b : List ℕ) (x : Register) (low high : List ℕ) → Numbered (fitQuestions b x low high)
-unfolding fitQuestions question5
-fit-numbered b x low high = (omega arith, bounds-numbered (gridSize (x .shape)) (x .shape .top) low high)
+count-numbered : (b : List ℕ) (x : Register) (low high : List ℕ) → Numbered (countQuestions b x low high)
+unfolding countQuestions question5
+count-numbered b x low high = (omega arith, bounds-numbered (gridSize (x .shape)) (x .shape .top) low high)
 
-pub fit-pass : (b : List ℕ) (x : Register) (low high : List ℕ) → (firstNo (fitQuestions b x low high) ≡ 0) ↔ ((laidOut b ≡ true) × IsBounds (gridSize (x .shape)) (x .shape .top) low high)
-unfolding fitQuestions question5
-fit-pass b x low high =
-    let z = first-no-zero (fitQuestions b x low high) (fit-numbered b x low high) in
+pub count-pass : (b : List ℕ) (x : Register) (low high : List ℕ) → (firstNo (countQuestions b x low high) ≡ 0) ↔ ((laidOut b ≡ true) × IsBounds (gridSize (x .shape)) (x .shape .top) low high)
+unfolding countQuestions question5
+count-pass b x low high =
+    let z = first-no-zero (countQuestions b x low high) (count-numbered b x low high) in
     let a = bounds-asked (gridSize (x .shape)) (x .shape .top) low high in
     (λ e. let h = z .0 e in (h .0, a .0 (h .1)), λ h. z .1 (h .0, a .1 (h .1)))

@@ -11,7 +11,7 @@ meets-same i h = λ k. record {
   opens = λ s b. h .opens s b k;
   enters = λ b g. h .enters b g k;
   strikes = λ b g. h .strikes b g k;
-  fits = λ b low high. h .fits b low high k;
+  counts = λ b low high. h .counts b low high k;
   terminalEnters = λ b g. h .terminalEnters b g k;
 }
 

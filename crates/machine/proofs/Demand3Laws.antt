@@ -2,45 +2,36 @@
 --
 --   call-same            ==  each call on the machine's bytes answers and leaves what the machine does
 --   run-same, left-shown ==  the same of whole lists
---   step-not-5, never-five  ==  question 5 never gets a no
+--   never                ==  a number other than the machine's is never answered: 5 and 102 are not
 --   open-answers         ==  an open whose questions all get a yes answers 0
 --   opened-good, opened-shown  ==  after an open that answered 0: the empty set and its bytes
---   fit-counts           ==  an accepted fit counts the classes whose least grid lies in the bounds as sent
 --   shown-count          ==  the machine's bytes state the size of its set
 --   shown-inj            ==  equal bytes, equal sets
 --   moved                ==  what one list of live classes has, another with the same live classes has
 --   demand3              ==  the demand
 use mathlib.Core.Path.{_≡_, refl, sym, ap, _∙_}
 use mathlib.Core.List.{List, [], _∷_, List·Memᴰ, Memᴰ·cast}
-use mathlib.Core.Bool.{Bool, true, false, true≢false, not}
+use mathlib.Core.Bool.{Bool, true, false, not}
 use mathlib.Core.Logic.{_↔_}
 use Prim.Native.Nat.{ℕ, zero, suc, _*_}
 use native.Mathlib.Omega.{arith}
 use lib.ListN.{length}
 use lib.Dec.{eqb}
-use Rattle.permutations.specs.Lists.{select, every}
-use Rattle.permutations.proofs.SelectLaws.{select-none}
-use Rattle.grids.specs.Questions.{firstNo}
+use Rattle.permutations.specs.Lists.{every, All}
 use Rattle.machine.proofs.AskedLaws.{open-pass}
 use Rattle.machine.proofs.CallListLaws.{meets-has}
-use Rattle.bounds.specs.Bounds.{inBounds}
-use Rattle.bounds.specs.Kept.{Obeyed, obeyed}
-use Rattle.bounds.specs.Allperm.{Allperm, allperm}
-use Rattle.bounds.specs.Prune.{boundsQuestions}
-use Rattle.bounds.proofs.KeptLaws.{obeyed-decides}
-use Rattle.bounds.proofs.AllpermLaws.{allperm-decides, least-allperm}
-use Rattle.bounds.proofs.PruneLaws.{none-in-bounds}
 use Rattle.layout.specs.Layout.{Shape, Register, gridSize, layout, layoutLength, count, decode, InLimits}
-use Rattle.machine.specs.Calls.{Outcome, answered, leastIn, holds, opened, fitted}
-use Rattle.machine.specs.CallLists.{Call, enter, strike, fit, terminalEnter, Implementation, registerCalls, Meets, called, run, left, accepted}
-use Rattle.machine.specs.Machine.{sorted, shown, stepUnless, fitClasses, step, outcome, outcomes}
+use Rattle.machine.specs.Calls.{Outcome, answered, leastIn, holds, opened}
+use Rattle.machine.specs.CallLists.{Call, enter, strike, countIn, terminalEnter, Implementation, registerCalls, Meets, called, run, left}
+use Rattle.machine.specs.Machine.{sorted, shown, step, outcome, outcomes}
 use Rattle.machine.specs.Demand3.{live, ListsLive, AfterOpen, Demand3}
 use Rattle.layout.proofs.LayoutLaws.{count-layout}
 use Rattle.layout.proofs.RegisterLaws.{register-printable}
 use Rattle.machine.proofs.SortedLaws.{Grids, asc-ext, in-sorted, of-sorted, sorted-asc, length-sorted, holds-sorted}
-use Rattle.machine.proofs.MachineLaws.{Good, empty-good, registerOf, good-register, reads, self-least, enter-same, strike-same, fit-same, terminal-enter-same, step-good, afterwards, afterwards-good}
-use Rattle.machine.proofs.StepLaws.{step-answers}
-use Rattle.machine.proofs.LiveLaws.{bounds-refused, live-machine, lists-held}
+use Rattle.machine.proofs.MachineLaws.{Good, empty-good, registerOf, good-register, reads, enter-same, strike-same, count-same, terminal-enter-same, step-good, afterwards, afterwards-good}
+use Rattle.machine.proofs.StepLaws.{Answerable, step-answers}
+use Rattle.machine.proofs.LiveLaws.{live-machine, lists-held}
+use Rattle.machine.proofs.CountLaws.{counted-sent, counted-pruned}
 
 -- ---- whole lists
 
@@ -48,7 +39,7 @@ pub call-same : (s : Shape) (l : Grids) → Good s l → (c : Call) → called r
 unfolding called registerCalls step
 call-same s l g (enter a) = enter-same s l g a
 call-same s l g (strike a) = strike-same s l g a
-call-same s l g (fit low high) = fit-same s l g low high
+call-same s l g (countIn low high) = count-same s l g low high
 call-same s l g (terminalEnter a) = terminal-enter-same s l g a
 
 pub run-same : (s : Shape) (calls : List Call) (l : Grids) → Good s l → run registerCalls (shown s l) calls ≡ outcomes s l calls
@@ -62,26 +53,25 @@ unfolding left afterwards outcome
 left-shown s [] l g = refl
 left-shown s (c ∷ calls) l g = ap (λ (o : Outcome). left registerCalls (o .bytes) calls) (call-same s l g c) ∙ left-shown s calls (step s l c .next) (step-good s l g c)
 
--- ---- question 5 never gets a no
+-- ---- numbers that no call answers
 
-pub step-not-5 : (s : Shape) (l : Grids) (c : Call) → eqb (step s l c .number) 5 ≡ false
-step-not-5 s l = step-answers (λ k p. eqb k 5 ≡ false) s l (record {
-  length-no = refl;
-  cells-no = refl;
-  order-no = refl;
-  full = refl;
-  not-held = refl;
-  rows-no = refl;
-  none = refl;
-  done = λ r. refl;
-  held = λ r. refl;
-  counted = λ t. refl;
-})
+other : (n : ℕ) → All (λ k. eqb k n ≡ false) (0 ∷ 6 ∷ 7 ∷ 8 ∷ 9 ∷ 10 ∷ 14 ∷ 101 ∷ []) → (l : Grids) → Answerable (λ k p. eqb k n ≡ false) l
+other n (zero-is, (length-is, (cells-are, (order-is, (full-is, (none-is, (rows-are, (held-is, u)))))))) l = record {
+  length-no = length-is;
+  cells-no = cells-are;
+  order-no = order-is;
+  full = full-is;
+  not-held = none-is;
+  rows-no = rows-are;
+  done = λ r. zero-is;
+  held = λ r. held-is;
+  counted = λ t. zero-is;
+}
 
-pub never-five : (s : Shape) (calls : List Call) (l : Grids) → every (λ o. not (eqb (o .number) 5)) (outcomes s l calls) ≡ true
+pub never : (n : ℕ) → All (λ k. eqb k n ≡ false) (0 ∷ 6 ∷ 7 ∷ 8 ∷ 9 ∷ 10 ∷ 14 ∷ 101 ∷ []) → (s : Shape) (calls : List Call) (l : Grids) → every (λ o. not (eqb (o .number) n)) (outcomes s l calls) ≡ true
 unfolding outcomes outcome every
-never-five s [] l = refl
-never-five s (c ∷ calls) l = rw (step-not-5 s l c) (never-five s calls (step s l c .next))
+never n h s [] l = refl
+never n h s (c ∷ calls) l = rw (step-answers (λ k p. eqb k n ≡ false) s l (other n h l) c) (never n h s calls (step s l c .next))
 
 -- ---- after an open that answered 0
 
@@ -103,38 +93,6 @@ unfolding opened answered shown sorted
 open-answers s b l z = ap (λ (k : ℕ). answered k b (record { number = 0; place = 0; bytes = shown s [] })) (open-pass s b .1 (l, z))
 
 -- ---- the consequences, of a good set
-
--- an accepted fit counts the classes whose least grid lies in the bounds as sent
-module _ (s : Shape) (l : Grids) (g : Good s l) (low high : List ℕ) where
-  fit-place : fitClasses s l low high .place ≡ length (select (inBounds (gridSize s) (s .top) low high) l)
-  unfolding fitClasses
-  fit-place = go (obeyed rule (gridSize s) (s .top) low high) refl
-    where
-      rule : List ℕ → Bool
-      rule = allperm (s .rows) (s .columns)
-
-      none : obeyed rule (gridSize s) (s .top) low high ≡ false → Obeyed (Allperm (s .rows) (s .columns)) (gridSize s) (s .top) low high → ⊥
-      none e o = true≢false (sym (obeyed-decides (Allperm (s .rows) (s .columns)) rule (allperm-decides (s .rows) (s .columns)) (gridSize s) (s .top) low high .1 o) ∙ e)
-
-      go : (t : Bool) → obeyed rule (gridSize s) (s .top) low high ≡ t → fitClasses s l low high .place ≡ length (select (inBounds (gridSize s) (s .top) low high) l)
-      go true e = rw (e, fitClasses)
-      go false e =
-          rw (e, fitClasses)
-          (ap length (sym (select-none (inBounds (gridSize s) (s .top) low high) l (λ r m t. none-in-bounds (s .rows) (s .columns) (s .top) low high (none e) r (least-allperm (s .rows) (s .columns) r r (self-least s l g r m)) t))))
-
-  pub fit-counts : accepted (fitted (shown s l) low high .number) ≡ true → fitted (shown s l) low high .place ≡ length (select (inBounds (gridSize s) (s .top) low high) l)
-  unfolding stepUnless outcome
-  fit-counts h = ap (λ (o : Outcome). o .place) same ∙ go k refl (sym (ap (λ (o : Outcome). accepted (o .number)) same) ∙ h)
-    where
-      k : ℕ
-      k = firstNo (boundsQuestions (gridSize s) (s .top) low high)
-
-      same : fitted (shown s l) low high ≡ outcome s (stepUnless k l (fitClasses s l low high))
-      same = fit-same s l g low high
-
-      go : (j : ℕ) → k ≡ j → accepted (stepUnless j l (fitClasses s l low high) .number) ≡ true → stepUnless j l (fitClasses s l low high) .place ≡ length (select (inBounds (gridSize s) (s .top) low high) l)
-      go zero e a = fit-place
-      go (suc j) e a = absurd (true≢false (sym a ∙ bounds-refused (gridSize s) (s .top) low high j e))
 
 pub shown-count : (s : Shape) (l : Grids) → Good s l → count (shown s l) ≡ length l
 unfolding shown registerOf
@@ -207,11 +165,13 @@ unfolding registerCalls
 after-open s slice e calls = record {
   starts = opened-shown s slice e;
   answers = end-run s slice e calls;
-  laid = rw (end-run s slice e calls) (never-five s calls []);
+  laid = rw (end-run s slice e calls) (never 5 (refl, (refl, (refl, (refl, (refl, (refl, (refl, (refl, tt)))))))) s calls []);
+  never-none = rw (end-run s slice e calls) (never 102 (refl, (refl, (refl, (refl, (refl, (refl, (refl, (refl, tt)))))))) s calls []);
   classes = end s slice e calls;
   lists = end-lists s slice e calls;
   counts = ap count (end-bytes s slice e calls) ∙ shown-count s (end s slice e calls) (end-good s slice e calls);
-  fits = λ low high h. rw (end-bytes s slice e calls) (fit-counts s (end s slice e calls) (end-good s slice e calls) low high (rw (end-bytes s slice e calls) at h));
+  counts-sent = λ low high h. rw (end-bytes s slice e calls) (counted-sent s (end s slice e calls) (end-good s slice e calls) low high (rw (end-bytes s slice e calls) at h));
+  counts-pruned = λ low high z. rw (end-bytes s slice e calls) (counted-pruned s low high (end s slice e calls) (end-good s slice e calls) z);
   bytes-live = λ slice′ e′ calls′. bytes-live s slice slice′ e e′ calls calls′;
 }
 

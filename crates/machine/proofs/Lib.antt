@@ -6,7 +6,7 @@ pub mod ValidLaws
 pub mod LeastSteps
 pub mod ValidMoves
 pub mod ValidSteps
-pub mod FitSteps
+pub mod CountSteps
 pub mod CallLaws
 pub mod TerminalLaws
 pub mod CallListLaws
@@ -14,6 +14,8 @@ pub mod MachineLaws
 pub mod LiveLaws
 pub mod Demand1Laws
 pub mod StepLaws
+pub mod CountLaws
 pub mod Demand3Laws
 pub mod LiveLists
 pub mod FollowLaws
+pub mod BothCountsLaws

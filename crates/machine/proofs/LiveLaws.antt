@@ -25,13 +25,13 @@ use Rattle.grids.proofs.LeastLaws.{class-least, least-class}
 use Rattle.bounds.specs.Prune.{boundsQuestions, question8}
 use Rattle.layout.specs.Layout.{Shape, gridSize}
 use Rattle.machine.specs.Calls.{gridQuestions, leastIn, holds, without}
-use Rattle.machine.specs.CallLists.{Call, enter, strike, fit, terminalEnter, Implementation, run, accepted}
-use Rattle.machine.specs.Machine.{Step, stepUnless, enterClass, strikeClass, fitClasses, step, outcome, outcomes}
+use Rattle.machine.specs.CallLists.{Call, enter, strike, countIn, terminalEnter, Implementation, run, accepted}
+use Rattle.machine.specs.Machine.{Step, stepUnless, enterClass, strikeClass, countClasses, step, outcome, outcomes}
 use Rattle.machine.specs.Demand3.{liveNext, liveAfter, live, ListsLive}
 use Rattle.machine.proofs.SortedLaws.{Grids, holds-in, in-holds}
 use Rattle.machine.proofs.AskedLaws.{grid-pass}
 use Rattle.machine.proofs.RefusalLaws.{refused-number}
-use Rattle.machine.proofs.MachineLaws.{Good, terminal-step-has, fit-keeps, afterwards}
+use Rattle.machine.proofs.MachineLaws.{Good, terminal-step-has, afterwards}
 
 pub class-equal : (m n : ℕ) (a b : List ℕ) → length a ≡ m * n → length b ≡ m * n → oneClass m n a b ≡ equal (least m n a) (least m n b)
 class-equal m n a b e f =
@@ -81,7 +81,7 @@ held-strike l a r = go (holds r l) refl
     go true h = rw (h, strikeClass) (gone (equal r a) refl)
     go false h = rw (h, strikeClass) refl
 
--- ---- a refusal's number is none of 0, 101 and 102
+-- ---- a refusal's number is neither 0 nor 101
 
 pub grid-refused : (s : Shape) (g : List ℕ) (k : ℕ) → firstNo (gridQuestions s g) ≡ suc k → accepted (suc k) ≡ false
 unfolding gridQuestions question6 question7 accepted
@@ -107,16 +107,16 @@ module _ (s : Shape) (l : Grids) (a : List ℕ) (z : length a ≡ gridSize s) wh
       go zero e = rw (class-equal (s .rows) (s .columns) g a (grid-pass s g .0 e .sized) z) h
       go (suc k) e = rw (grid-refused s g k e)
 
-  held-fit : (k : ℕ) (low high : List ℕ) → holds (leastIn s a) (stepUnless k l (fitClasses s l low high) .next) ≡ holds (leastIn s a) l
-  unfolding stepUnless
-  held-fit zero low high = ap (holds (leastIn s a)) (fit-keeps s l low high)
-  held-fit (suc k) low high = refl
+  held-count : (k : ℕ) (low high : List ℕ) → holds (leastIn s a) (stepUnless k l (countClasses s l low high) .next) ≡ holds (leastIn s a) l
+  unfolding stepUnless countClasses
+  held-count zero low high = refl
+  held-count (suc k) low high = refl
 
   pub held-step : (c : Call) → holds (leastIn s a) (step s l c .next) ≡ liveNext (s .rows) (s .columns) a (holds (leastIn s a) l) c (step s l c .number)
   unfolding step liveNext accepted
   held-step (enter g) = held-grid g true (enterClass s l (leastIn s g)) (held-enter s l (leastIn s a) (leastIn s g))
   held-step (strike g) = held-grid g false (strikeClass l (leastIn s g)) (held-strike l (leastIn s a) (leastIn s g))
-  held-step (fit low high) = held-fit (firstNo (boundsQuestions (gridSize s) (s .top) low high)) low high
+  held-step (countIn low high) = held-count (firstNo (boundsQuestions (gridSize s) (s .top) low high)) low high
   held-step (terminalEnter g) =
       terminal-step-has s l g (enterClass s l (leastIn s g)) (λ t. holds (leastIn s a) (t .next) ≡ Chosen (accepted (t .number) && oneClass (s .rows) (s .columns) g a) true (holds (leastIn s a) l))
       (held-grid g true (enterClass s l (leastIn s g)) (held-enter s l (leastIn s a) (leastIn s g))) refl

@@ -1,8 +1,9 @@
--- Two lists of the live classes are the same but for order, so the count and every fit are what any such list says, of every implementation.
+-- Two lists of the live classes are the same but for order, so the count and both counts of bounds are what any such list says, of every implementation.
 --
 --   lists-one    ==  two lists of the live classes, sorted, are equal
 --   counts-live  ==  the count is the length of any such list
---   fits-live    ==  an accepted fit counts the grids of any such list that lie in the bounds as sent
+--   sent-live    ==  an accepted count of bounds counts the grids of any such list that lie in them
+--   pruned-live  ==  a count of what prune leaves counts those that lie in the bounds as sent
 use mathlib.Core.Path.{_≡_, refl, sym, ap, _∙_}
 use mathlib.Core.List.{List}
 use mathlib.Core.Bool.{Bool, true}
@@ -11,9 +12,10 @@ use lib.ListN.{length}
 use Rattle.permutations.specs.Lists.{select}
 use Rattle.bounds.specs.Bounds.{inBounds}
 use Rattle.layout.specs.Layout.{Shape, gridSize, count}
+use Rattle.machine.specs.Calls.{Outcome}
 use Rattle.machine.specs.CallLists.{Call, Implementation, left, accepted}
 use Rattle.machine.specs.Machine.{sorted}
-use Rattle.machine.specs.Demand3.{live, ListsLive, AfterOpen}
+use Rattle.machine.specs.Demand3.{live, ListsLive, prunedFor, AfterOpen}
 use Rattle.machine.proofs.SortedLaws.{Grids, asc-ext, in-sorted, of-sorted, sorted-asc, length-sorted, count-sorted}
 use Rattle.machine.proofs.Demand3Laws.{moved}
 
@@ -30,9 +32,16 @@ module _ (i : Implementation) (s : Shape) (b : List ℕ) (calls : List Call) (a 
   pub counts-live : count (left i b calls) ≡ length l
   counts-live = a .counts ∙ sym (length-sorted (a .classes)) ∙ ap length one ∙ length-sorted l
 
-  pub fits-live : (low high : List ℕ) → accepted (i .fits (left i b calls) low high .number) ≡ true →
-      i .fits (left i b calls) low high .place ≡ length (select (inBounds (gridSize s) (s .top) low high) l)
-  fits-live low high h =
-      a .fits low high h ∙ sym (count-sorted _ (a .classes) (a .lists .once))
+  same-inside : (low high : List ℕ) → length (select (inBounds (gridSize s) (s .top) low high) (a .classes)) ≡ length (select (inBounds (gridSize s) (s .top) low high) l)
+  same-inside low high =
+      sym (count-sorted _ (a .classes) (a .lists .once))
       ∙ ap (λ (x : Grids). length (select (inBounds (gridSize s) (s .top) low high) x)) one
       ∙ count-sorted _ l (y .once)
+
+  pub sent-live : (low high : List ℕ) → accepted (i .counts (left i b calls) low high .number) ≡ true →
+      i .counts (left i b calls) low high .place ≡ length (select (inBounds (gridSize s) (s .top) low high) l)
+  sent-live low high h = a .counts-sent low high h ∙ same-inside low high
+
+  pub pruned-live : (low high : List ℕ) → prunedFor s low high .number ≡ 0 →
+      i .counts (left i b calls) (prunedFor s low high .low) (prunedFor s low high .high) .place ≡ length (select (inBounds (gridSize s) (s .top) low high) l)
+  pruned-live low high z = ap (λ (o : Outcome). o .place) (a .counts-pruned low high z) ∙ same-inside low high

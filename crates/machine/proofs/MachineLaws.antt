@@ -7,14 +7,13 @@
 --   self-least       ==  a grid of the set is the least of its class
 --   terminal-step-yes, terminal-step-no  ==  a terminal's step is enter's where question 14 gets a yes, and 14 where it gets a no
 --   terminal-step-has  ==  what holds of both holds of it
---   enter-same, strike-same, fit-same, terminal-enter-same  ==  each call on the machine's bytes answers and leaves what the machine does
---   fit-keeps        ==  a fit changes no set
+--   enter-same, strike-same, count-same, terminal-enter-same  ==  each call on the machine's bytes answers and leaves what the machine does
 --   afterwards s l calls  ==  the set after the calls
 --   step-good, afterwards-good  ==  a good set stays good
 use mathlib.Core.Path.{_≡_, refl, sym, ap, subst, _∙_}
 use mathlib.Core.List.{List, [], _∷_, _++_, List·Memᴰ, List·Memᴰ·not-nil, List·Memᴰ·cases-cons}
 use mathlib.Core.Bool.{Bool, true, false, true≢false, not}
-use mathlib.Core.Logic.{_⊎_, inl, inr, _↔_}
+use mathlib.Core.Logic.{_⊎_, inl, inr}
 use Prim.Native.Nat.{ℕ, zero, suc, _≤_, _<_}
 use native.Mathlib.Omega.{arith}
 use lib.ListN.{length}
@@ -22,25 +21,19 @@ use lib.Dec.{ltb}
 use borrow.Author.Tests.{ltb-true}
 use Rattle.permutations.specs.Lists.{select}
 use Rattle.permutations.proofs.BoolLaws.{yes-or-no}
-use Rattle.permutations.proofs.SelectLaws.{of-select, select-ext, length-select}
+use Rattle.permutations.proofs.SelectLaws.{of-select, length-select}
 use Rattle.grids.specs.Order.{less, equal}
 use Rattle.grids.specs.Grids.{IsGrid}
 use Rattle.grids.specs.Least.{IsLeast}
 use Rattle.grids.specs.Questions.{Question, firstNo, question6, question7, question14}
 use Rattle.grids.proofs.LeastLaws.{least-is, least-grid, least-least}
 use Rattle.grids.proofs.QuestionLaws.{firstNo-pass, firstNo-stop}
-use Rattle.bounds.specs.Bounds.{IsBounds, inBounds}
-use Rattle.bounds.specs.Kept.{Obeyed, obeyed, keptLow, keptHigh}
-use Rattle.bounds.specs.Allperm.{Allperm, allperm}
-use Rattle.bounds.specs.Prune.{boundsQuestions, pruneQuestions, pruned}
-use Rattle.bounds.proofs.BoundsLaws.{bounds-pass}
-use Rattle.bounds.proofs.KeptLaws.{obeyed-decides}
-use Rattle.bounds.proofs.AllpermLaws.{allperm-decides}
-use Rattle.bounds.proofs.PruneLaws.{prune-pass, pruned-some, pruned-none, least-same-bounds}
+use Rattle.bounds.specs.Bounds.{inBounds}
+use Rattle.bounds.specs.Prune.{boundsQuestions}
 use Rattle.layout.specs.Layout.{Shape, Register, gridSize, layout, decode, InLimits, IsRegister, laidOut}
-use Rattle.machine.specs.Calls.{Outcome, answered, question5, question9, question10, gridQuestions, leastIn, holds, placeIn, without, enterInto, strikeFrom, enterQuestions, strikeQuestions, fitQuestions, enterRegister, strikeRegister, fitPruned, fitRegister, entered, struck, fitted, terminalEntered}
-use Rattle.machine.specs.CallLists.{Call, enter, strike, fit, terminalEnter}
-use Rattle.machine.specs.Machine.{sorted, shown, Step, stepUnless, enterClass, strikeClass, fitClasses, step, outcome}
+use Rattle.machine.specs.Calls.{Outcome, answered, question5, question9, question10, gridQuestions, leastIn, holds, placeIn, without, enterInto, strikeFrom, enterQuestions, strikeQuestions, countQuestions, enterRegister, strikeRegister, entriesIn, countRegister, entered, struck, counted, terminalEntered}
+use Rattle.machine.specs.CallLists.{Call, enter, strike, countIn, terminalEnter}
+use Rattle.machine.specs.Machine.{sorted, shown, Step, stepUnless, enterClass, strikeClass, countClasses, step, outcome}
 use Rattle.machine.specs.Demand3.{Once}
 use Rattle.layout.proofs.LayoutLaws.{decode-layout}
 use Rattle.machine.proofs.AskedLaws.{grid-pass}
@@ -194,39 +187,19 @@ module _ (s : Shape) (l : Grids) (g : Good s l) where
       ap (λ (x : Register). strikeRegister (shown s l) x a (leastIn (x .shape) a)) (reads s l g)
       ∙ strike-register a (leastIn s a)
 
-  -- the least grids of the set have allperm, so the pruned bounds hold those that the bounds as sent hold
   pub self-least : (r : List ℕ) → List·Memᴰ r l → IsLeast (s .rows) (s .columns) r r
   self-least r m = rw (g .leasts r m) at (least-is (s .rows) (s .columns) r (g .grids r m .sized))
 
-  fit-classes : (low high : List ℕ) → IsBounds (gridSize s) (s .top) low high → fitPruned (shown s l) (registerOf s l) (pruned (s .rows) (s .columns) (s .top) low high) ≡ outcome s (fitClasses s l low high)
-  unfolding fitPruned fitClasses outcome registerOf
-  fit-classes low high i = go (obeyed rule (gridSize s) (s .top) low high) refl
-    where
-      rule : List ℕ → Bool
-      rule = allperm (s .rows) (s .columns)
+  entries-same : (low high : List ℕ) → entriesIn (registerOf s l) low high ≡ length (select (inBounds (gridSize s) (s .top) low high) l)
+  unfolding entriesIn registerOf
+  entries-same low high = count-sorted _ l (g .once)
 
-      asked : firstNo (pruneQuestions (s .rows) (s .columns) (s .top) low high) ≡ 0
-      asked = prune-pass (s .rows) (s .columns) (s .top) low high .1 (g .limits .grid-limits, i)
-
-      decides : (obeyed rule (gridSize s) (s .top) low high ≡ true) ↔ Obeyed (Allperm (s .rows) (s .columns)) (gridSize s) (s .top) low high
-      decides = obeyed-decides (Allperm (s .rows) (s .columns)) rule (allperm-decides (s .rows) (s .columns)) (gridSize s) (s .top) low high
-
-      inside : obeyed rule (gridSize s) (s .top) low high ≡ true →
-          length (select (inBounds (gridSize s) (s .top) (keptLow rule (gridSize s) (s .top) low high) (keptHigh rule (gridSize s) (s .top) low high)) (sorted l)) ≡ length (select (inBounds (gridSize s) (s .top) low high) l)
-      inside e =
-          count-sorted _ l (g .once) ∙ ap length (select-ext _ _ l (λ r m. least-same-bounds (s .rows) (s .columns) (s .top) low high (decides .0 e) r r (self-least r m)))
-
-      go : (t : Bool) → obeyed rule (gridSize s) (s .top) low high ≡ t →
-          fitPruned (shown s l) (registerOf s l) (pruned (s .rows) (s .columns) (s .top) low high) ≡ outcome s (fitClasses s l low high)
-      go true e = ap (fitPruned (shown s l) (registerOf s l)) (pruned-some (s .rows) (s .columns) (s .top) low high asked (decides .0 e)) ∙ rw (e, fitClasses) (made 0 (inside e) refl)
-      go false e = ap (fitPruned (shown s l) (registerOf s l)) (pruned-none (s .rows) (s .columns) (s .top) low high asked (λ o. true≢false (sym (decides .1 o) ∙ e))) ∙ rw (e, fitClasses) refl
-
-  pub fit-same : (low high : List ℕ) → fitted (shown s l) low high ≡ outcome s (stepUnless (firstNo (boundsQuestions (gridSize s) (s .top) low high)) l (fitClasses s l low high))
-  unfolding fitted fitRegister fitQuestions registerOf
-  fit-same low high =
-      ap (λ (x : Register). fitRegister (shown s l) x low high) (reads s l g)
-      ∙ ap (λ (k : ℕ). answered k (shown s l) (fitPruned (shown s l) (registerOf s l) (pruned (s .rows) (s .columns) (s .top) low high))) (question5-passes _)
-      ∙ refused-or (firstNo (boundsQuestions (gridSize s) (s .top) low high)) _ s l (fitClasses s l low high) (λ z. fit-classes low high (bounds-pass (gridSize s) (s .top) low high .0 z))
+  pub count-same : (low high : List ℕ) → counted (shown s l) low high ≡ outcome s (stepUnless (firstNo (boundsQuestions (gridSize s) (s .top) low high)) l (countClasses s l low high))
+  unfolding counted countRegister countQuestions registerOf countClasses outcome
+  count-same low high =
+      ap (λ (x : Register). countRegister (shown s l) x low high) (reads s l g)
+      ∙ ap (λ (k : ℕ). answered k (shown s l) (record { number = 0; place = entriesIn (registerOf s l) low high; bytes = shown s l })) (question5-passes _)
+      ∙ refused-or (firstNo (boundsQuestions (gridSize s) (s .top) low high)) _ s l (countClasses s l low high) (λ z. made 0 (entries-same low high) refl)
 
   pub terminal-enter-same : (a : List ℕ) → terminalEntered (shown s l) a ≡ outcome s (stepUnless (firstNo (question14 (s .rows) ∷ gridQuestions s a)) l (enterClass s l (leastIn s a)))
   unfolding registerOf outcome
@@ -241,14 +214,6 @@ module _ (s : Shape) (l : Grids) (g : Good s l) where
       go (inr e) = no-terminal-entered (shown s l) a (laid s l g) (rw rows e) ∙ ap (outcome s) (sym (terminal-step-no s l a _ e))
 
 -- ---- a good set stays good
-
-pub fit-keeps : (s : Shape) (l : Grids) (low high : List ℕ) → fitClasses s l low high .next ≡ l
-unfolding fitClasses
-fit-keeps s l low high = go (obeyed (allperm (s .rows) (s .columns)) (gridSize s) (s .top) low high) refl
-  where
-    go : (t : Bool) → obeyed (allperm (s .rows) (s .columns)) (gridSize s) (s .top) low high ≡ t → fitClasses s l low high .next ≡ l
-    go true e = rw (e, fitClasses)
-    go false e = rw (e, fitClasses)
 
 module _ (s : Shape) (l : Grids) (g : Good s l) where
   added : (r : List ℕ) → (List·Memᴰ r l → ⊥) → length l < s .capacity → IsGrid (s .rows) (s .columns) (s .top) r → leastIn s r ≡ r → Good s (r ∷ l)
@@ -304,10 +269,10 @@ module _ (s : Shape) (l : Grids) (g : Good s l) where
   unless-good (suc k) t h = g
 
   pub step-good : (c : Call) → Good s (step s l c .next)
-  unfolding step
+  unfolding step countClasses
   step-good (enter a) = unless-good (firstNo (gridQuestions s a)) _ (enter-good a)
   step-good (strike a) = unless-good (firstNo (gridQuestions s a)) _ (λ e. strike-good (leastIn s a))
-  step-good (fit low high) = unless-good (firstNo (boundsQuestions (gridSize s) (s .top) low high)) _ (λ e. rw (fit-keeps s l low high) g)
+  step-good (countIn low high) = unless-good (firstNo (boundsQuestions (gridSize s) (s .top) low high)) _ (λ e. g)
   step-good (terminalEnter a) = terminal-step-has s l a _ (λ t. Good s (t .next)) (unless-good (firstNo (gridQuestions s a)) _ (enter-good a)) g
 
 -- the set after the calls

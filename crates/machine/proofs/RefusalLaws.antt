@@ -1,20 +1,21 @@
--- Where a question of a call gets a no, the call answers its number with place or count 0, and changes no byte; nor do 101, 102 and any fit.
+-- Where a question of a call gets a no, the call answers its number with place or count 0, and changes no byte; nor do 101 and any count.
 --
 --   answered-refused  ==  the refusal of a first no
---   opened-refused, entered-refused, struck-refused, fitted-refused  ==  where a question of the call gets a no
+--   opened-refused, entered-refused, struck-refused, counted-refused  ==  where a question of the call gets a no
 --   Refusal k, refused-number  ==  k is 0 or not accepted; so is the first no where it is each question's number
 --   answered-held, held-unchanged  ==  an enter that answers 101 changes nothing
---   fit-unchanged    ==  a fit changes nothing
+--   count-unchanged  ==  a count changes nothing
+--   count-numbers    ==  its number is at most 8: never 102, whatever the bytes are
 use mathlib.Core.Path.{_≡_, refl}
 use mathlib.Core.List.{List}
 use mathlib.Core.Bool.{Bool, true, false}
-use Prim.Native.Nat.{ℕ, zero, suc}
+use Prim.Native.Nat.{ℕ, zero, suc, _≤_}
 use native.Mathlib.Omega.{arith}
-use Rattle.grids.specs.Questions.{Question, firstNo}
+use Rattle.grids.specs.Questions.{Question, firstNo, question6, question7}
 use Rattle.grids.proofs.QuestionLaws.{EachNumber, firstNo-has}
-use Rattle.bounds.specs.Prune.{Pruned}
+use Rattle.bounds.specs.Prune.{boundsQuestions, question8}
 use Rattle.layout.specs.Layout.{Shape, Register, decode}
-use Rattle.machine.specs.Calls.{Outcome, refusal, answered, holds, leastIn, openQuestions, enterQuestions, strikeQuestions, fitQuestions, enterInto, enterRegister, strikeRegister, fitPruned, fitRegister, opened, entered, struck, fitted}
+use Rattle.machine.specs.Calls.{Outcome, refusal, answered, question5, holds, leastIn, openQuestions, enterQuestions, strikeQuestions, countQuestions, enterInto, enterRegister, strikeRegister, entriesIn, countRegister, opened, entered, struck, counted}
 use Rattle.machine.specs.CallLists.{accepted}
 
 abbrev pub Refusal : ℕ → Type 0
@@ -40,9 +41,9 @@ pub struck-refused : (b g : List ℕ) (k : ℕ) → firstNo (strikeQuestions b (
 unfolding struck strikeRegister
 struck-refused b g k e = answered-refused _ k b _ e
 
-pub fitted-refused : (b low high : List ℕ) (k : ℕ) → firstNo (fitQuestions b (decode b) low high) ≡ suc k → fitted b low high ≡ refusal (suc k) b
-unfolding fitted fitRegister
-fitted-refused b low high k e = answered-refused _ k b _ e
+pub counted-refused : (b low high : List ℕ) (k : ℕ) → firstNo (countQuestions b (decode b) low high) ≡ suc k → counted b low high ≡ refusal (suc k) b
+unfolding counted countRegister
+counted-refused b low high k e = answered-refused _ k b _ e
 
 -- what the outcome after the questions leaves, the call leaves
 answered-bytes : (k : ℕ) (b : List ℕ) (o : Outcome) → o .bytes ≡ b → answered k b o .bytes ≡ b
@@ -50,17 +51,17 @@ unfolding answered
 answered-bytes zero b o e = e
 answered-bytes (suc k) b o e = refl
 
-pruned-bytes : (b : List ℕ) (x : Register) (p : Pruned) → fitPruned b x p .bytes ≡ b
-unfolding fitPruned
-pruned-bytes b x p = go (p .number) refl
+pub count-numbers : (b low high : List ℕ) → counted b low high .number ≤ 8
+unfolding answered counted countRegister countQuestions boundsQuestions question5 question6 question7 question8
+count-numbers b low high = go (firstNo (countQuestions b (decode b) low high)) (firstNo-has (λ k. k ≤ 8) (countQuestions b (decode b) low high) (omega arith) (omega arith, (omega arith, (omega arith, (omega arith, tt)))))
   where
-    go : (k : ℕ) → p .number ≡ k → fitPruned b x p .bytes ≡ b
-    go zero e = rw (e, fitPruned)
-    go (suc k) e = rw (e, fitPruned)
+    go : (k : ℕ) → k ≤ 8 → answered k b (record { number = 0; place = entriesIn (decode b) low high; bytes = b }) .number ≤ 8
+    go zero h = omega arith
+    go (suc k) h = h
 
-pub fit-unchanged : (b low high : List ℕ) → fitted b low high .bytes ≡ b
-unfolding fitted fitRegister
-fit-unchanged b low high = answered-bytes _ b _ (pruned-bytes b (decode b) _)
+pub count-unchanged : (b low high : List ℕ) → counted b low high .bytes ≡ b
+unfolding counted countRegister
+count-unchanged b low high = answered-bytes _ b _ refl
 
 into-bytes : (b : List ℕ) (x : Register) (r : List ℕ) → enterInto b x r .number ≡ 101 → enterInto b x r .bytes ≡ b
 unfolding enterInto

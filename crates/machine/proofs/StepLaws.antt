@@ -13,13 +13,11 @@ use Rattle.permutations.specs.Lists.{select}
 use Rattle.grids.specs.Questions.{firstNo, question6, question7, question14}
 use Rattle.grids.proofs.QuestionLaws.{firstNo-has}
 use Rattle.bounds.specs.Bounds.{inBounds}
-use Rattle.bounds.specs.Kept.{obeyed}
-use Rattle.bounds.specs.Allperm.{allperm}
 use Rattle.bounds.specs.Prune.{boundsQuestions, question8}
 use Rattle.layout.specs.Layout.{Shape, gridSize}
 use Rattle.machine.specs.Calls.{gridQuestions, leastIn, holds, placeIn}
-use Rattle.machine.specs.CallLists.{Call, enter, strike, fit, terminalEnter}
-use Rattle.machine.specs.Machine.{Step, stepUnless, enterClass, strikeClass, fitClasses, step}
+use Rattle.machine.specs.CallLists.{Call, enter, strike, countIn, terminalEnter}
+use Rattle.machine.specs.Machine.{Step, stepUnless, enterClass, strikeClass, countClasses, step}
 use Rattle.machine.proofs.SortedLaws.{Grids}
 
 pub record Answerable (P : ℕ → ℕ → Type 0) (l : Grids) : Type 0 where
@@ -29,7 +27,6 @@ pub record Answerable (P : ℕ → ℕ → Type 0) (l : Grids) : Type 0 where
   pub full : P 9 0
   pub not-held : P 10 0
   pub rows-no : P 14 0
-  pub none : P 102 0
   pub done : (r : List ℕ) → P 0 (placeIn l r)
   pub held : (r : List ℕ) → P 101 (placeIn l r)
   pub counted : (t : List ℕ → Bool) → P 0 (length (select t l))
@@ -77,17 +74,13 @@ module _ (P : ℕ → ℕ → Type 0) (s : Shape) (l : Grids) (a : Answerable P 
       go true h = rw (h, strikeClass) (a .done r)
       go false h = rw (h, strikeClass) (a .not-held)
 
-  fit-has : (low high : List ℕ) → Has (fitClasses s l low high)
-  unfolding fitClasses
-  fit-has low high = go (obeyed (allperm (s .rows) (s .columns)) (gridSize s) (s .top) low high) refl
-    where
-      go : (t : Bool) → obeyed (allperm (s .rows) (s .columns)) (gridSize s) (s .top) low high ≡ t → Has (fitClasses s l low high)
-      go true e = rw (e, fitClasses) (a .counted (inBounds (gridSize s) (s .top) low high))
-      go false e = rw (e, fitClasses) (a .none)
+  count-has : (low high : List ℕ) → Has (countClasses s l low high)
+  unfolding countClasses
+  count-has low high = a .counted (inBounds (gridSize s) (s .top) low high)
 
   pub step-answers : (c : Call) → P (step s l c .number) (step s l c .place)
   unfolding step
   step-answers (enter g) = unless-has _ _ (grid-refuses g) (enter-has (leastIn s g))
   step-answers (strike g) = unless-has _ _ (grid-refuses g) (strike-has (leastIn s g))
-  step-answers (fit low high) = unless-has _ _ (bounds-refuse low high) (fit-has low high)
+  step-answers (countIn low high) = unless-has _ _ (bounds-refuse low high) (count-has low high)
   step-answers (terminalEnter g) = unless-has _ _ (terminal-refuses g) (enter-has (leastIn s g))

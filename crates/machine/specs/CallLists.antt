@@ -1,14 +1,14 @@
 -- Lists of calls on a register, and what an implementation of the calls answers to them. A list may mix the calls of both sets.
 --
---   Call                 ==  enter of a grid, strike of a grid, fit of bounds, a terminal's enter of a grid
---   Implementation       ==  open, enter, strike, fit and a terminal's enter, as functions of the numbers and slices that they are lent
+--   Call                 ==  enter of a grid, strike of a grid, count of the entries in bounds, a terminal's enter of a grid
+--   Implementation       ==  open, enter, strike, count and a terminal's enter, as functions of the numbers and slices that they are lent
 --   registerCalls        ==  the calls as specs/Calls has them
 --   Meets i              ==  the calls of i answer and leave what specs/Calls says, on all arguments
 --   called i b c         ==  one call on the register's bytes
 --   run i b calls        ==  the outcomes of the calls, each on the bytes that the one before left
 --   left i b calls       ==  the bytes that the calls leave
 --   questionsOf b c      ==  the questions of a call on the register's bytes, in order
---   accepted k           ==  the number k is no refusal
+--   accepted k           ==  a call with the number k is accepted: none of its questions got a no
 --   EnterAlike i         ==  on a register of up to 5 rows both enters answer alike and leave equal bytes
 use mathlib.Core.Path.{_≡_}
 use mathlib.Core.List.{List, [], _∷_}
@@ -17,35 +17,35 @@ use Prim.Native.Nat.{ℕ, _≤_}
 use lib.Dec.{eqb}
 use Rattle.grids.specs.Questions.{Question}
 use Rattle.layout.specs.Layout.{Shape, decodeShape, decode}
-use Rattle.machine.specs.Calls.{Outcome, leastIn, enterQuestions, strikeQuestions, fitQuestions, terminalEnterQuestions, opened, entered, struck, fitted, terminalEntered}
+use Rattle.machine.specs.Calls.{Outcome, leastIn, enterQuestions, strikeQuestions, countQuestions, terminalEnterQuestions, opened, entered, struck, counted, terminalEntered}
 
 pub data Call : Type 0 where
   enter : List ℕ → Call
   strike : List ℕ → Call
-  fit : List ℕ → List ℕ → Call
+  countIn : List ℕ → List ℕ → Call
   terminalEnter : List ℕ → Call
 
 pub record Implementation : Type 0 where
   pub opens : Shape → List ℕ → Outcome
   pub enters : List ℕ → List ℕ → Outcome
   pub strikes : List ℕ → List ℕ → Outcome
-  pub fits : List ℕ → List ℕ → List ℕ → Outcome
+  pub counts : List ℕ → List ℕ → List ℕ → Outcome
   pub terminalEnters : List ℕ → List ℕ → Outcome
 
 unfoldable pub registerCalls : Implementation
-registerCalls = record { opens = opened; enters = entered; strikes = struck; fits = fitted; terminalEnters = terminalEntered }
+registerCalls = record { opens = opened; enters = entered; strikes = struck; counts = counted; terminalEnters = terminalEntered }
 
 pub record Meets (i : Implementation) : Type 0 where
   pub opens : (s : Shape) (b : List ℕ) → i .opens s b ≡ opened s b
   pub enters : (b g : List ℕ) → i .enters b g ≡ entered b g
   pub strikes : (b g : List ℕ) → i .strikes b g ≡ struck b g
-  pub fits : (b low high : List ℕ) → i .fits b low high ≡ fitted b low high
+  pub counts : (b low high : List ℕ) → i .counts b low high ≡ counted b low high
   pub terminalEnters : (b g : List ℕ) → i .terminalEnters b g ≡ terminalEntered b g
 
 unfoldable pub called : Implementation → List ℕ → Call → Outcome
 called i b (enter g) = i .enters b g
 called i b (strike g) = i .strikes b g
-called i b (fit low high) = i .fits b low high
+called i b (countIn low high) = i .counts b low high
 called i b (terminalEnter g) = i .terminalEnters b g
 
 unfoldable pub run : Implementation → List ℕ → List Call → List Outcome
@@ -59,11 +59,11 @@ left i b (c ∷ calls) = left i (called i b c .bytes) calls
 unfoldable pub questionsOf : List ℕ → Call → List Question
 questionsOf b (enter g) = enterQuestions b (decode b) g (leastIn (decode b .shape) g)
 questionsOf b (strike g) = strikeQuestions b (decode b) g (leastIn (decode b .shape) g)
-questionsOf b (fit low high) = fitQuestions b (decode b) low high
+questionsOf b (countIn low high) = countQuestions b (decode b) low high
 questionsOf b (terminalEnter g) = terminalEnterQuestions b (decode b) g (leastIn (decode b .shape) g)
 
 unfoldable pub accepted : ℕ → Bool
-accepted k = eqb k 0 || (eqb k 101 || eqb k 102)
+accepted k = eqb k 0 || eqb k 101
 
 unfoldable pub EnterAlike : Implementation → Type 0
 EnterAlike i = (b g : List ℕ) → decodeShape b .rows ≤ 5 → i .terminalEnters b g ≡ i .enters b g

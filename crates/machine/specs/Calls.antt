@@ -1,4 +1,4 @@
--- What open, enter, strike, fit and a terminal's enter answer and leave in the register's bytes, on all arguments.
+-- What open, enter, strike, count and a terminal's enter answer and leave in the register's bytes, on all arguments.
 --
 --   Outcome              ==  the number, the place or count, and the register's bytes afterwards
 --   placed number place bytes  ==  such an outcome
@@ -7,7 +7,7 @@
 --   answered k b o       ==  the refusal k, unless k is 0: then o
 --   question4, question5, question9, question10  ==  document 01's questions
 --   gridQuestions s g    ==  questions 6 and 7 of a grid
---   openQuestions, enterQuestions, strikeQuestions, fitQuestions  ==  the questions that each call asks, in order
+--   openQuestions, enterQuestions, strikeQuestions, countQuestions  ==  the questions that each call asks, in order
 --   terminalEnterQuestions  ==  those of a terminal's enter: enter's, with 14 asked directly after question 5
 --   leastIn s g          ==  the least grid of the class of g, a grid of the shape
 --   holds r l            ==  the grid r stands among the grids of l
@@ -15,12 +15,12 @@
 --   insert r l           ==  r put where it belongs in an ascending list
 --   without r l          ==  the grids of l other than r
 --   enterInto b x r, strikeFrom x r  ==  the grid r, least of its class, put into the register x with the bytes b, and taken out of it
---   fitPruned b x p      ==  after prune left p: its number, and with 0 the count of the entries in the pruned bounds
---   enterRegister, strikeRegister, fitRegister, terminalEnterRegister  ==  the calls on bytes and the register that they state
+--   entriesIn x low high ==  how many entries of the register x lie in the bounds
+--   enterRegister, strikeRegister, countRegister, terminalEnterRegister  ==  the calls on bytes and the register that they state
 --   opened s b           ==  open with the numbers of s on the slice b
 --   entered b g          ==  enter of the grid g into the register b
 --   struck b g           ==  strike of the grid g from it
---   fitted b low high    ==  fit of the bounds low, high
+--   counted b low high   ==  count of the entries in the bounds low, high
 --   terminalEntered b g  ==  a terminal's enter of the grid g
 use mathlib.Core.List.{List, [], _∷_, _++_}
 use mathlib.Core.Bool.{Bool, true, false, not, _||_}
@@ -32,7 +32,7 @@ use Rattle.grids.specs.Order.{leq, less, equal}
 use Rattle.grids.specs.Least.{least}
 use Rattle.grids.specs.Questions.{Question, firstNo, inRange, question1, question2, question3, question6, question7, question14, afterFirst}
 use Rattle.bounds.specs.Bounds.{inBounds}
-use Rattle.bounds.specs.Prune.{boundsQuestions, Pruned, pruned}
+use Rattle.bounds.specs.Prune.{boundsQuestions}
 use Rattle.layout.specs.Layout.{Shape, Register, gridSize, layout, layoutLength, decode, laidOut}
 
 pub record Outcome : Type 0 where
@@ -113,8 +113,8 @@ enterQuestions b x g r = question5 b ∷ (gridQuestions (x .shape) g ++ (questio
 unfoldable pub strikeQuestions : List ℕ → Register → List ℕ → List ℕ → List Question
 strikeQuestions b x g r = question5 b ∷ (gridQuestions (x .shape) g ++ (question10 x r ∷ []))
 
-unfoldable pub fitQuestions : List ℕ → Register → List ℕ → List ℕ → List Question
-fitQuestions b x low high = question5 b ∷ boundsQuestions (gridSize (x .shape)) (x .shape .top) low high
+unfoldable pub countQuestions : List ℕ → Register → List ℕ → List ℕ → List Question
+countQuestions b x low high = question5 b ∷ boundsQuestions (gridSize (x .shape)) (x .shape .top) low high
 
 unfoldable pub enterRegister : List ℕ → Register → List ℕ → List ℕ → Outcome
 enterRegister b x g r = answered (firstNo (enterQuestions b x g r)) b (enterInto b x r)
@@ -128,19 +128,14 @@ entered b g = enterRegister b (decode b) g (leastIn (decode b .shape) g)
 unfoldable pub struck : List ℕ → List ℕ → Outcome
 struck b g = strikeRegister b (decode b) g (leastIn (decode b .shape) g)
 
-unfoldable pub fitPruned : List ℕ → Register → Pruned → Outcome
-fitPruned b x p =
-    elim (p .number) [
-      | zero ↦ record { number = 0; place = length (select (inBounds (gridSize (x .shape)) (x .shape .top) (p .low) (p .high)) (x .entries)); bytes = b }
-      | suc k ↦ record { number = suc k; place = 0; bytes = b }
-    ]
+unfoldable pub entriesIn : Register → List ℕ → List ℕ → ℕ
+entriesIn x low high = length (select (inBounds (gridSize (x .shape)) (x .shape .top) low high) (x .entries))
 
-unfoldable pub fitRegister : List ℕ → Register → List ℕ → List ℕ → Outcome
-fitRegister b x low high =
-    answered (firstNo (fitQuestions b x low high)) b (fitPruned b x (pruned (x .shape .rows) (x .shape .columns) (x .shape .top) low high))
+unfoldable pub countRegister : List ℕ → Register → List ℕ → List ℕ → Outcome
+countRegister b x low high = answered (firstNo (countQuestions b x low high)) b (record { number = 0; place = entriesIn x low high; bytes = b })
 
-unfoldable pub fitted : List ℕ → List ℕ → List ℕ → Outcome
-fitted b low high = fitRegister b (decode b) low high
+unfoldable pub counted : List ℕ → List ℕ → List ℕ → Outcome
+counted b low high = countRegister b (decode b) low high
 
 -- ---- at a terminal
 

@@ -1,4 +1,4 @@
--- Demand 1 of open, enter, strike, fit and a terminal's enter: a call that fails a check returns the number of the first one failed, place or count 0, and changes
+-- Demand 1 of open, enter, strike, count and a terminal's enter: a call that fails a check returns the number of the first one failed, place or count 0, and changes
 -- no byte of the register. The other slices have no place in an outcome: they are lent to be read.
 --
 --   Demand1 i  ==  the demand, of an implementation of the calls
@@ -10,7 +10,7 @@ use lib.Dec.{eqb}
 use Rattle.grids.specs.Questions.{firstNo}
 use Rattle.layout.specs.Layout.{Shape}
 use Rattle.machine.specs.Calls.{refusal, openQuestions}
-use Rattle.machine.specs.CallLists.{Call, fit, Implementation, called, questionsOf, accepted}
+use Rattle.machine.specs.CallLists.{Call, countIn, Implementation, called, questionsOf, accepted}
 
 pub record Demand1 (i : Implementation) : Type 0 where
   -- where a question of the call gets a no
@@ -19,9 +19,9 @@ pub record Demand1 (i : Implementation) : Type 0 where
   -- a call is accepted exactly where every question gets a yes
   pub open-accepts : (s : Shape) (b : List ℕ) → eqb (i .opens s b .number) 0 ≡ eqb (firstNo (openQuestions s b)) 0
   pub accepts : (b : List ℕ) (c : Call) → accepted (called i b c .number) ≡ eqb (firstNo (questionsOf b c)) 0
-  -- 101 and a fit change no byte
+  -- 101 and a count change no byte
   pub held-unchanged : (b : List ℕ) (c : Call) → called i b c .number ≡ 101 → called i b c .bytes ≡ b
-  pub fit-unchanged : (b low high : List ℕ) → called i b (fit low high) .bytes ≡ b
+  pub count-unchanged : (b low high : List ℕ) → called i b (countIn low high) .bytes ≡ b
   -- no call changes the length of the slice
   pub open-length : (s : Shape) (b : List ℕ) → length (i .opens s b .bytes) ≡ length b
   pub same-length : (b : List ℕ) (c : Call) → length (called i b c .bytes) ≡ length b

@@ -7,7 +7,7 @@
 --   stepUnless k l t      ==  the first no, with which nothing changes, unless it is 0: then t
 --   enterClass s l r      ==  enter of the class of the least grid r: held, 101; else capacity classes held, 9; else it is added
 --   strikeClass l r       ==  strike of it: held, it is removed; else 10
---   fitClasses s l low high  ==  fit: no grid in the bounds has allperm, 102; else the classes whose least grid lies in the bounds as sent
+--   countClasses s l low high  ==  count: the classes whose least grid lies in the bounds
 --   step s l c            ==  one call; a terminal's enter is an enter with question 14 asked first
 --   outcome s t           ==  a step's answer, and the bytes that the machine then shows
 --   outcomes s l calls    ==  what the machine answers to each call and the bytes that it then shows
@@ -19,12 +19,10 @@ use lib.Dec.{ltb}
 use Rattle.permutations.specs.Lists.{select}
 use Rattle.grids.specs.Questions.{firstNo, question14}
 use Rattle.bounds.specs.Bounds.{inBounds}
-use Rattle.bounds.specs.Kept.{obeyed}
-use Rattle.bounds.specs.Allperm.{allperm}
 use Rattle.bounds.specs.Prune.{boundsQuestions}
 use Rattle.layout.specs.Layout.{Shape, gridSize, layout}
 use Rattle.machine.specs.Calls.{Outcome, gridQuestions, leastIn, holds, placeIn, insert, without}
-use Rattle.machine.specs.CallLists.{Call, enter, strike, fit, terminalEnter}
+use Rattle.machine.specs.CallLists.{Call, enter, strike, countIn, terminalEnter}
 
 unfoldable pub sorted : List (List ℕ) → List (List ℕ)
 sorted [] = []
@@ -59,17 +57,13 @@ strikeClass l r =
       | false ↦ record { number = 10; place = 0; next = l }
     ]
 
-unfoldable pub fitClasses : Shape → List (List ℕ) → List ℕ → List ℕ → Step
-fitClasses s l low high =
-    elim (obeyed (allperm (s .rows) (s .columns)) (gridSize s) (s .top) low high) [
-      | true ↦ record { number = 0; place = length (select (inBounds (gridSize s) (s .top) low high) l); next = l }
-      | false ↦ record { number = 102; place = 0; next = l }
-    ]
+unfoldable pub countClasses : Shape → List (List ℕ) → List ℕ → List ℕ → Step
+countClasses s l low high = record { number = 0; place = length (select (inBounds (gridSize s) (s .top) low high) l); next = l }
 
 unfoldable pub step : Shape → List (List ℕ) → Call → Step
 step s l (enter g) = stepUnless (firstNo (gridQuestions s g)) l (enterClass s l (leastIn s g))
 step s l (strike g) = stepUnless (firstNo (gridQuestions s g)) l (strikeClass l (leastIn s g))
-step s l (fit low high) = stepUnless (firstNo (boundsQuestions (gridSize s) (s .top) low high)) l (fitClasses s l low high)
+step s l (countIn low high) = stepUnless (firstNo (boundsQuestions (gridSize s) (s .top) low high)) l (countClasses s l low high)
 step s l (terminalEnter g) = stepUnless (firstNo (question14 (s .rows) ∷ gridQuestions s g)) l (enterClass s l (leastIn s g))
 
 unfoldable pub outcome : Shape → Step → Outcome

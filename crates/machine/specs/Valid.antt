@@ -3,7 +3,6 @@
 --   Valid size n b              ==  b is a valid register, with n entries of so many cells
 --   numbersNo s                 ==  the first no of questions 1 to 4
 --   openNo s length             ==  the first no of open's questions, of a slice of that length
---   PrunesCopies m n top low high number lows highs  ==  the number and the bounds are those that prune leaves of low and high
 --   asked b g                   ==  the first no of questions 5, 6 and 7 of enter and strike
 --   terminalAsked b g           ==  the first no of questions 5, 14, 6 and 7 of a terminal's enter
 --   enteredLeast b r            ==  the outcome of entering the grid r, least of its class, into the register b
@@ -14,7 +13,6 @@ use mathlib.Core.Bool.{true}
 use Prim.Native.Nat.{ℕ}
 use lib.Dec.{eqb}
 use Rattle.grids.specs.Questions.{firstNo, question1, question2, question3, question14, afterFirst}
-use Rattle.bounds.specs.Prune.{pruned}
 use Rattle.layout.specs.Layout.{Shape, gridSize, layoutLength, count, decodeShape, decode, laidOut}
 use Rattle.machine.specs.Calls.{Outcome, answered, question4, question5, gridQuestions, question9, question10, enterInto, strikeFrom}
 
@@ -41,8 +39,3 @@ enteredLeast b r = answered (firstNo (question9 (decode b) r ∷ [])) b (enterIn
 
 unfoldable pub struckLeast : List ℕ → List ℕ → Outcome
 struckLeast b r = answered (firstNo (question10 (decode b) r ∷ [])) b (strikeFrom (decode b) r)
-
-pub record PrunesCopies (m n top : ℕ) (low high : List ℕ) (number : ℕ) (lows highs : List ℕ) : Type 0 where
-  pub number-is : number ≡ pruned m n top low high .number
-  pub lows-are : lows ≡ pruned m n top low high .low
-  pub highs-are : highs ≡ pruned m n top low high .high

@@ -10,8 +10,8 @@ use canonical::same;
 use canonical::terminal_represent;
 use canonical::terminal_same;
 use register::answers::Placed;
+use register::counts;
 use register::entering;
-use register::fitting;
 use register::opening;
 use register::striking;
 use register::terminal_entering;
@@ -20,7 +20,7 @@ ghost use Rattle.canonical.specs.Represent.{Represented, TerminalRepresented};
 ghost use Rattle.canonical.specs.Same.{Compared, TerminalCompared};
 ghost use Rattle.bounds.specs.Prune.{prunedTo};
 ghost use Rattle.bounds.specs.Demand2.{Prunes};
-ghost use Rattle.machine.specs.Calls.{opened, entered, struck, fitted, terminalEntered, placed, shape};
+ghost use Rattle.machine.specs.Calls.{opened, entered, struck, counted, terminalEntered, placed, shape};
 ghost use Rattle.plan_register.specs.Exported.{Exported, ExportedMatch, TerminalExported, TerminalExportedMatch};
 
 // The number, the row order and the column order.
@@ -162,10 +162,10 @@ pub extern "C" fn plan_register_strike(register: &mut [u8], grid: &[u8]) -> Plac
 }
 
 #[no_mangle]
-pub extern "C" fn plan_register_fit(register: &[u8], low: &[u8], high: &[u8]) -> Counted
-    ensures { λ r. ⌜ placed (r .number) (r .count) (now (register .entry)) ≡ fitted (now (register .entry)) (now (low .entry)) (now (high .entry)) ⌝ }
+pub extern "C" fn plan_register_count(register: &[u8], low: &[u8], high: &[u8]) -> Counted
+    ensures { λ r. ⌜ placed (r .number) (r .count) (now (register .entry)) ≡ counted (now (register .entry)) (now (low .entry)) (now (high .entry)) ⌝ }
 {
-    fitting::fit(register, low, high)
+    counts::count(register, low, high)
 }
 
 #[no_mangle]

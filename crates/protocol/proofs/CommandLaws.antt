@@ -1,13 +1,12 @@
--- Laws of command lines: which lines are laid as document 01 says, and the calls that they make.
+-- Laws of command lines: which lines are laid as document 01 says, and the cells and bounds that they state.
 --
 --   CommandLaid size k c l  ==  l is the line of the command k, 1 to 3, with the cells c: as many as the command has, none above 255
 --   laid-command       ==  then k and c are read from it
 --   laid-exactly       ==  the test of a line says yes exactly if it is the line of some command and cells
 --   laid-length        ==  how many bytes it has then
 --   inTurn low high    ==  the first of low, the first of high, the second of low, ..
---   in-turn-parts      ==  cells of an even number are the bounds read from them, in turn
---   enter-call, strike-call, fit-call  ==  the calls of such lines; the cells of a fit are low and high in turn
-use mathlib.Core.Path.{_≡_, refl, sym, ap, ap₂, _∙_}
+--   in-turn-parts, parted-in-turn  ==  cells of an even number are the bounds read from them, in turn; bounds put in turn are read as they were
+use mathlib.Core.Path.{_≡_, refl, sym, ap, _∙_}
 use mathlib.Core.List.{List, [], _∷_, _++_}
 use mathlib.Core.Bool.{true}
 use mathlib.Core.Logic.{_⊎_, inl, inr, _↔_}
@@ -28,9 +27,8 @@ use Rattle.layout.specs.Layout.{fields, numberAt, cellsOf}
 use Rattle.layout.proofs.DecimalLaws.{length-field, value-field}
 use Rattle.layout.proofs.LayoutLaws.{length-ended, fields-read}
 use Rattle.layout.proofs.LineLaws.{length-cells}
-use Rattle.machine.specs.CallLists.{enter, strike, fit}
 use Rattle.protocol.specs.Input.{commandLine, cellCount, commandIn, cellsIn, isLaid}
-use Rattle.protocol.specs.Commands.{lows, highs, callOf, callIn}
+use Rattle.protocol.specs.Commands.{lows, highs}
 
 -- ---- command lines
 
@@ -154,18 +152,9 @@ in-turn-parts size c e = ext-getD 0 (inTurn low high) c (whole ∙ sym e) λ j b
     at j b (i, inl d) = rw d (at-in-turn low high i same (omega (arith, many)) .0 ∙ at-tabulate size (λ i. getD c (2 * i) 0) i 0 (omega arith))
     at j b (i, inr d) = rw d (at-in-turn low high i same (omega (arith, many)) .1 ∙ at-tabulate size (λ i. getD c (2 * i + 1) 0) i 0 (omega arith))
 
-module _ {size : ℕ} {line : List ℕ} where
-  pub enter-call : {g : List ℕ} → CommandLaid size 1 g line → callIn size line ≡ enter g
-  unfolding callIn callOf
-  enter-call o = let q = laid-command o in rw (q .0, q .1)
-
-  pub strike-call : {g : List ℕ} → CommandLaid size 2 g line → callIn size line ≡ strike g
-  unfolding callIn callOf
-  strike-call o = let q = laid-command o in rw (q .0, q .1)
-
-  pub fit-call : (low high : List ℕ) → length low ≡ size → length high ≡ size → CommandLaid size 3 (inTurn low high) line → callIn size line ≡ fit low high
-  unfolding callIn callOf lows highs
-  fit-call low high e f o =
-      let q = laid-command o in
-      rw (q .0, q .1)
-      (ap₂ fit (tabulate-is 0 low size _ e (λ i h. sym (at-in-turn low high i (omega arith) (omega arith) .0))) (tabulate-is 0 high size _ f (λ i h. sym (at-in-turn low high i (omega arith) (omega arith) .1))))
+pub parted-in-turn : (size : ℕ) (low high : List ℕ) → length low ≡ size → length high ≡ size → (lows size (inTurn low high) ≡ low) × (highs size (inTurn low high) ≡ high)
+unfolding lows highs
+parted-in-turn size low high e f = (
+  tabulate-is 0 low size _ e (λ i h. sym (at-in-turn low high i (omega arith) (omega arith) .0)),
+  tabulate-is 0 high size _ f (λ i h. sym (at-in-turn low high i (omega arith) (omega arith) .1)),
+)

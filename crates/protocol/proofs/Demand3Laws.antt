@@ -8,12 +8,12 @@ use mathlib.Core.Path.{_≡_, refl, sym, ap, ap₂, _∙_}
 use mathlib.Core.List.{List, [], _∷_, _++_}
 use Prim.Native.Nat.{ℕ, zero, suc}
 use lib.ListN.{length, replicate, length-replicate}
-use Rattle.layout.specs.Layout.{Shape, gridSize, layoutLength, count}
+use Rattle.layout.specs.Layout.{Shape, layoutLength, count}
 use Rattle.machine.specs.Calls.{Outcome, opened}
 use Rattle.machine.specs.CallLists.{Call, Implementation, registerCalls, run, left}
 use Rattle.machine.specs.Machine.{shown, step, outcome}
 use Rattle.machine.specs.Demand3.{live, ListsLive, Demand3}
-use Rattle.machine.proofs.MachineLaws.{afterwards}
+use Rattle.machine.proofs.MachineLaws.{Good, empty-good, afterwards}
 use Rattle.machine.proofs.Demand3Laws.{demand3}
 use Rattle.machine.proofs.FollowLaws.{Follows, after-open, follows-open, follows-call, follows-next}
 use Rattle.protocol.specs.Input.{furtherLines}
@@ -30,20 +30,23 @@ left-follows i s (c ∷ calls) l f =
     ap (λ (o : Outcome). left i (o .bytes) calls) (follows-call i s l f c) ∙ left-follows i s calls (step s l c .next) (follows-next i s l f c)
 
 module _ (i : Implementation) (d : Demand3 i) (input : List ℕ) (e : startNo input ≡ 0) where
+  good : Good (shapeIn input) []
+  good = empty-good (shapeIn input) (start-limits input e .0)
+
   starts : Follows i (shapeIn input) []
   starts = follows-open i d (shapeIn input) (start-limits input e .0)
 
   register-left : printedRegister input ≡ left i (shown (shapeIn input) []) (inputCalls input)
   unfolding inputCalls
   register-left =
-      register-shown input e ∙ ap (shown (shapeIn input)) (set-calls (shapeIn input) [] (furtherLines input)) ∙ sym (left-follows i (shapeIn input) (inputCalls input) [] starts)
+      register-shown input e ∙ ap (shown (shapeIn input)) (set-calls (shapeIn input) (furtherLines input) [] good) ∙ sym (left-follows i (shapeIn input) (inputCalls input) [] starts)
 
   printed-calls : transcript input
-      ≡ replies (gridSize (shapeIn input)) (furtherLines input) (run i (shown (shapeIn input) []) (inputCalls input)) ++ left i (shown (shapeIn input) []) (inputCalls input)
+      ≡ replies (shapeIn input) (furtherLines input) (run i (shown (shapeIn input) []) (inputCalls input)) ++ left i (shown (shapeIn input) []) (inputCalls input)
   unfolding inputCalls
   printed-calls =
       transcript-ends input e
-      ∙ ap₂ _++_ (reports-replies (shapeIn input) [] (furtherLines input) ∙ ap (replies (gridSize (shapeIn input)) (furtherLines input)) (sym (starts (inputCalls input)))) register-left
+      ∙ ap₂ _++_ (reports-replies (shapeIn input) (furtherLines input) [] good ∙ ap (replies (shapeIn input) (furtherLines input)) (sym (starts (inputCalls input)))) register-left
 
 pub prints-demand3 : (p : Printing) → Prints p → PrintsDemand3 p
 unfolding Prints
@@ -59,7 +62,7 @@ prints-demand3 p h = record { refuses = λ input k e. h input ∙ start-refused 
 -- the calls as specs/Calls has them meet demand 3
 own : Demand3 registerCalls
 unfolding registerCalls
-own = demand3 registerCalls (record { opens = λ s b. refl; enters = λ b g. refl; strikes = λ b g. refl; fits = λ b low high. refl; terminalEnters = λ b g. refl })
+own = demand3 registerCalls (record { opens = λ s b. refl; enters = λ b g. refl; strikes = λ b g. refl; counts = λ b low high. refl; terminalEnters = λ b g. refl })
 
 pub demand3-prints : (p : Printing) → PrintsDemand3 p → Prints p
 unfolding Prints

@@ -2,6 +2,7 @@ pub mod LineLaws
 pub mod CommandLaws
 pub mod ShapeLaws
 pub mod ReportLaws
+pub mod ReadingLaws
 pub mod StartLaws
 pub mod RunLaws
 pub mod Demand3Laws

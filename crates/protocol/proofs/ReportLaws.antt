@@ -3,31 +3,39 @@
 --   length-report      ==  a printed line has 19 bytes
 --   ReportStates k x p b     ==  the bytes b state the numbers k, x and p, 6 wide each
 --   report-states      ==  a printed line states its command, number and place or count, if each is below 1,000,000
---   call-answer, malformed-answer  ==  what is answered to a line that is laid, and to another
+--   step-answer, malformed-answer  ==  what is answered to a line that is laid, and to another
+--   enter-answer, strike-answer, bounds-answer  ==  what is answered to the line of each command; the cells of command 3 are low and high in turn
 --   length-answer, length-reports  ==  one line is printed for each line
---   step-fits          ==  the machine's numbers, and its places and counts, are below 1,000,000
+--   step-small, command-small  ==  the numbers of a step and of a command, and their places and counts, are below 1,000,000
 --   answer-states      ==  what is printed for a command line states the command, and the machine's number and place or count
 --   malformed-states   ==  what is printed for a line that is not laid states 0, 12 and 0
 use mathlib.Core.Path.{_≡_, refl, _∙_}
 use mathlib.Core.List.{List, [], _∷_}
 use mathlib.Core.Bool.{Bool, true, false}
-use Prim.Native.Nat.{ℕ, _*_, _≤_, _<_}
+use Prim.Native.Nat.{ℕ, zero, suc, _*_, _≤_, _<_}
 use native.Mathlib.Omega.{arith}
 use lib.ListN.{length, getD, length-append}
+use lib.Dec.{eqb}
 use Rattle.permutations.specs.Lists.{select}
 use Rattle.permutations.proofs.SelectLaws.{length-select}
 use Rattle.grids.specs.Order.{less}
+use Rattle.grids.specs.Questions.{firstNo}
+use Rattle.bounds.specs.Bounds.{inBounds}
+use Rattle.bounds.specs.Kept.{obeyed}
+use Rattle.bounds.specs.Allperm.{allperm}
+use Rattle.bounds.specs.Prune.{boundsQuestions}
+use Rattle.bounds.proofs.PruneLaws.{prune-small, prune-asked}
 use Rattle.layout.specs.Layout.{Shape, gridSize, numberAt}
 use Rattle.layout.proofs.LayoutLaws.{length-ended, fields-read}
 use Rattle.machine.specs.Calls.{placeIn}
-use Rattle.machine.specs.CallLists.{Call}
-use Rattle.machine.specs.Machine.{step}
+use Rattle.machine.specs.CallLists.{Call, enter, strike}
+use Rattle.machine.specs.Machine.{Step, stepUnless, countClasses, step}
 use Rattle.machine.proofs.MachineLaws.{Good}
 use Rattle.machine.proofs.StepLaws.{step-answers}
-use Rattle.protocol.specs.Input.{commandIn, isLaid}
-use Rattle.protocol.specs.Commands.{callOf, callIn, report, answerCall, malformed, answer}
+use Rattle.protocol.specs.Input.{commandIn, cellsIn, isLaid}
+use Rattle.protocol.specs.Commands.{countOf, boundsStep, commandStep, report, answerStep, malformed, answer}
 use Rattle.protocol.specs.Transcript.{reports}
-use Rattle.protocol.proofs.CommandLaws.{CommandLaid, laid-command, laid-exactly}
+use Rattle.protocol.proofs.CommandLaws.{CommandLaid, inTurn, laid-command, laid-exactly, parted-in-turn}
 
 -- ---- one line
 
@@ -49,21 +57,41 @@ report-states k x p a b c = record { command = read 0 (omega arith) a; number = 
 
 -- ---- the answers
 
-pub call-answer : (s : Shape) (l : List (List ℕ)) (line : List ℕ) → isLaid (gridSize s) line ≡ true →
-    answer s l line ≡ answerCall (commandIn line) (step s l (callIn (gridSize s) line))
+pub step-answer : (s : Shape) (l : List (List ℕ)) (line : List ℕ) → isLaid (gridSize s) line ≡ true →
+    answer s l line ≡ answerStep (commandIn line) (commandStep s l (commandIn line) (cellsIn (gridSize s) line))
 unfolding answer
-call-answer s l line e = rw (e, answer)
+step-answer s l line e = rw (e, answer)
 
 pub malformed-answer : (s : Shape) (l : List (List ℕ)) (line : List ℕ) → isLaid (gridSize s) line ≡ false → answer s l line ≡ malformed l
 unfolding answer
 malformed-answer s l line e = rw (e, answer)
 
+-- the answer to the line of a command with its cells
+laid-answer : (s : Shape) (l : List (List ℕ)) {k : ℕ} {c line : List ℕ} → CommandLaid (gridSize s) k c line → answer s l line ≡ answerStep k (commandStep s l k c)
+laid-answer s l {k} {c} {line} o =
+    let q = laid-command o in
+    step-answer s l line (laid-exactly (gridSize s) line .1 (k, c, o)) ∙ rw (q .0, q .1) refl
+
+module _ (s : Shape) (l : List (List ℕ)) {line : List ℕ} where
+  pub enter-answer : {g : List ℕ} → CommandLaid (gridSize s) 1 g line → answer s l line ≡ answerStep 1 (step s l (enter g))
+  unfolding commandStep
+  enter-answer o = laid-answer s l o
+
+  pub strike-answer : {g : List ℕ} → CommandLaid (gridSize s) 2 g line → answer s l line ≡ answerStep 2 (step s l (strike g))
+  unfolding commandStep
+  strike-answer o = laid-answer s l o
+
+  pub bounds-answer : (low high : List ℕ) → length low ≡ gridSize s → length high ≡ gridSize s → CommandLaid (gridSize s) 3 (inTurn low high) line →
+      answer s l line ≡ answerStep 3 (boundsStep s l low high)
+  unfolding commandStep
+  bounds-answer low high e f o = let q = parted-in-turn (gridSize s) low high e f in laid-answer s l o ∙ rw (q .0, q .1) refl
+
 pub length-answer : (s : Shape) (l : List (List ℕ)) (line : List ℕ) → length (answer s l line .printed) ≡ 19
-unfolding answerCall malformed
+unfolding answerStep malformed
 length-answer s l line = go (isLaid (gridSize s) line) refl
   where
     go : (t : Bool) → isLaid (gridSize s) line ≡ t → length (answer s l line .printed) ≡ 19
-    go true e = rw (call-answer s l line e) (length-report _ _ _)
+    go true e = rw (step-answer s l line e) (length-report _ _ _)
     go false e = rw (malformed-answer s l line e) (length-report 0 12 0)
 
 pub length-reports : (s : Shape) (l : List (List ℕ)) (ls : List (List ℕ)) → length (reports s l ls) ≡ 19 * length ls
@@ -82,19 +110,45 @@ module _ (s : Shape) (l : List (List ℕ)) (g : Good s l) where
   unfolding placeIn
   place-few r = omega (arith, few (λ x. less x r))
 
-  pub step-fits : (c : Call) → (step s l c .number < 1000000) × (step s l c .place < 1000000)
-  step-fits = step-answers (λ k p. (k < 1000000) × (p < 1000000)) s l (record {
+  abbrev Small : Step → Type 0
+  Small t = (t .number < 1000000) × (t .place < 1000000)
+
+  pub step-small : (c : Call) → Small (step s l c)
+  step-small = step-answers (λ k p. (k < 1000000) × (p < 1000000)) s l (record {
     length-no = (omega arith, omega arith);
     cells-no = (omega arith, omega arith);
     order-no = (omega arith, omega arith);
     full = (omega arith, omega arith);
     not-held = (omega arith, omega arith);
     rows-no = (omega arith, omega arith);
-    none = (omega arith, omega arith);
     done = λ r. (omega arith, place-few r);
     held = λ r. (omega arith, place-few r);
     counted = λ t. (omega arith, omega (arith, few t));
   })
+
+  bounds-small : (low high : List ℕ) → Small (boundsStep s l low high)
+  unfolding boundsStep countOf countClasses stepUnless
+  bounds-small low high = unless (firstNo (boundsQuestions (gridSize s) (s .top) low high)) few-questions (go (obeyed (allperm (s .rows) (s .columns)) (gridSize s) (s .top) low high) refl)
+    where
+      few-questions : firstNo (boundsQuestions (gridSize s) (s .top) low high) ≤ 8
+      few-questions = omega (arith, prune-asked (s .rows) (s .columns) (s .top) low high (g .limits .grid-limits), prune-small (s .rows) (s .columns) (s .top) low high)
+
+      unless : (k : ℕ) → k ≤ 8 → Small (countOf s l low high) → Small (stepUnless k l (countOf s l low high))
+      unless zero h p = p
+      unless (suc k) h p = (omega arith, omega arith)
+
+      go : (t : Bool) → obeyed (allperm (s .rows) (s .columns)) (gridSize s) (s .top) low high ≡ t → Small (countOf s l low high)
+      go true e = rw (e, countOf) (omega arith, omega (arith, few (inBounds (gridSize s) (s .top) low high)))
+      go false e = rw (e, countOf) (omega arith, omega arith)
+
+  pub command-small : (k : ℕ) (c : List ℕ) → Small (commandStep s l k c)
+  unfolding commandStep
+  command-small k c = go (eqb k 1) refl (eqb k 2) refl
+    where
+      go : (t : Bool) → eqb k 1 ≡ t → (u : Bool) → eqb k 2 ≡ u → Small (commandStep s l k c)
+      go true e u f = rw (e, commandStep) (step-small (enter c))
+      go false e true f = rw (e, f, commandStep) (step-small (strike c))
+      go false e false f = rw (e, f, commandStep) (bounds-small _ _)
 
 -- ---- what is stated
 
@@ -103,9 +157,8 @@ unfolding malformed
 malformed-states s l line e = rw (malformed-answer s l line e) (report-states 0 12 0 (omega arith) (omega arith) (omega arith))
 
 pub answer-states : (s : Shape) (l : List (List ℕ)) → Good s l → (k : ℕ) (c line : List ℕ) → CommandLaid (gridSize s) k c line →
-    ReportStates k (step s l (callOf (gridSize s) k c) .number) (step s l (callOf (gridSize s) k c) .place) (answer s l line .printed)
-unfolding answerCall callIn
+    ReportStates k (commandStep s l k c .number) (commandStep s l k c .place) (answer s l line .printed)
+unfolding answerStep
 answer-states s l g k c line o =
-    let q = laid-command o in
-    let f = step-fits s l g (callOf (gridSize s) k c) in
-    rw (call-answer s l line (laid-exactly (gridSize s) line .1 (k, c, o)), q .0, q .1) (report-states k _ _ (omega (arith, o .command)) (f .0) (f .1))
+    let f = command-small s l g k c in
+    rw (laid-answer s l o) (report-states k _ _ (omega (arith, o .command)) (f .0) (f .1))

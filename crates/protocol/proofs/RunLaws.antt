@@ -4,7 +4,7 @@
 --   start-refused      ==  after a no one line is printed, and no register
 --   register-shown     ==  else the register is the machine's after the further lines
 --   transcript-ends    ==  and a line for each further line, and then the register
---   set-calls          ==  the machine's set after lines is that after the calls of those that are laid
+--   set-calls          ==  the machine's set after lines is that after the calls that they make
 --   reports-replies    ==  what is printed for lines is what the machine answers to these calls
 --   set-good           ==  what holds of a set reached by calls holds of the set after lines
 --   length-shown       ==  how many bytes the machine shows
@@ -13,28 +13,29 @@
 --   transcript-some    ==  something is printed for every input
 --   transcript-cut     ==  an input that is cut off behind the limit prints what the whole does
 use mathlib.Core.Path.{_≡_, refl, sym, ap, _∙_}
-use mathlib.Core.List.{List, [], _∷_, _++_}
+use mathlib.Core.List.{List, [], _∷_, _++_, flatMap}
 use mathlib.Core.Bool.{Bool, true, false}
 use Prim.Native.Nat.{ℕ, zero, suc, _≤_, _<_}
 use native.Mathlib.Decide.{decLt}
 use native.Mathlib.Omega.{arith}
-use lib.ListN.{length, take, length-append, length-drop}
+use lib.ListN.{length, take, drop, length-append, length-drop}
 use lib.Seq.{take-all, length-take-le}
 use Rattle.permutations.specs.Lists.{select}
 use Rattle.permutations.proofs.SelectLaws.{select-yes, select-no}
 use Rattle.layout.specs.Layout.{Shape, gridSize, layoutLength, laidOut}
 use Rattle.layout.proofs.LayoutLaws.{length-layout}
-use Rattle.machine.specs.Calls.{Outcome}
 use Rattle.machine.specs.CallLists.{Call}
-use Rattle.machine.specs.Machine.{shown, step, outcome, outcomes}
+use Rattle.machine.specs.Machine.{shown, outcome, outcomes}
 use Rattle.machine.proofs.MachineLaws.{Good, empty-good, registerOf, good-register, laid, afterwards, afterwards-good}
-use Rattle.protocol.specs.Input.{lines, furtherLines, commandIn, isLaid}
-use Rattle.protocol.specs.Commands.{callIn, report, LineAnswer, answerCall, malformed, answer}
+use Rattle.protocol.specs.Input.{lines, furtherLines, isLaid}
+use Rattle.protocol.specs.Commands.{report, LineAnswer, answerStep, malformed, answer}
+use Rattle.protocol.specs.Readings.{Reading, says, calls, readLine, madeBy, madeIn, commandOf}
 use Rattle.protocol.specs.Transcript.{byteLimit, shapeIn, startNo, reports, setAfter, registerFrom, printedFrom, printedRegister, transcript}
 use Rattle.protocol.specs.Programs.{outputLimit}
-use Rattle.protocol.specs.Demand3.{callsIn, reply, replies}
+use Rattle.protocol.specs.Demand3.{reply, replies}
 use Rattle.protocol.proofs.LineLaws.{lines-fewer}
-use Rattle.protocol.proofs.ReportLaws.{length-report, length-reports, call-answer, malformed-answer}
+use Rattle.protocol.proofs.ReportLaws.{length-report, length-reports, malformed-answer}
+use Rattle.protocol.proofs.ReadingLaws.{stepOf, step-of-good, reading-answer}
 use Rattle.protocol.proofs.StartLaws.{over-limit, start-pass, start-limits}
 
 -- ---- lines that are not laid
@@ -65,61 +66,48 @@ transcript-ends input e = ap (λ (n : ℕ). printedFrom n input) e ∙ ap (λ (n
 
 -- ---- the lines by their calls
 
-module _ (size : ℕ) (line : List ℕ) (ls : List (List ℕ)) where
-  calls-yes : isLaid size line ≡ true → callsIn size (line ∷ ls) ≡ callIn size line ∷ callsIn size ls
-  unfolding callsIn
-  calls-yes e = rw (select-yes (isLaid size) line ls e)
+module _ (s : Shape) (l : List (List ℕ)) (r : Reading) (cs : List Call) where
+  -- the machine's set and outcomes where a line read as r comes before other calls
+  made-afterwards : afterwards s l (madeBy r ++ cs) ≡ afterwards s (stepOf s l r .next) cs
+  unfolding madeBy afterwards stepOf
+  made-afterwards = go r
+    where
+      go : (r : Reading) → afterwards s l (madeBy r ++ cs) ≡ afterwards s (stepOf s l r .next) cs
+      go (says k x) = refl
+      go (calls k c) = refl
 
-  calls-no : isLaid size line ≡ false → callsIn size (line ∷ ls) ≡ callsIn size ls
-  unfolding callsIn
-  calls-no e = rw (select-no (isLaid size) line ls e)
+  made-replies : (ls : List (List ℕ)) → reply r (outcomes s l (madeBy r ++ cs)) ++ replies s ls (drop (length (madeBy r)) (outcomes s l (madeBy r ++ cs)))
+      ≡ report (commandOf r) (stepOf s l r .number) (stepOf s l r .place) ++ replies s ls (outcomes s (stepOf s l r .next) cs)
+  unfolding madeBy outcomes outcome stepOf commandOf reply
+  made-replies ls = go r
+    where
+      go : (r : Reading) → reply r (outcomes s l (madeBy r ++ cs)) ++ replies s ls (drop (length (madeBy r)) (outcomes s l (madeBy r ++ cs)))
+          ≡ report (commandOf r) (stepOf s l r .number) (stepOf s l r .place) ++ replies s ls (outcomes s (stepOf s l r .next) cs)
+      go (says k x) = refl
+      go (calls k c) = refl
 
-  replies-yes : (o : Outcome) (os : List Outcome) → isLaid size line ≡ true → replies size (line ∷ ls) (o ∷ os) ≡ report (commandIn line) (o .number) (o .place) ++ replies size ls os
-  unfolding replies reply
-  replies-yes o os e = rw (e, replies)
+pub set-calls : (s : Shape) (ls l : List (List ℕ)) → Good s l → setAfter s l ls ≡ afterwards s l (madeIn s ls)
+unfolding setAfter afterwards madeIn flatMap answerStep
+set-calls s [] l g = refl
+set-calls s (line ∷ ls) l g =
+    let r = readLine s line in
+    ap (λ (a : LineAnswer). setAfter s (a .next) ls) (reading-answer s l g line)
+    ∙ set-calls s ls (stepOf s l r .next) (step-of-good s l g r)
+    ∙ sym (made-afterwards s l r (madeIn s ls))
 
-  replies-no : (os : List Outcome) → isLaid size line ≡ false → replies size (line ∷ ls) os ≡ report 0 12 0 ++ replies size ls os
-  unfolding replies
-  replies-no os e = rw (e, replies)
-
-pub set-calls : (s : Shape) (l ls : List (List ℕ)) → setAfter s l ls ≡ afterwards s l (callsIn (gridSize s) ls)
-unfolding setAfter afterwards callsIn select answerCall malformed
-set-calls s l [] = refl
-set-calls s l (line ∷ ls) = go (λ k. set-calls s k ls) (isLaid (gridSize s) line) refl
-  where
-    go : ((k : List (List ℕ)) → setAfter s k ls ≡ afterwards s k (callsIn (gridSize s) ls)) → (t : Bool) → isLaid (gridSize s) line ≡ t →
-        setAfter s l (line ∷ ls) ≡ afterwards s l (callsIn (gridSize s) (line ∷ ls))
-    go ih true e = ap (λ (a : LineAnswer). setAfter s (a .next) ls) (call-answer s l line e) ∙ ih _ ∙ ap (afterwards s l) (sym (calls-yes (gridSize s) line ls e))
-    go ih false e = ap (λ (a : LineAnswer). setAfter s (a .next) ls) (malformed-answer s l line e) ∙ ih l ∙ ap (afterwards s l) (sym (calls-no (gridSize s) line ls e))
-
-pub reports-replies : (s : Shape) (l ls : List (List ℕ)) → reports s l ls ≡ replies (gridSize s) ls (outcomes s l (callsIn (gridSize s) ls))
-unfolding reports outcomes outcome answerCall malformed replies
-reports-replies s l [] = refl
-reports-replies s l (line ∷ ls) = go (λ k. reports-replies s k ls) (isLaid (gridSize s) line) refl
-  where
-    size : ℕ
-    size = gridSize s
-
-    call : Call
-    call = callIn size line
-
-    go : ((k : List (List ℕ)) → reports s k ls ≡ replies (gridSize s) ls (outcomes s k (callsIn (gridSize s) ls))) → (t : Bool) → isLaid (gridSize s) line ≡ t →
-        reports s l (line ∷ ls) ≡ replies (gridSize s) (line ∷ ls) (outcomes s l (callsIn (gridSize s) (line ∷ ls)))
-    go ih true e =
-        ap (λ (a : LineAnswer). a .printed ++ reports s (a .next) ls) (call-answer s l line e)
-        ∙ ap (λ (r : List ℕ). report (commandIn line) (step s l call .number) (step s l call .place) ++ r) (ih (step s l call .next))
-        ∙ sym (replies-yes size line ls (outcome s (step s l call)) _ e)
-        ∙ ap (λ (c : List Call). replies size (line ∷ ls) (outcomes s l c)) (sym (calls-yes size line ls e))
-    go ih false e =
-        ap (λ (a : LineAnswer). a .printed ++ reports s (a .next) ls) (malformed-answer s l line e)
-        ∙ ap (λ (r : List ℕ). report 0 12 0 ++ r) (ih l)
-        ∙ sym (replies-no size line ls _ e)
-        ∙ ap (λ (c : List Call). replies size (line ∷ ls) (outcomes s l c)) (sym (calls-no size line ls e))
+pub reports-replies : (s : Shape) (ls l : List (List ℕ)) → Good s l → reports s l ls ≡ replies s ls (outcomes s l (madeIn s ls))
+unfolding reports replies madeIn flatMap answerStep
+reports-replies s [] l g = refl
+reports-replies s (line ∷ ls) l g =
+    let r = readLine s line in
+    ap (λ (a : LineAnswer). a .printed ++ reports s (a .next) ls) (reading-answer s l g line)
+    ∙ ap (λ (x : List ℕ). report (commandOf r) (stepOf s l r .number) (stepOf s l r .place) ++ x) (reports-replies s ls (stepOf s l r .next) (step-of-good s l g r))
+    ∙ sym (made-replies s l r (madeIn s ls) ls)
 
 -- ---- the register printed
 
 pub set-good : (s : Shape) (l ls : List (List ℕ)) → Good s l → Good s (setAfter s l ls)
-set-good s l ls g = rw (set-calls s l ls) (afterwards-good s (callsIn (gridSize s) ls) l g)
+set-good s l ls g = rw (set-calls s ls l g) (afterwards-good s (madeIn s ls) l g)
 
 pub length-shown : (s : Shape) (l : List (List ℕ)) → Good s l → length (shown s l) ≡ layoutLength s
 unfolding shown registerOf

@@ -1,11 +1,12 @@
--- The calls that command lines make, and what is printed for each.
+-- What is printed for command lines, by the plain machine.
 --
 --   lows size c, highs size c  ==  the bounds that cells hold in turn: low and high of the first cell, of the second, ..
---   callOf size k c   ==  the call of the command k with the cells c: 1 enter, 2 strike, else fit; a line that is laid has no other command than 3 then
---   callIn size line  ==  the call of a command line
+--   countOf s l low high  ==  command 3 past its questions: no grid in the bounds has allperm, 102; else the classes whose least grid lies in the bounds as sent
+--   boundsStep s l low high  ==  command 3
+--   commandStep s l k c  ==  the command k with the cells c: 1 enter, 2 strike, else command 3; a line that is laid has no other command than 3 then
 --   report k x p      ==  a printed line: the command k, the number x and the place or count p, each 6 wide, and a line feed
 --   LineAnswer            ==  the printed line, and the machine's set afterwards
---   answerCall k t    ==  what is printed under the command k for a step of the machine
+--   answerStep k t    ==  what is printed under the command k for a step of the machine
 --   malformed l       ==  what is printed for a line that is not laid so: command 0, number 12; the set stays as it is
 --   answer s l line   ==  what is printed for a command line, by a machine with the numbers s and the set l
 use mathlib.Core.List.{List, [], _∷_, _++_}
@@ -14,9 +15,13 @@ use Prim.Native.Nat.{ℕ, _+_, _*_}
 use lib.ListN.{getD}
 use lib.Dec.{eqb}
 use Rattle.permutations.specs.Lists.{tabulate}
+use Rattle.grids.specs.Questions.{firstNo}
+use Rattle.bounds.specs.Kept.{obeyed}
+use Rattle.bounds.specs.Allperm.{allperm}
+use Rattle.bounds.specs.Prune.{boundsQuestions}
 use Rattle.layout.specs.Layout.{Shape, gridSize, fields}
-use Rattle.machine.specs.CallLists.{Call, enter, strike, fit}
-use Rattle.machine.specs.Machine.{Step, step}
+use Rattle.machine.specs.CallLists.{enter, strike}
+use Rattle.machine.specs.Machine.{Step, stepUnless, countClasses, step}
 use Rattle.protocol.specs.Input.{commandIn, cellsIn, isLaid}
 
 unfoldable pub lows : ℕ → List ℕ → List ℕ
@@ -25,11 +30,22 @@ lows size c = tabulate 0 size (λ i. getD c (2 * i) 0)
 unfoldable pub highs : ℕ → List ℕ → List ℕ
 highs size c = tabulate 0 size (λ i. getD c (2 * i + 1) 0)
 
-unfoldable pub callOf : ℕ → ℕ → List ℕ → Call
-callOf size k c = elim (eqb k 1) [ true ↦ enter c | false ↦ elim (eqb k 2) [ true ↦ strike c | false ↦ fit (lows size c) (highs size c) ] ]
+unfoldable pub countOf : Shape → List (List ℕ) → List ℕ → List ℕ → Step
+countOf s l low high =
+    elim (obeyed (allperm (s .rows) (s .columns)) (gridSize s) (s .top) low high) [
+      | true ↦ countClasses s l low high
+      | false ↦ record { number = 102; place = 0; next = l }
+    ]
 
-unfoldable pub callIn : ℕ → List ℕ → Call
-callIn size line = callOf size (commandIn line) (cellsIn size line)
+unfoldable pub boundsStep : Shape → List (List ℕ) → List ℕ → List ℕ → Step
+boundsStep s l low high = stepUnless (firstNo (boundsQuestions (gridSize s) (s .top) low high)) l (countOf s l low high)
+
+unfoldable pub commandStep : Shape → List (List ℕ) → ℕ → List ℕ → Step
+commandStep s l k c =
+    elim (eqb k 1) [
+      | true ↦ step s l (enter c)
+      | false ↦ elim (eqb k 2) [ true ↦ step s l (strike c) | false ↦ boundsStep s l (lows (gridSize s) c) (highs (gridSize s) c) ]
+    ]
 
 unfoldable pub report : ℕ → ℕ → ℕ → List ℕ
 report k x p = fields 6 (k ∷ x ∷ p ∷ []) ++ (10 ∷ [])
@@ -38,8 +54,8 @@ pub record LineAnswer : Type 0 where
   pub printed : List ℕ
   pub next : List (List ℕ)
 
-unfoldable pub answerCall : ℕ → Step → LineAnswer
-answerCall k t = record { printed = report k (t .number) (t .place); next = t .next }
+unfoldable pub answerStep : ℕ → Step → LineAnswer
+answerStep k t = record { printed = report k (t .number) (t .place); next = t .next }
 
 unfoldable pub malformed : List (List ℕ) → LineAnswer
 malformed l = record { printed = report 0 12 0; next = l }
@@ -47,6 +63,6 @@ malformed l = record { printed = report 0 12 0; next = l }
 unfoldable pub answer : Shape → List (List ℕ) → List ℕ → LineAnswer
 answer s l line =
     elim (isLaid (gridSize s) line) [
-      | true ↦ answerCall (commandIn line) (step s l (callIn (gridSize s) line))
+      | true ↦ answerStep (commandIn line) (commandStep s l (commandIn line) (cellsIn (gridSize s) line))
       | false ↦ malformed l
     ]

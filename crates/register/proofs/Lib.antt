@@ -1,4 +1,4 @@
 pub mod PlaceSteps
 pub mod AskSteps
 pub mod OpenSteps
-pub mod FitParts
+pub mod CountParts

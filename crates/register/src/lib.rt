@@ -1,8 +1,8 @@
-// The register's calls on lent bytes: open, enter, strike and fit, and a terminal's enter.
+// The register's calls on lent bytes: open, enter, strike and count, and a terminal's enter.
 pub mod answers;
 mod asking;
+pub mod counts;
 pub mod entering;
-pub mod fitting;
 pub mod opening;
 mod places;
 pub mod striking;

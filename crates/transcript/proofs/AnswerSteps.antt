@@ -1,31 +1,31 @@
 -- The command lines of an input, answered one after another.
 --
 --   Line x           ==  what is printed for a line on the machine's bytes and left of them is the answer x, and its set is again one reached by calls
---   line-malformed, line-called, line-answered  ==  so it is of a line that is not laid, of one that is, and of any
+--   line-answered    ==  so it is of every line
 --   Answering input out b o at n  ==  the lines before `at` are answered: b is the machine's register, and what was printed is written over the first n bytes of out, as o
 --   answering-none, answering-next, answering-all  ==  the loop's start, one turn, and its end
 --   answering-room, answering-size  ==  there is room for one more line; a grid has at most 128 cells
 --   answering-kept  ==  the register keeps its length
 use mathlib.Core.Path.{_≡_, refl, sym, ap, _∙_}
 use mathlib.Core.List.{List, [], _++_, append-assoc, append-nil}
-use mathlib.Core.Bool.{Bool, true, false}
 use Prim.Native.Nat.{ℕ, _+_, _-_, _*_, _≤_, _<_}
 use native.Mathlib.Omega.{arith}
 use lib.ListN.{length, take, drop, length-append, length-drop, drop-of-length-le}
 use lib.Seq.{take-at, drop-at, drop-drop}
 use borrow.Rule.Slice.PartMut.{midOf, putMid}
-use Rattle.layout.specs.Layout.{Shape, gridSize}
+use Rattle.layout.specs.Layout.{Shape}
 use Rattle.machine.specs.Calls.{Outcome}
-use Rattle.machine.specs.Machine.{shown, step, outcome}
-use Rattle.machine.proofs.MachineLaws.{Good, empty-good, step-good}
-use Rattle.machine.proofs.Demand3Laws.{call-same}
+use Rattle.machine.specs.Machine.{shown, outcome}
+use Rattle.machine.proofs.MachineLaws.{Good, empty-good}
 use Rattle.machine.proofs.ValidMoves.{tail-part, put-tail}
 use Rattle.lines.proofs.FillLaws.{Filled, fill-none}
 use Rattle.register.proofs.OpenSteps.{limits-size}
-use Rattle.protocol.specs.Input.{lines, furtherLines, commandIn, isLaid}
-use Rattle.protocol.specs.Commands.{callIn, report, LineAnswer, answerCall, malformed, answer}
+use Rattle.protocol.specs.Input.{lines, furtherLines}
+use Rattle.protocol.specs.Commands.{report, LineAnswer, answerStep, answer}
+use Rattle.protocol.specs.Readings.{readLine}
 use Rattle.protocol.specs.Transcript.{shapeIn, reports, setAfter}
-use Rattle.protocol.proofs.ReportLaws.{length-report, call-answer, malformed-answer}
+use Rattle.protocol.proofs.ReportLaws.{length-report}
+use Rattle.protocol.proofs.ReadingLaws.{step-of-good, answered-same, reading-answer}
 use Rattle.protocol.proofs.StartLaws.{start-pass}
 use Rattle.protocol.proofs.RunLaws.{length-shown}
 use Rattle.transcript.specs.declared.reports.Report.{Report}
@@ -35,36 +35,23 @@ use Rattle.transcript.proofs.StartSteps.{rest-lines}
 
 -- ---- one line
 
-module _ (s : Shape) (l : List (List ℕ)) (g : Good s l) (line : List ℕ) {b b′ : List ℕ} {r : Report} (e : b ≡ shown s l) (a : Answers (gridSize s) line b b′ r) where
+module _ (s : Shape) (l : List (List ℕ)) (g : Good s l) (line : List ℕ) {b b′ : List ℕ} {r : Report} (e : b ≡ shown s l) (a : Answers (s .rows) (s .columns) (s .top) line b b′ r) where
   -- the report's bytes, what is left of the register, and that the next set is good
   record Line (x : LineAnswer) : Type 0 where
     printed : report (r .command) (r .number) (r .place) ≡ x .printed
     left : b′ ≡ shown s (x .next)
     stays : Good s (x .next)
 
-  line-malformed : isLaid (gridSize s) line ≡ false → Line (malformed l)
-  unfolding malformed
-  line-malformed f =
-      let m = a .malformed f in
-      record { printed = rw (m .0, m .1, m .2) refl; left = m .3 ∙ e; stays = g }
-
-  line-called : isLaid (gridSize s) line ≡ true → Line (answerCall (commandIn line) (step s l (callIn (gridSize s) line)))
-  unfolding answerCall outcome
-  line-called t =
-      let c = callIn (gridSize s) line in
-      let d = rw e at (a .calls t) ∙ call-same s l g c in
-      record {
-        printed = rw (a .command-is t, ap (λ (o : Outcome). o .number) d, ap (λ (o : Outcome). o .place) d) refl;
-        left = ap (λ (o : Outcome). o .bytes) d;
-        stays = step-good s l g c;
-      }
-
   line-answered : Line (answer s l line)
-  line-answered = go (isLaid (gridSize s) line) refl
-    where
-      go : (t : Bool) → isLaid (gridSize s) line ≡ t → Line (answer s l line)
-      go true t = rw (call-answer s l line t) (line-called t)
-      go false t = rw (malformed-answer s l line t) (line-malformed t)
+  unfolding answerStep outcome
+  line-answered =
+      let d = rw e at (a .answers) ∙ answered-same s l g (readLine s line) in
+      rw (reading-answer s l g line)
+      (record {
+        printed = rw (a .command-is, ap (λ (o : Outcome). o .number) d, ap (λ (o : Outcome). o .place) d) refl;
+        left = ap (λ (o : Outcome). o .bytes) d;
+        stays = step-of-good s l g (readLine s line);
+      })
 
 -- ---- all lines
 
@@ -79,9 +66,9 @@ pub record Answering (input out b o : List ℕ) (at n : ℕ) : Type 0 where
   pub printed : reports (shapeIn input) [] (furtherLines input) ≡ text ++ reports (shapeIn input) set (lines (drop at input))
   pub after : setAfter (shapeIn input) [] (furtherLines input) ≡ setAfter (shapeIn input) set (lines (drop at input))
 
-module _ {input : List ℕ} {size : ℕ} {b₀ out : List ℕ} (k : Runs input size b₀ out) where
-  pub answering-size : size ≤ 128
-  answering-size = rw (k .sized) (limits-size (shapeIn input) (start-pass input .0 (k .passes) .limits))
+module _ {input : List ℕ} {rows columns top : ℕ} {b₀ out : List ℕ} (k : Runs input rows columns top b₀ out) where
+  pub answering-size : rows * columns ≤ 128
+  answering-size = rw (k .rows-are, k .columns-are) (limits-size (shapeIn input) (start-pass input .0 (k .passes) .limits))
 
   pub answering-none : Answering input out b₀ out 25 0
   answering-none =
@@ -119,15 +106,15 @@ module _ {input : List ℕ} {size : ℕ} {b₀ out : List ℕ} (k : Runs input s
           printed = t .written .bytes ∙ ap (λ (x : List ℕ). x ++ drop n out) (sym p);
         }
 
-    module _ (h : at < length input) {end : ℕ} (line : NextLine input at end) {b′ : List ℕ} {r : Report} (a : Answers size (take (end - at) (drop at input)) b b′ r) where
+    module _ (h : at < length input) {end : ℕ} (line : NextLine input at end) {b′ : List ℕ} {r : Report} (a : Answers rows columns top (take (end - at) (drop at input)) b b′ r) where
       abbrev said : List ℕ
       said = report (r .command) (r .number) (r .place)
 
       abbrev one : List ℕ
       one = take (end - at) (drop at input)
 
-      answered : Line (shapeIn input) (t .set) (t .good) one (t .register) (rw (k .sized) at a) (answer (shapeIn input) (t .set) one)
-      answered = line-answered (shapeIn input) (t .set) (t .good) one (t .register) (rw (k .sized) at a)
+      answered : Line (shapeIn input) (t .set) (t .good) one (t .register) (rw (k .rows-are, k .columns-are, k .top-is) at a) (answer (shapeIn input) (t .set) one)
+      answered = line-answered (shapeIn input) (t .set) (t .good) one (t .register) (rw (k .rows-are, k .columns-are, k .top-is) at a)
 
       pub answering-next : (ys : List ℕ) → ys ≡ report (r .command) (r .number) (r .place) ++ drop 19 (midOf n (length o - n) o) → Answering input out b′ (putMid n (length o - n) o ys) end (n + 19)
       unfolding reports setAfter

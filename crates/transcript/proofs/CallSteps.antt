@@ -1,73 +1,78 @@
--- The calls of commands.
+-- Command lines, from what the code finds to how they are read.
 --
---   enter-of, strike-of, fit-of  ==  which call a command is
---   fit-cells    ==  a fit has low and high of each cell
---   fit-parts    ==  the call fit of the bounds that cells hold in turn, once they are parted
---   answer-malformed, answer-called  ==  what a command line is answered: it is not laid, or its call is made
+--   enter-of, strike-of, bounds-of  ==  what is answered to each command
+--   bounds-cells  ==  command 3 has low and high of each cell
+--   parted-pruned  ==  prune on the bounds that the cells hold in turn
+--   pruned-no, pruned-counted  ==  its number is not 0; it is 0, and the entries in what it leaves are counted
+--   answer-malformed, answer-made  ==  what is answered to a command line that is not laid, and to one that is
 use mathlib.Core.Path.{_≡_, refl, sym, ap, ap₂, _∙_}
-use mathlib.Core.List.{List, _++_}
-use mathlib.Core.Bool.{true≢false}
-use Prim.Native.Nat.{ℕ, _-_, _*_, _≤_}
+use mathlib.Core.List.{List}
+use Prim.Native.Nat.{ℕ, zero, suc, _-_, _*_}
 use native.Mathlib.Omega.{arith}
-use lib.ListN.{length, take}
-use Rattle.permutations.proofs.ListLaws.{length-tabulate, part-is, part-length}
-use Rattle.machine.specs.CallLists.{enter, strike, fit, registerCalls, called}
-use Rattle.machine.specs.Calls.{placed}
+use lib.ListN.{take}
+use Rattle.bounds.specs.Prune.{Pruned, pruned}
+use Rattle.bounds.specs.Demand2.{Prunes}
+use Rattle.machine.specs.CallLists.{registerCalls, called}
+use Rattle.machine.specs.Calls.{entered, struck, counted, placed}
 use Rattle.protocol.specs.Input.{cellCount, cellsIn}
-use Rattle.protocol.specs.Commands.{lows, highs, callOf, callIn}
-use Rattle.transcript.specs.Commands.{ReadsCommand, Parts}
+use Rattle.protocol.specs.Commands.{lows, highs}
+use Rattle.protocol.specs.Readings.{readCommand, readBy, commandOf, answeredBy}
+use Rattle.protocol.proofs.ReadingLaws.{by-command, by-none, prune-says, prune-calls, command-of}
+use Rattle.transcript.specs.Commands.{ReadsCommand, Parts, PrunesParted}
 use Rattle.transcript.specs.Answers.{Answers}
 
-module _ (size : ℕ) {k : ℕ} (c : List ℕ) where
-  pub enter-of : k ≡ 1 → callOf size k c ≡ enter c
-  unfolding callOf
+module _ (m n top : ℕ) {k : ℕ} (b c : List ℕ) where
+  pub enter-of : k ≡ 1 → answeredBy registerCalls b (readCommand m n top k c) ≡ entered b c
+  unfolding readCommand answeredBy called registerCalls
   enter-of e = rw e refl
 
-  pub strike-of : k ≡ 2 → callOf size k c ≡ strike c
-  unfolding callOf
+  pub strike-of : k ≡ 2 → answeredBy registerCalls b (readCommand m n top k c) ≡ struck b c
+  unfolding readCommand answeredBy called registerCalls
   strike-of e = rw e refl
 
-  pub fit-of : k ≡ 3 → callOf size k c ≡ callOf size 3 c
-  fit-of e = rw e refl
+  pub bounds-of : k ≡ 3 → answeredBy registerCalls b (readCommand m n top k c) ≡ answeredBy registerCalls b (readCommand m n top 3 c)
+  bounds-of e = rw e refl
 
-pub fit-cells : (size : ℕ) {k n : ℕ} → k ≡ 3 → n ≡ cellCount size k → n ≡ 2 * size
+pub bounds-cells : (size : ℕ) {k n : ℕ} → k ≡ 3 → n ≡ cellCount size k → n ≡ 2 * size
 unfolding cellCount
-fit-cells size e h = h ∙ rw e refl
+bounds-cells size e h = h ∙ rw e refl
 
-module _ (size : ℕ) (c z ys zs : List ℕ) (room : size ≤ length z) (p : Parts c (length (take (size - 0) z)) ys zs) where
-  low-length : length ys ≡ size
-  unfolding lows
-  low-length = ap length (p .low-is) ∙ length-tabulate 0 _ _ ∙ part-length z size room
+-- ---- command 3
 
-  high-length : length zs ≡ size
-  unfolding highs
-  high-length = ap length (p .high-is) ∙ length-tabulate 0 _ _ ∙ part-length z size room
+pub parted-pruned : {m n top : ℕ} (c : List ℕ) {size : ℕ} {low high : List ℕ} {r : Pruned} → size ≡ m * n → Parts c size low high → Prunes m n top low high r → PrunesParted m n top c (r .number) (r .low) (r .high)
+parted-pruned {m} {n} {top} c e p q =
+    let d = q .determined ∙ ap₂ (pruned m n top) (p .low-is ∙ ap (λ (k : ℕ). lows k c) e) (p .high-is ∙ ap (λ (k : ℕ). highs k c) e) in
+    record { number-is = ap (λ (x : Pruned). x .number) d; low-is = ap (λ (x : Pruned). x .low) d; high-is = ap (λ (x : Pruned). x .high) d }
 
-  pub fit-parts : (rest rest′ : List ℕ) → fit (take (size - 0) (ys ++ rest)) (take (size - 0) (zs ++ rest′)) ≡ callOf size 3 c
-  unfolding callOf
-  fit-parts rest rest′ =
-      ap₂ fit (part-is ys rest size low-length ∙ p .low-is ∙ ap (λ (n : ℕ). lows n c) (part-length z size room)) (part-is zs rest′ size high-length ∙ p .high-is ∙ ap (λ (n : ℕ). highs n c) (part-length z size room))
+module _ (m n top : ℕ) (b c : List ℕ) {number : ℕ} {low high : List ℕ} (p : PrunesParted m n top c number low high) where
+  abbrev left : Pruned
+  left = pruned m n top (lows (m * n) c) (highs (m * n) c)
+
+  pub pruned-no : (number ≡ 0 → ⊥) → placed number 0 b ≡ answeredBy registerCalls b (readCommand m n top 3 c)
+  unfolding readCommand answeredBy
+  pruned-no h = go number refl
+    where
+      go : (j : ℕ) → number ≡ j → placed number 0 b ≡ answeredBy registerCalls b (readCommand m n top 3 c)
+      go zero z = absurd (h z)
+      go (suc j) z = ap (λ (x : ℕ). placed x 0 b) z ∙ sym (rw (prune-says 3 j left (sym (p .number-is) ∙ z)) refl)
+
+  pub pruned-counted : number ≡ 0 → {x y : List ℕ} → x ≡ low → y ≡ high → {k q : ℕ} → placed k q b ≡ counted b x y → placed k q b ≡ answeredBy registerCalls b (readCommand m n top 3 c)
+  unfolding readCommand answeredBy called registerCalls
+  pruned-counted z d e o = o ∙ ap₂ (counted b) (d ∙ p .low-is) (e ∙ p .high-is) ∙ sym (rw (prune-calls 3 left (sym (p .number-is) ∙ z)) refl)
 
 -- ---- a command line
 
-module _ {size : ℕ} {line cells : List ℕ} {k : ℕ} (r : ReadsCommand size line cells k) (b : List ℕ) where
-  pub answer-malformed : k ≡ 0 → Answers size line b b (record { command = 0; number = 12; place = 0 })
-  answer-malformed e = record {
-    malformed = λ f. (refl, refl, refl, refl);
-    command-is = λ t. absurd (true≢false (sym t ∙ r .malformed e));
-    calls = λ t. absurd (true≢false (sym t ∙ r .malformed e));
-  }
+module _ (m n top : ℕ) {line cells : List ℕ} {k : ℕ} (r : ReadsCommand (m * n) line cells k) (b : List ℕ) where
+  pub answer-malformed : k ≡ 0 → Answers m n top line b b (record { command = 0; number = 12; place = 0 })
+  unfolding commandOf answeredBy
+  answer-malformed e = let q = by-none m n top line (r .malformed e) in record { command-is = sym (rw q refl); answers = sym (rw q refl) }
 
-  pub answer-called : (k ≡ 0 → ⊥) → {n : ℕ} → n ≡ cellCount size k → {b′ : List ℕ} {number place : ℕ} → placed number place b′ ≡ called registerCalls b (callOf size k (take (n - 0) cells)) →
-      Answers size line b b′ (record { command = k; number = number; place = place })
-  unfolding callIn
-  answer-called h {n} e d = record {
-    malformed = λ f. absurd (true≢false (sym (r .laid h) ∙ f));
-    command-is = λ t. r .command-is h;
-    calls = λ t. d ∙ ap (called registerCalls b) (ap (callOf size k) read ∙ ap (λ (j : ℕ). callOf size j (cellsIn size line)) (r .command-is h));
-  }
+  pub answer-made : (k ≡ 0 → ⊥) → {j : ℕ} → j ≡ cellCount (m * n) k → {b′ : List ℕ} {number place : ℕ} →
+      placed number place b′ ≡ answeredBy registerCalls b (readCommand m n top k (take (j - 0) cells)) → Answers m n top line b b′ (record { command = k; number = number; place = place })
+  answer-made h {j} e d = record { command-is = sym (ap commandOf read ∙ command-of m n top k (take (j - 0) cells)); answers = d ∙ sym (ap (answeredBy registerCalls b) read) }
     where
-      read : take (n - 0) cells ≡ cellsIn size line
-      read =
-          let z : n - 0 ≡ cellCount size k = omega arith in
-          rw z (r .cells-are h)
+      cells-are : take (j - 0) cells ≡ cellsIn (m * n) line
+      cells-are = let z : j - 0 ≡ cellCount (m * n) k = omega arith in rw z (r .cells-are h)
+
+      read : readBy m n top line ≡ readCommand m n top k (take (j - 0) cells)
+      read = by-command m n top line (r .laid h) ∙ ap₂ (readCommand m n top) (sym (r .command-is h)) (sym cells-are)

@@ -1,6 +1,6 @@
 -- A whole run, from what the code finds to what planbook prints.
 --
---   ready-limits, ready-size  ==  the numbers of line 1 are within the limits, and a grid has at most 128 cells
+--   ready-limits     ==  the numbers of line 1 are within the limits
 --   ready-runs       ==  the register is opened, and the command lines can be answered
 --   ran-small, ran-room  ==  the register fits behind what was printed for them
 --   ran              ==  with the register copied there, the output slice begins with what planbook prints
@@ -11,19 +11,18 @@
 use mathlib.Core.Path.{_≡_, refl, sym, ap, _∙_}
 use mathlib.Core.List.{List, [], _++_, append-assoc}
 use mathlib.Core.Bool.{false}
-use Prim.Native.Nat.{ℕ, zero, suc, _+_, _-_, _*_, _≤_, _<_}
+use Prim.Native.Nat.{ℕ, zero, suc, _+_, _-_, _≤_, _<_}
 use native.Mathlib.Omega.{arith}
 use lib.ListN.{length, take, drop, length-append, length-drop}
 use lib.Seq.{take-at, drop-at, take-length, drop-drop}
 use borrow.Author.Tests.{le-leb, lt-leb}
 use borrow.Rule.Slice.PartMut.{midOf, putMid}
 use Rattle.permutations.proofs.ListLaws.{part-length}
-use Rattle.layout.specs.Layout.{Shape, gridSize, layoutLength, InLimits}
+use Rattle.layout.specs.Layout.{Shape, layoutLength, InLimits}
 use Rattle.machine.specs.Calls.{Outcome, opened, placed, shape}
 use Rattle.machine.specs.Machine.{shown}
 use Rattle.machine.proofs.Demand3Laws.{open-answers}
 use Rattle.machine.proofs.ValidMoves.{tail-part, put-tail}
-use Rattle.register.proofs.OpenSteps.{limits-size}
 use Rattle.protocol.specs.Input.{furtherLines}
 use Rattle.protocol.specs.Commands.{report}
 use Rattle.protocol.specs.Transcript.{byteLimit, shapeIn, startNo, reports, printedRegister, transcript}
@@ -43,13 +42,12 @@ module _ {input : List ℕ} {start : Start} {b out : List ℕ} (k : Ready input 
   pub ready-limits : InLimits (shape (start .rows) (start .columns) (start .top) (start .capacity))
   ready-limits = rw (k .shape-is) (start-pass input .0 (k .passes) .limits)
 
-  pub ready-size : start .rows * start .columns ≤ 128
-  ready-size = limits-size _ ready-limits
-
-  pub ready-runs : {number place : ℕ} {b′ : List ℕ} → placed number place b′ ≡ opened (shape (start .rows) (start .columns) (start .top) (start .capacity)) b → Runs input (start .rows * start .columns) b′ out
+  pub ready-runs : {number place : ℕ} {b′ : List ℕ} → placed number place b′ ≡ opened (shape (start .rows) (start .columns) (start .top) (start .capacity)) b → Runs input (start .rows) (start .columns) (start .top) b′ out
   ready-runs e = record {
     passes = k .passes;
-    sized = ap gridSize (k .shape-is);
+    rows-are = ap (λ (s : Shape). s .rows) (k .shape-is);
+    columns-are = ap (λ (s : Shape). s .columns) (k .shape-is);
+    top-is = ap (λ (s : Shape). s .top) (k .shape-is);
     opened = ap (λ (o : Outcome). o .bytes) (e ∙ open-answers _ b ready-limits (k .sized ∙ ap layoutLength (sym (k .shape-is)))) ∙ ap (λ (s : Shape). shown s []) (k .shape-is);
     room = k .room;
   }

@@ -2,11 +2,13 @@
 --
 --   ReadsCommand size line cells r  ==  r is the command of a line that is laid as it should be, and its cells are in front; 0 for another line
 --   Parts c size low high  ==  the bounds that the cells c hold in turn
+--   PrunesParted m n top c number low high  ==  what prune answers and leaves of these bounds
 use mathlib.Core.Path.{_≡_}
 use mathlib.Core.List.{List}
 use mathlib.Core.Bool.{true, false}
-use Prim.Native.Nat.{ℕ, _≤_}
+use Prim.Native.Nat.{ℕ, _*_, _≤_}
 use lib.ListN.{length, take}
+use Rattle.bounds.specs.Prune.{pruned}
 use Rattle.protocol.specs.Input.{cellCount, commandIn, cellsIn, isLaid}
 use Rattle.protocol.specs.Commands.{lows, highs}
 
@@ -21,3 +23,8 @@ pub record ReadsCommand (size : ℕ) (line cells : List ℕ) (r : ℕ) : Type 0 
 pub record Parts (c : List ℕ) (size : ℕ) (low high : List ℕ) : Type 0 where
   pub low-is : low ≡ lows size c
   pub high-is : high ≡ highs size c
+
+pub record PrunesParted (m n top : ℕ) (c : List ℕ) (number : ℕ) (low high : List ℕ) : Type 0 where
+  pub number-is : number ≡ pruned m n top (lows (m * n) c) (highs (m * n) c) .number
+  pub low-is : low ≡ pruned m n top (lows (m * n) c) (highs (m * n) c) .low
+  pub high-is : high ≡ pruned m n top (lows (m * n) c) (highs (m * n) c) .high

@@ -1,18 +1,19 @@
 // Command lines.
 use crate::fields;
+use bounds::prune;
 use lines::numbers;
 use register::answers::Placed;
+use register::counts;
 use register::entering;
-use register::fitting;
 use register::striking;
 ghost use mathlib.Core.Path.{_≡_};
 ghost use Prim.Native.Nat.{_*_, _≤_};
 ghost use lib.ListN.{length};
-ghost use Rattle.machine.specs.CallLists.{registerCalls, called};
+ghost use Rattle.machine.specs.CallLists.{registerCalls};
 ghost use Rattle.machine.specs.Calls.{placed};
 ghost use Rattle.protocol.specs.Input.{cellCount};
-ghost use Rattle.protocol.specs.Commands.{callOf};
-ghost use Rattle.transcript.specs.Commands.{ReadsCommand, Parts};
+ghost use Rattle.protocol.specs.Readings.{readCommand, answeredBy};
+ghost use Rattle.transcript.specs.Commands.{ReadsCommand, Parts, PrunesParted};
 
 // How many cells a command has, of grids with so many.
 pub fn cell_count(size: usize, command: usize) -> usize
@@ -70,25 +71,53 @@ fn part(cells: &[u8], low: &mut [u8], high: &mut [u8])
     }
 }
 
-// Makes the call fit of cells that hold low and high in turn; its count stands in the place of a place.
-fn fit_parted(register: &[u8], size: usize, cells: &[u8]) -> Placed
-    requires { ⌜ (size ≤ 128) × (length (now cells) ≡ 2 * size) ⌝ }
-    ensures { λ r. ⌜ placed (r .number) (r .place) (now (register .entry)) ≡ called registerCalls (now (register .entry)) (callOf size 3 (now (cells .entry))) ⌝ }
+// Parts cells that hold low and high in turn, and prunes these bounds. Returns prune's number.
+fn prune_parted(
+    m: usize,
+    n: usize,
+    top: usize,
+    cells: &[u8],
+    low: &mut [u8],
+    high: &mut [u8],
+) -> u32
+    requires { ⌜ (length (now low) ≤ 128) × (length (now low) ≡ m * n) × (length (now high) ≡ length (now low)) × (length (now cells) ≡ 2 * length (now low)) ⌝ }
+    ensures { λ r. ⌜ PrunesParted m n top (now (cells .entry)) r (now (low .exit)) (now (high .exit)) ⌝ }
 {
+    part(cells, low, high);
+    prune::prune(m, n, top, low, high).number
+}
+
+// Command 3: prunes the bounds that cells hold in turn, and where prune's number is 0 counts the entries within what it leaves; the
+// count stands in the place of a place.
+fn count_pruned(register: &[u8], m: usize, n: usize, top: usize, cells: &[u8]) -> Placed
+    requires { ⌜ (m * n ≤ 128) × (length (now cells) ≡ 2 * (m * n)) ⌝ }
+    ensures { λ r. ⌜ placed (r .number) (r .place) (now (register .entry)) ≡ answeredBy registerCalls (now (register .entry)) (readCommand m n top 3 (now (cells .entry))) ⌝ }
+{
+    let size = m * n;
     let mut low = [0u8; 128];
     let mut high = [0u8; 128];
-    part(cells, &mut low[0..size], &mut high[0..size]);
-    let found = fitting::fit(register, &low[0..size], &high[0..size]);
+    let number = prune_parted(m, n, top, cells, &mut low[0..size], &mut high[0..size]);
+    if number != 0 {
+        return Placed { number, place: 0 };
+    }
+    let found = counts::count(register, &low[0..size], &high[0..size]);
     Placed {
         number: found.number,
         place: found.count,
     }
 }
 
-// Makes the call of a command with its cells.
-pub fn make_call(register: &mut [u8], size: usize, command: usize, cells: &[u8]) -> Placed
-    requires { ⌜ (size ≤ 128) × (1 ≤ command) × (command ≤ 3) × (length (now cells) ≡ cellCount size command) ⌝ }
-    ensures { λ r. ⌜ placed (r .number) (r .place) (now (register .exit)) ≡ called registerCalls (now (register .entry)) (callOf size command (now (cells .entry))) ⌝ }
+// Answers a command with its cells, on a register of m rows, n columns and this top.
+pub fn make_call(
+    register: &mut [u8],
+    m: usize,
+    n: usize,
+    top: usize,
+    command: usize,
+    cells: &[u8],
+) -> Placed
+    requires { ⌜ (m * n ≤ 128) × (1 ≤ command) × (command ≤ 3) × (length (now cells) ≡ cellCount (m * n) command) ⌝ }
+    ensures { λ r. ⌜ placed (r .number) (r .place) (now (register .exit)) ≡ answeredBy registerCalls (now (register .entry)) (readCommand m n top command (now (cells .entry))) ⌝ }
 {
     if command == 1 {
         return entering::enter(register, cells);
@@ -96,5 +125,5 @@ pub fn make_call(register: &mut [u8], size: usize, command: usize, cells: &[u8])
     if command == 2 {
         return striking::strike(register, cells);
     }
-    fit_parted(register, size, cells)
+    count_pruned(register, m, n, top, cells)
 }

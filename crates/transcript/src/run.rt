@@ -22,7 +22,7 @@ fn run(input: &[u8], start: Start, register: &mut [u8], out: &mut [u8]) -> usize
         start.capacity,
         register,
     );
-    let printed = answers::answer_lines(input, start.rows * start.columns, register, out);
+    let printed = answers::answer_lines(input, start.rows, start.columns, start.top, register, out);
     bytes::copy(register, &mut out[printed..]);
     printed + register.len()
 }

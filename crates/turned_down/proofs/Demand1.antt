@@ -11,13 +11,13 @@ use lib.Dec.{eqb}
 use borrow.Author.Tests.{eqb-true}
 use Rattle.grids.specs.Order.{equal}
 use Rattle.machine.specs.Calls.{Outcome}
-use Rattle.machine.specs.CallLists.{enter, fit, called, accepted}
+use Rattle.machine.specs.CallLists.{enter, countIn, called, accepted}
 use Rattle.machine.specs.Machine.{shown}
 use Rattle.machine.specs.Demand1.{Demand1}
-use Rattle.turned_down.specs.RegisterFaults.{OpensNothing, EntersNothing, GrowsSlice, OpenGrowsSlice, FitWrites, HeldWrites, OpenWritesRefusing, OpensCapacity0, AsksCellsFirst, AsksRegisterLast, TrustsBytes}
+use Rattle.turned_down.specs.RegisterFaults.{OpensNothing, EntersNothing, GrowsSlice, OpenGrowsSlice, CountWrites, HeldWrites, OpenWritesRefusing, OpensCapacity0, AsksCellsFirst, AsksRegisterLast, TrustsBytes}
 use Rattle.turned_down.specs.TurnedDown.{fault, Turned}
 use Rattle.turned_down.proofs.Differences.{unequal}
-use Rattle.turned_down.proofs.RegisterCases.{cell, zero, one, rowless, roomless, computed, limits, plain, entering, opening-by}
+use Rattle.turned_down.proofs.RegisterCases.{cell, zero, one, rowless, roomless, computed, limits, plain, entering, opening-by, counting}
 
 pub refuses-opens : Turned (fault Demand1 OpensNothing)
 unfolding OpensNothing
@@ -51,12 +51,12 @@ open-grows-slice = record {
   refused = λ i f d. let e = f cell [] in let z = d .open-length cell [] in omega arith;
 }
 
-pub fit-writes : Turned (fault Demand1 FitWrites)
-unfolding FitWrites called equal
-fit-writes = record {
-  example = record { opens = plain 0 0 .opens; enters = plain 0 0 .enters; strikes = plain 0 0 .strikes; fits = λ b low high. record { number = 0; place = 0; bytes = [] }; terminalEnters = plain 0 0 .terminalEnters };
+pub count-writes : Turned (fault Demand1 CountWrites)
+unfolding CountWrites called equal
+count-writes = record {
+  example = counting (λ b low high. record { number = 0; place = 0; bytes = [] });
   done = λ x b low high. unequal [] (x ∷ b) refl;
-  refused = λ i f d. f 0 [] zero one (d .fit-unchanged (0 ∷ []) zero one);
+  refused = λ i f d. f 0 [] zero one (d .count-unchanged (0 ∷ []) zero one);
 }
 
 pub held-writes : Turned (fault Demand1 HeldWrites)
@@ -107,7 +107,7 @@ asks-register-last = record {
   done = λ b low high h. refl;
   refused = λ i f d.
       let z = f [] zero zero (computed .length-differs) in
-      let e = ap (λ (x : Outcome). x .number) (d .refuses [] (fit zero zero) 4 (computed .register-asked)) in
+      let e = ap (λ (x : Outcome). x .number) (d .refuses [] (countIn zero zero) 4 (computed .register-asked)) in
       omega arith;
 }
 

@@ -1,7 +1,7 @@
 -- Faulty programs for the register do not meet demand 3. Between them they need every sentence of it.
 --
 --   The names are those of the faults.
-use mathlib.Core.Path.{_≡_, refl, sym, ap, _∙_}
+use mathlib.Core.Path.{_≡_, refl, sym, ap, subst, _∙_}
 use mathlib.Core.List.{List, [], _∷_}
 use mathlib.Core.Bool.{true, true≢false, not}
 use Prim.Native.Nat.{ℕ, suc, _≤_}
@@ -12,16 +12,16 @@ use Rattle.permutations.specs.Lists.{every, some}
 use Rattle.permutations.proofs.BoolLaws.{and-yes}
 use Rattle.layout.specs.Layout.{count}
 use Rattle.machine.specs.Calls.{Outcome, leastIn, holds}
-use Rattle.machine.specs.CallLists.{enter, strike, called, run, left, accepted}
-use Rattle.machine.specs.Machine.{shown}
+use Rattle.machine.specs.CallLists.{enter, strike, countIn, called, run, left, accepted}
+use Rattle.machine.specs.Machine.{shown, outcome}
 use Rattle.machine.specs.Demand3.{liveAfter, live, Demand3}
 use Rattle.machine.proofs.LiveLaws.{live-machine}
-use Rattle.machine.proofs.LiveLists.{counts-live, fits-live}
-use Rattle.machine.proofs.FollowLaws.{after-open, follows-open, lists-after}
-use Rattle.turned_down.specs.RegisterFaults.{StoresFirst, FullUnlooked, NotHeldUnlooked, InventsCount, InventsFit, lastEntry, LeavesLastLine, AppendsEntries, PlacesFromZero, InsertsLate, OpensNothing, EntersNothing, OpensAnySlice, RefusesOwnBytes}
+use Rattle.machine.proofs.LiveLists.{counts-live, sent-live, pruned-live}
+use Rattle.machine.proofs.FollowLaws.{Follows, after-open, follows-open, follows-call, follows-next, lists-after}
+use Rattle.turned_down.specs.RegisterFaults.{StoresFirst, FullUnlooked, NotHeldUnlooked, InventsCount, InventsCounts, LeavesOutHighs, AnswersNone, CountsArrangements, lastEntry, LeavesLastLine, AppendsEntries, PlacesFromZero, InsertsLate, OpensNothing, EntersNothing, OpensAnySlice, RefusesOwnBytes}
 use Rattle.turned_down.specs.TurnedDown.{fault, Turned}
 use Rattle.turned_down.proofs.Differences.{unequal}
-use Rattle.turned_down.proofs.RegisterCases.{cell, zero, one, computed, limits, slice, opening, first-enter, second-enter, held-enter, lower-enter, first-strike, none-fit, zero-fit, number-is, place-is, bytes-are, plain, entering}
+use Rattle.turned_down.proofs.RegisterCases.{cell, zero, one, column, column-low, computed, limits, column-limits, slice, opening, first-enter, second-enter, held-enter, lower-enter, first-strike, none-count, zero-count, number-is, place-is, bytes-are, plain, entering}
 use Rattle.turned_down.proofs.LateEntry.{enteredLate, late-line}
 
 pub stores-first : Turned (fault Demand3 StoresFirst)
@@ -75,19 +75,58 @@ invents-count = record {
       omega arith;
 }
 
-pub invents-fit : Turned (fault Demand3 InventsFit)
-unfolding InventsFit left called accepted
-invents-fit = record {
+pub invents-counts : Turned (fault Demand3 InventsCounts)
+unfolding InventsCounts left called accepted
+invents-counts = record {
   example = plain 0 3;
   done = λ b b′ low high z z′. refl;
   refused = λ i f d.
       let b = shown cell [] in
       let calls = enter zero ∷ [] in
-      let later : i .fits (i .enters b zero .bytes) zero one .number ≡ 0 = rw (bytes-are _ _ (first-enter i d)) (number-is _ _ (zero-fit i d)) in
-      let none = fits-live i cell b [] (after-open i d cell limits []) _ (lists-after i d cell limits []) zero one (ap accepted (number-is _ _ (none-fit i d))) ∙ computed .none-inside in
-      let first = fits-live i cell b calls (after-open i d cell limits calls) _ (lists-after i d cell limits calls) zero one (ap accepted later) ∙ computed .first-inside in
-      let same = f b (i .enters b zero .bytes) zero one (number-is _ _ (none-fit i d)) later in
+      let later : i .counts (i .enters b zero .bytes) zero one .number ≡ 0 = rw (bytes-are _ _ (first-enter i d)) (number-is _ _ (zero-count i d)) in
+      let none = sent-live i cell b [] (after-open i d cell limits []) _ (lists-after i d cell limits []) zero one (ap accepted (number-is _ _ (none-count i d))) ∙ computed .none-inside in
+      let first = sent-live i cell b calls (after-open i d cell limits calls) _ (lists-after i d cell limits calls) zero one (ap accepted later) ∙ computed .first-inside in
+      let same = f b (i .enters b zero .bytes) zero one (number-is _ _ (none-count i d)) later in
       omega arith;
+}
+
+pub leaves-out-highs : Turned (fault Demand3 LeavesOutHighs)
+unfolding LeavesOutHighs left called
+leaves-out-highs = record {
+  example = plain 0 0;
+  done = λ b bounds. refl;
+  refused = λ i f d.
+      let b = shown cell [] in
+      let calls = enter zero ∷ [] in
+      let first = pruned-live i cell b calls (after-open i d cell limits calls) _ (lists-after i d cell limits calls) zero zero (computed .zero-prunes) ∙ computed .zero-inside in
+      let one-counted : i .counts (i .enters b zero .bytes) zero zero .place ≡ 1 = rw (computed .zero-low, computed .zero-high) at first in
+      let none = f (i .enters b zero .bytes) zero in
+      omega arith;
+}
+
+pub answers-none : Turned (fault Demand3 AnswersNone)
+unfolding AnswersNone run called every
+answers-none = record {
+  example = plain 102 0;
+  done = λ b low high z. refl;
+  refused = λ i f d.
+      let b = shown column [] in
+      let never = and-yes (not (eqb (i .counts b column-low column-low .number) 102)) true (after-open i d column column-limits (countIn column-low column-low ∷ []) .never-none) .0 in
+      true≢false (sym never ∙ ap (λ (k : ℕ). not (eqb k 102)) (f b column-low column-low (computed .none-prunes)));
+}
+
+pub counts-arrangements : Turned (fault Demand3 CountsArrangements)
+unfolding CountsArrangements called outcome
+counts-arrangements = record {
+  example = plain 0 1;
+  done = λ b g r h e. omega arith;
+  refused = λ i f d.
+      let l : List (List ℕ) = (0 ∷ 1 ∷ []) ∷ [] in
+      let next = follows-next i column [] (follows-open i d column column-limits) (enter (0 ∷ 1 ∷ [])) in
+      let after : Follows i column l = subst (Follows i column) (computed .column-entered) next in
+      let none = ap (λ (x : Outcome). x .place) (follows-call i column l after (countIn column-low column-low)) in
+      let some = f (shown column l) column-low (0 ∷ 1 ∷ []) (computed .column-holds) (computed .column-class) in
+      omega (arith, computed .column-none);
 }
 
 pub leaves-last-line : Turned (fault Demand3 LeavesLastLine)

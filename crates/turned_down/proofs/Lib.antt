@@ -9,7 +9,7 @@ pub mod RegisterCases
 pub mod LateEntry
 pub mod Demand3
 pub mod Demand1
-pub mod Fit
+pub mod Count
 pub mod Terminals
 pub mod Planbook
 pub mod TurnedDown

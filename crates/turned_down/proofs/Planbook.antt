@@ -5,38 +5,48 @@
 --   blank                 ==  the same input with an empty line
 --   aboveLine, above      ==  a line that enters a cell above top, and that input with it
 --   unendedLine, unended  ==  a line that lacks only its line feed, and that input with it
+--   emptyLine, empty      ==  a line whose bounds, 1 over 0, hold no grid with allperm, and an input of it for a shape of two cells
 --   long                  ==  an input of 65,537 bytes
 --   Computed, computed    ==  what the definitions give
 --   lentRegister, lentOut ==  slices that are large enough
 --   length-lent-register, length-out, roomy  ==  their lengths, and that they are
 --   long-no, long-printed ==  it gets 11, and its line is all that is printed
+--   noneCounted, none-counted  ==  a program that prints 0 and a count of 0 under command 3, and that it has the fault
+--   counts-refused-calls  ==  that fault by demand 3 of planbook
 --   The other names are those of the faults.
 use mathlib.Core.Path.{_≡_, refl, sym, ap, _∙_}
-use mathlib.Core.List.{List, [], _∷_, _++_, flatten}
+use mathlib.Core.List.{List, [], _∷_, _++_, flatten, flatMap}
 use mathlib.Core.Bool.{true, false, true≢false}
 use Prim.Native.Nat.{ℕ}
 use native.Mathlib.Omega.{arith}
 use lib.ListN.{length, take, drop, replicate, length-replicate, length-drop}
-use Rattle.permutations.specs.Lists.{tabulate, every}
-use Rattle.grids.specs.Order.{equal}
-use Rattle.grids.specs.Grids.{capped}
+use Rattle.permutations.specs.Lists.{tabulate, numbers, select, every, some, occurrences}
+use Rattle.permutations.specs.Permutations.{isPermutation, words, permutations}
+use Rattle.grids.specs.Order.{rank, leq, equal}
+use Rattle.grids.specs.Grids.{capped, row, permutedRow}
 use Rattle.grids.specs.Questions.{firstNo, inRange, question1, question2, question3, question6, question7}
+use Rattle.bounds.specs.Bounds.{ranksWithin, between, fillings, gridsWithin}
+use Rattle.bounds.specs.Kept.{obeyed}
+use Rattle.bounds.specs.Allperm.{allperm}
+use Rattle.bounds.specs.Prune.{question8, boundsQuestions, prunedYes, pruned}
 use Rattle.layout.specs.Decimal.{lead, field, digit, valueFrom, value}
 use Rattle.layout.specs.Layout.{Shape, fields, entryWidth, lineLength, headLine, layout, layoutLength, numberAt, decodeShape, laidOut, cellsOf}
 use Rattle.machine.specs.Calls.{question4, gridQuestions}
 use Rattle.machine.specs.CallLists.{accepted}
 use Rattle.machine.specs.Machine.{shown, stepUnless, step}
 use Rattle.protocol.specs.Input.{onto, lines, firstLine, furtherLines, shapeLine, commandLine, cellCount, commandIn, cellsIn, isLaid}
-use Rattle.protocol.specs.Commands.{callOf, callIn, report, answerCall, malformed, answer}
+use Rattle.protocol.specs.Commands.{lows, highs, countOf, boundsStep, commandStep, report, answerStep, malformed, answer}
 use Rattle.protocol.specs.Transcript.{shapeIn, question11, question12, question13, startQuestions, startNo, reports, setAfter, registerFrom, printedFrom, transcript}
-use Rattle.protocol.specs.Programs.{Prints, Transcribed, hasRoom, transcribed, MeetsTranscribe}
+use Rattle.protocol.specs.Programs.{Printing, Prints, Transcribed, hasRoom, transcribed, MeetsTranscribe}
+use Rattle.protocol.specs.Demand3.{PrintsDemand3}
 use Rattle.protocol.proofs.StartLaws.{over-limit}
 use Rattle.protocol.proofs.RunLaws.{start-refused}
 use Rattle.protocol.proofs.SliceLaws.{has-room, transcribed-rest}
-use Rattle.turned_down.specs.PlanbookFaults.{laidIn, cellsOn, firstStep, GoesOnAfter13, PrintsRegisterAfter11, EndsAtMalformed, PrintsUnderZero, MalformedReaches, RefusesCellsAsMalformed, AsksLengthFirst, SilentWithoutCommands, TakesUnended, CountsWithoutRoom, ClearsRest}
+use Rattle.protocol.proofs.Demand3Laws.{demand3-prints}
+use Rattle.turned_down.specs.PlanbookFaults.{laidIn, cellsOn, firstStep, prunedOn, GoesOnAfter13, PrintsRegisterAfter11, EndsAtMalformed, PrintsUnderZero, MalformedReaches, RefusesCellsAsMalformed, AsksLengthFirst, SilentWithoutCommands, TakesUnended, CountsRefusedBounds, CountsWithoutRoom, ClearsRest}
 use Rattle.turned_down.specs.TurnedDown.{fault, Turned}
 use Rattle.turned_down.proofs.Differences.{unequal}
-use Rattle.turned_down.proofs.RegisterCases.{cell}
+use Rattle.turned_down.proofs.RegisterCases.{cell, column}
 use Rattle.turned_down.proofs.RegisterCases as cases
 
 abbrev large : Shape
@@ -63,6 +73,12 @@ unendedLine = field 6 1 ++ field 3 0
 abbrev unended : List ℕ
 unended = bare ++ unendedLine
 
+abbrev emptyLine : List ℕ
+emptyLine = commandLine 3 (1 ∷ 1 ∷ 0 ∷ 0 ∷ [])
+
+abbrev empty : List ℕ
+empty = shapeLine column ++ emptyLine
+
 long : List ℕ
 long = replicate 65537 32
 
@@ -86,6 +102,7 @@ record Computed : Type 0 where
   above-lines : furtherLines above ≡ aboveLine ∷ []
   above-laid : laidIn above aboveLine ≡ true
   above-refused : accepted (firstStep above aboveLine .number) ≡ false
+  above-number : firstStep above aboveLine .number ≡ 7
   above-top : capped (shapeIn above .top) (cellsOn above aboveLine) ≡ false
   above-command : equal (field 6 0) (take 6 (transcript above)) ≡ false
   above-printed : equal (report 0 12 0) (take 19 (transcript above)) ≡ false
@@ -94,9 +111,15 @@ record Computed : Type 0 where
   unended-unlaid : laidIn unended unendedLine ≡ false
   unended-laid : laidIn unended (unendedLine ++ (10 ∷ [])) ≡ true
   unended-printed : take 19 (transcript unended) ≡ report 0 12 0
+  empty-no : startNo empty ≡ 0
+  empty-lines : furtherLines empty ≡ emptyLine ∷ []
+  empty-laid : laidIn empty emptyLine ≡ true
+  empty-command : commandIn emptyLine ≡ 3
+  empty-pruned : prunedOn empty emptyLine .number ≡ 102
+  empty-printed : equal (fields 6 (3 ∷ 0 ∷ [])) (take 12 (take 19 (transcript empty))) ≡ false
 
 computed : Computed
-unfolding tabulate every flatten equal capped firstNo inRange question1 question2 question3 question6 question7 lead field digit valueFrom value fields entryWidth lineLength headLine layout layoutLength numberAt decodeShape cellsOf question4 gridQuestions accepted shown stepUnless step onto lines firstLine furtherLines shapeLine commandLine cellCount commandIn cellsIn isLaid callOf callIn report answerCall malformed answer shapeIn question11 question12 question13 startQuestions startNo reports setAfter registerFrom printedFrom transcript
+unfolding tabulate numbers select every some occurrences flatten flatMap isPermutation words permutations rank leq equal capped row permutedRow firstNo inRange question1 question2 question3 question6 question7 ranksWithin between fillings gridsWithin obeyed allperm question8 boundsQuestions prunedYes pruned lead field digit valueFrom value fields entryWidth lineLength headLine layout layoutLength numberAt decodeShape cellsOf question4 gridQuestions accepted shown stepUnless step onto lines firstLine furtherLines shapeLine commandLine cellCount commandIn cellsIn isLaid lows highs countOf boundsStep commandStep report answerStep malformed answer shapeIn question11 question12 question13 startQuestions startNo reports setAfter registerFrom printedFrom transcript
 computed = record {
   none-printed = refl;
   large-no = refl;
@@ -117,6 +140,7 @@ computed = record {
   above-lines = refl;
   above-laid = refl;
   above-refused = refl;
+  above-number = refl;
   above-top = refl;
   above-command = refl;
   above-printed = refl;
@@ -125,6 +149,12 @@ computed = record {
   unended-unlaid = refl;
   unended-laid = refl;
   unended-printed = refl;
+  empty-no = refl;
+  empty-lines = refl;
+  empty-laid = refl;
+  empty-command = refl;
+  empty-pruned = refl;
+  empty-printed = refl;
 }
 
 -- ---- 13 and 11
@@ -173,9 +203,9 @@ pub prints-under-zero : Turned (fault Prints PrintsUnderZero)
 unfolding Prints PrintsUnderZero field lead
 prints-under-zero = record {
   example = λ input. field 6 0;
-  done = λ input l ls z e h r. refl;
+  done = λ input l ls z e h r n. refl;
   refused = λ p f d.
-      let e = f above _ _ (computed .above-no) (computed .above-lines) (computed .above-laid) (computed .above-refused) in
+      let e = f above _ _ (computed .above-no) (computed .above-lines) (computed .above-laid) (computed .above-refused) (λ z. omega (arith, computed .above-number)) in
       unequal _ _ (computed .above-command) (sym e ∙ ap (take 6) (d above));
 }
 
@@ -225,6 +255,32 @@ takes-unended = record {
   done = λ input l z e u h. unequal [] (report 0 12 0) refl;
   refused = λ p f d.
       f unended _ (computed .unended-no) (computed .unended-lines) (computed .unended-unlaid) (computed .unended-laid) (ap (take 19) (d unended) ∙ computed .unended-printed);
+}
+
+-- ---- command 3
+
+abbrev noneCounted : Printing
+noneCounted input = report 3 0 0
+
+none-counted : CountsRefusedBounds noneCounted
+unfolding CountsRefusedBounds report fields field lead flatten
+none-counted input l ls z e h k n = (0, refl)
+
+pub counts-refused-bounds : Turned (fault Prints CountsRefusedBounds)
+unfolding Prints CountsRefusedBounds report fields field lead flatten
+counts-refused-bounds = record {
+  example = noneCounted;
+  done = none-counted;
+  refused = λ p f d.
+      let r = f empty _ _ (computed .empty-no) (computed .empty-lines) (computed .empty-laid) (computed .empty-command) (computed .empty-pruned) in
+      unequal _ _ (computed .empty-printed) (sym (ap (take 12) (r .1)) ∙ ap (λ (x : List ℕ). take 12 (take 19 x)) (d empty));
+}
+
+pub counts-refused-calls : Turned (fault PrintsDemand3 CountsRefusedBounds)
+counts-refused-calls = record {
+  example = noneCounted;
+  done = none-counted;
+  refused = λ p f d. counts-refused-bounds .refused p f (demand3-prints p d);
 }
 
 -- ---- the function on slices

@@ -1,16 +1,19 @@
--- Small cases of the register: a shape of one cell, what the machine does with its two grids, and an implementation that follows the machine.
+-- Small cases of the register: a shape of one cell, what the machine does with its two grids, an implementation that follows the machine, and a shape of
+-- two cells that bounds without allperm are shown on.
 --
 --   cell, limits        ==  a shape of 1 row, 1 column, top 1 and capacity 2; it is within the limits
 --   zero, one           ==  its two grids
+--   column, column-limits  ==  a shape of 2 rows, 1 column, top 2 and capacity 1; it is within the limits
+--   column-low, column-high  ==  bounds of it, 1 to 2 over 0 to 1, in which just 1/1 has allperm; column-low itself, the grid 1/0, has not
 --   rowless, roomless   ==  shapes outside the limits: 0 rows, and capacity 0
 --   Computed, computed  ==  what the definitions give
 --   slice, opening      ==  a slice of the shape's length, and what its open answers
 --   answers             ==  what an implementation that follows the machine answers to a call
 --   after-one           ==  one that meets demand 3 follows it, also after an enter
---   first-enter, second-enter, held-enter, lower-enter, first-strike, none-fit, zero-fit  ==  what an implementation that meets demand 3 answers and leaves
+--   first-enter, second-enter, held-enter, lower-enter, first-strike, none-count, zero-count  ==  what an implementation that meets demand 3 answers and leaves
 --   number-is, place-is, bytes-are  ==  the parts of an answer
 --   plain k p           ==  every call answers the number k and the place or count p, and changes nothing
---   entering f, opening-by f, entering-at-terminal f  ==  the like with f for enter, for open, and for a terminal's enter
+--   entering f, opening-by f, counting f, entering-at-terminal f  ==  the like with f for enter, for open, for count, and for a terminal's enter
 use mathlib.Core.Path.{_≡_, refl, ap, subst, _∙_}
 use mathlib.Core.List.{List, [], _∷_, flatten, flatMap}
 use mathlib.Core.Bool.{true, false}
@@ -21,19 +24,19 @@ use lib.Dec.{eqb}
 use Rattle.permutations.specs.Lists.{tabulate, numbers, select, every, some, occurrences}
 use Rattle.permutations.specs.Permutations.{isPermutation, words, permutations}
 use Rattle.grids.specs.Order.{rank, leq, less, equal}
-use Rattle.grids.specs.Grids.{capped, isGrid, gridOf, row, permutedRow, arrangement}
+use Rattle.grids.specs.Grids.{capped, isGrid, gridOf, row, permutedRow, arrangement, oneClass}
 use Rattle.grids.specs.Least.{arrangements, lesser, leastOf, least}
 use Rattle.grids.specs.Questions.{firstNo, inRange, question1, question2, question3, question6, question7}
 use Rattle.bounds.specs.Bounds.{ranksWithin, between, inBounds, fillings, gridsWithin}
-use Rattle.bounds.specs.Kept.{obeyed}
+use Rattle.bounds.specs.Kept.{obeyed, keeps, keptValues, lowestFrom, lowest, highestFrom, highest, keptLow, keptHigh}
 use Rattle.bounds.specs.Allperm.{allperm}
-use Rattle.bounds.specs.Prune.{question8, boundsQuestions}
+use Rattle.bounds.specs.Prune.{question8, boundsQuestions, prunedYes, pruned}
 use Rattle.layout.specs.Decimal.{lead, field, digit, valueFrom, value}
 use Rattle.layout.specs.Layout.{Shape, gridSize, fields, entryWidth, lineLength, entryLine, blankLine, headLine, layout, layoutLength, numberAt, count, entryAt, decodeShape, decode, InLimits, inLimits, ascending, isRegister, laidOut}
-use Rattle.machine.specs.Calls.{Outcome, question4, question5, gridQuestions, leastIn, holds, question9, placeIn, insert, without, openQuestions, enterQuestions, fitQuestions}
-use Rattle.machine.specs.CallLists.{Call, enter, strike, fit, Implementation, called, questionsOf}
-use Rattle.machine.specs.Machine.{sorted, shown, Step, stepUnless, enterClass, strikeClass, fitClasses, step, outcome}
-use Rattle.machine.specs.Demand3.{Demand3}
+use Rattle.machine.specs.Calls.{Outcome, question4, question5, gridQuestions, leastIn, holds, question9, placeIn, insert, without, openQuestions, enterQuestions, countQuestions}
+use Rattle.machine.specs.CallLists.{Call, enter, strike, countIn, Implementation, called, questionsOf}
+use Rattle.machine.specs.Machine.{sorted, shown, Step, stepUnless, enterClass, strikeClass, countClasses, step, outcome}
+use Rattle.machine.specs.Demand3.{prunedFor, Demand3}
 use Rattle.machine.proofs.SortedLaws.{Grids}
 use Rattle.machine.proofs.MachineLaws.{afterwards}
 use Rattle.machine.proofs.FollowLaws.{Follows, follows-open, follows-call, follows-next}
@@ -51,6 +54,15 @@ one = 1 ∷ []
 abbrev pub answer : ℕ → ℕ → Grids → Step
 answer number place next = record { number = number; place = place; next = next }
 
+abbrev pub column : Shape
+column = record { rows = 2; columns = 1; top = 2; capacity = 1 }
+
+abbrev pub column-low : List ℕ
+column-low = 1 ∷ 0 ∷ []
+
+abbrev pub column-high : List ℕ
+column-high = 2 ∷ 1 ∷ []
+
 abbrev pub rowless : Shape
 rowless = record { rows = 0; columns = 1; top = 1; capacity = 2 }
 
@@ -64,13 +76,22 @@ pub record Computed : Type 0 where
   pub zero-struck : step cell (zero ∷ []) (strike zero) ≡ answer 0 1 []
   pub one-first : step cell [] (enter one) ≡ answer 0 1 (one ∷ [])
   pub zero-second : step cell (one ∷ []) (enter zero) ≡ answer 0 1 (zero ∷ one ∷ [])
-  pub none-fits : step cell [] (fit zero one) ≡ answer 0 0 []
-  pub zero-fits : step cell (zero ∷ []) (fit zero one) ≡ answer 0 1 (zero ∷ [])
+  pub none-within : step cell [] (countIn zero one) ≡ answer 0 0 []
+  pub zero-within : step cell (zero ∷ []) (countIn zero one) ≡ answer 0 1 (zero ∷ [])
   pub gone : afterwards cell [] (enter zero ∷ strike zero ∷ []) ≡ []
   pub first-lives : length (afterwards cell [] (enter zero ∷ [])) ≡ 1
   pub both-live : length (afterwards cell [] (enter zero ∷ enter one ∷ [])) ≡ 2
   pub none-inside : length (select (inBounds 1 1 zero one) (afterwards cell [] [])) ≡ 0
   pub first-inside : length (select (inBounds 1 1 zero one) (afterwards cell [] (enter zero ∷ []))) ≡ 1
+  pub zero-inside : length (select (inBounds 1 1 zero zero) (afterwards cell [] (enter zero ∷ []))) ≡ 1
+  pub zero-prunes : prunedFor cell zero zero .number ≡ 0
+  pub zero-low : prunedFor cell zero zero .low ≡ zero
+  pub zero-high : prunedFor cell zero zero .high ≡ zero
+  pub none-prunes : prunedFor (decodeShape (shown column [])) column-low column-low .number ≡ 102
+  pub column-entered : step column [] (enter (0 ∷ 1 ∷ [])) .next ≡ (0 ∷ 1 ∷ []) ∷ []
+  pub column-none : step column ((0 ∷ 1 ∷ []) ∷ []) (countIn column-low column-low) .place ≡ 0
+  pub column-holds : holds (0 ∷ 1 ∷ []) (decode (shown column ((0 ∷ 1 ∷ []) ∷ [])) .entries) ≡ true
+  pub column-class : oneClass (decodeShape (shown column ((0 ∷ 1 ∷ []) ∷ [])) .rows) (decodeShape (shown column ((0 ∷ 1 ∷ []) ∷ [])) .columns) column-low (0 ∷ 1 ∷ []) ≡ true
   pub none-counted : count (shown cell []) ≡ 0
   pub zero-counted : count (shown cell (zero ∷ [])) ≡ 1
   pub one-counted : count (shown cell (one ∷ [])) ≡ 1
@@ -85,7 +106,7 @@ pub record Computed : Type 0 where
   pub above-top : capped (decodeShape (shown cell []) .top) (2 ∷ 2 ∷ []) ≡ false
   pub length-asked : firstNo (questionsOf (shown cell []) (enter (2 ∷ 2 ∷ []))) ≡ 6
   pub length-differs : eqb (length zero) (gridSize (decodeShape [])) ≡ false
-  pub register-asked : firstNo (questionsOf [] (fit zero zero)) ≡ 5
+  pub register-asked : firstNo (questionsOf [] (countIn zero zero)) ≡ 5
   pub nothing-unlaid : laidOut [] ≡ false
   pub nothing-asked : firstNo (questionsOf [] (enter zero)) ≡ 5
   pub open-asked : firstNo (openQuestions cell (shown cell [])) ≡ 0
@@ -95,7 +116,7 @@ pub record Computed : Type 0 where
   pub roomless-length : layoutLength roomless ≡ 31
 
 pub computed : Computed
-unfolding tabulate numbers select every some occurrences flatten flatMap isPermutation words permutations rank leq less equal capped isGrid gridOf row permutedRow arrangement arrangements lesser leastOf least firstNo inRange question1 question2 question3 question6 question7 ranksWithin between inBounds fillings gridsWithin obeyed allperm question8 boundsQuestions lead field digit valueFrom value fields entryWidth lineLength entryLine blankLine headLine layout layoutLength numberAt count entryAt decodeShape decode inLimits ascending isRegister laidOut question4 question5 gridQuestions holds question9 placeIn insert without openQuestions enterQuestions fitQuestions questionsOf sorted shown stepUnless enterClass strikeClass fitClasses step afterwards lastEntry
+unfolding tabulate numbers select every some occurrences flatten flatMap isPermutation words permutations rank leq less equal capped isGrid gridOf row permutedRow arrangement oneClass arrangements lesser leastOf least firstNo inRange question1 question2 question3 question6 question7 ranksWithin between inBounds fillings gridsWithin obeyed keeps keptValues lowestFrom lowest highestFrom highest keptLow keptHigh allperm question8 boundsQuestions prunedYes pruned lead field digit valueFrom value fields entryWidth lineLength entryLine blankLine headLine layout layoutLength numberAt count entryAt decodeShape decode inLimits ascending isRegister laidOut question4 question5 gridQuestions holds question9 placeIn insert without openQuestions enterQuestions countQuestions questionsOf sorted shown stepUnless enterClass strikeClass countClasses step afterwards lastEntry
 computed = record {
   zero-entered = refl;
   one-entered = refl;
@@ -103,13 +124,22 @@ computed = record {
   zero-struck = refl;
   one-first = refl;
   zero-second = refl;
-  none-fits = refl;
-  zero-fits = refl;
+  none-within = refl;
+  zero-within = refl;
   gone = refl;
   first-lives = refl;
   both-live = refl;
   none-inside = refl;
   first-inside = refl;
+  zero-inside = refl;
+  zero-prunes = refl;
+  zero-low = refl;
+  zero-high = refl;
+  none-prunes = refl;
+  column-entered = refl;
+  column-none = refl;
+  column-holds = refl;
+  column-class = refl;
   none-counted = refl;
   zero-counted = refl;
   one-counted = refl;
@@ -136,6 +166,12 @@ computed = record {
 
 pub limits : InLimits cell
 limits = record {
+  grid-limits = record { rows-limits = (omega arith, omega arith); column-limits = (omega arith, omega arith); top-limit = omega arith };
+  capacity-limits = (omega arith, omega arith);
+}
+
+pub column-limits : InLimits column
+column-limits = record {
   grid-limits = record { rows-limits = (omega arith, omega arith); column-limits = (omega arith, omega arith); top-limit = omega arith };
   capacity-limits = (omega arith, omega arith);
 }
@@ -185,13 +221,13 @@ module _ (i : Implementation) (d : Demand3 i) where
   unfolding called
   first-strike = answers i cell (zero ∷ []) after-zero (strike zero) _ (computed .zero-struck)
 
-  pub none-fit : i .fits (shown cell []) zero one ≡ outcome cell (answer 0 0 [])
+  pub none-count : i .counts (shown cell []) zero one ≡ outcome cell (answer 0 0 [])
   unfolding called
-  none-fit = answers i cell [] (follows-open i d cell limits) (fit zero one) _ (computed .none-fits)
+  none-count = answers i cell [] (follows-open i d cell limits) (countIn zero one) _ (computed .none-within)
 
-  pub zero-fit : i .fits (shown cell (zero ∷ [])) zero one ≡ outcome cell (answer 0 1 (zero ∷ []))
+  pub zero-count : i .counts (shown cell (zero ∷ [])) zero one ≡ outcome cell (answer 0 1 (zero ∷ []))
   unfolding called
-  zero-fit = answers i cell (zero ∷ []) after-zero (fit zero one) _ (computed .zero-fits)
+  zero-count = answers i cell (zero ∷ []) after-zero (countIn zero one) _ (computed .zero-within)
 
 pub number-is : (o : Outcome) (t : Step) → o ≡ outcome cell t → o .number ≡ t .number
 unfolding outcome
@@ -212,15 +248,18 @@ plain k p = record {
   opens = λ s b. record { number = k; place = p; bytes = b };
   enters = λ b g. record { number = k; place = p; bytes = b };
   strikes = λ b g. record { number = k; place = p; bytes = b };
-  fits = λ b low high. record { number = k; place = p; bytes = b };
+  counts = λ b low high. record { number = k; place = p; bytes = b };
   terminalEnters = λ b g. record { number = k; place = p; bytes = b };
 }
 
 abbrev pub entering : (List ℕ → List ℕ → Outcome) → Implementation
-entering f = record { opens = plain 0 0 .opens; enters = f; strikes = plain 0 0 .strikes; fits = plain 0 0 .fits; terminalEnters = plain 0 0 .terminalEnters }
+entering f = record { opens = plain 0 0 .opens; enters = f; strikes = plain 0 0 .strikes; counts = plain 0 0 .counts; terminalEnters = plain 0 0 .terminalEnters }
 
 abbrev pub opening-by : (Shape → List ℕ → Outcome) → Implementation
-opening-by f = record { opens = f; enters = plain 0 0 .enters; strikes = plain 0 0 .strikes; fits = plain 0 0 .fits; terminalEnters = plain 0 0 .terminalEnters }
+opening-by f = record { opens = f; enters = plain 0 0 .enters; strikes = plain 0 0 .strikes; counts = plain 0 0 .counts; terminalEnters = plain 0 0 .terminalEnters }
+
+abbrev pub counting : (List ℕ → List ℕ → List ℕ → Outcome) → Implementation
+counting f = record { opens = plain 0 0 .opens; enters = plain 0 0 .enters; strikes = plain 0 0 .strikes; counts = f; terminalEnters = plain 0 0 .terminalEnters }
 
 abbrev pub entering-at-terminal : (List ℕ → List ℕ → Outcome) → Implementation
-entering-at-terminal f = record { opens = plain 0 0 .opens; enters = plain 0 0 .enters; strikes = plain 0 0 .strikes; fits = plain 0 0 .fits; terminalEnters = f }
+entering-at-terminal f = record { opens = plain 0 0 .opens; enters = plain 0 0 .enters; strikes = plain 0 0 .strikes; counts = plain 0 0 .counts; terminalEnters = f }

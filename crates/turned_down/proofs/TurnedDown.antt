@@ -14,23 +14,25 @@ use Rattle.canonical.proofs.TerminalCalls.{terminal-represent-answers, terminal
 use Rattle.bounds.specs.Prune.{pruned}
 use Rattle.bounds.specs.Demand2.{MeetsPrune}
 use Rattle.bounds.proofs.PruneLaws.{prunes, prune-exact}
-use Rattle.machine.specs.Calls.{fitted}
+use Rattle.machine.specs.Calls.{counted}
 use Rattle.machine.specs.CallLists.{registerCalls, Meets}
 use Rattle.machine.proofs.Demand1Laws.{demand1}
 use Rattle.machine.proofs.Demand3Laws.{demand3}
+use Rattle.machine.proofs.BothCountsLaws.{both-counts}
 use Rattle.protocol.specs.Transcript.{transcript}
 use Rattle.protocol.specs.Programs.{Prints, transcribed, MeetsTranscribe}
+use Rattle.protocol.proofs.Demand3Laws.{prints-demand3}
 use Rattle.turned_down.specs.PermutationFaults.{Composes, Inverts, Tests}
 use Rattle.turned_down.specs.TurnedDown.{Turned, orderFaults, testFaults, table, TurnedDown, Met}
 use Rattle.turned_down.proofs.Permutations.{orders-turned, tests-turned}
 use Rattle.turned_down.proofs.Represent.{hands-back, one-for-all, refuses-all, sorts-by-turns, follows-first, orders-backwards, pads-with-zeros, ignores-length, ignores-cells, writes-refusing, moves-refusing}
 use Rattle.turned_down.proofs.Same.{never-same, judges-by-row-sums, compares-sorted, orders-from-b, ignores-b, moves-with-103, agrees-as-sent, miscounts-by-one, agrees-in-none, agrees-refusing}
 use Rattle.turned_down.proofs.Prune.{never-prunes, never-empty, removes-nothing, raises-no-low, lowers-no-high, prunes-unsorted, invents-removed, writes-empty, shortens-bounds, leaves-above-top, ignores-order, prune-writes-refusing}
-use Rattle.turned_down.proofs.Demand3.{stores-first, full-unlooked, not-held-unlooked, invents-count, invents-fit, leaves-last-line, appends-entries, places-from-zero, inserts-late, opens-nothing, enters-nothing, opens-any-slice, refuses-own-bytes}
-use Rattle.turned_down.proofs.Demand1.{refuses-opens, refuses-enters, grows-slice, open-grows-slice, fit-writes, held-writes, open-writes-refusing, opens-capacity-0, asks-cells-first, asks-register-last, trusts-bytes}
-use Rattle.turned_down.proofs.Fit.{fits-as-sent, prunes-lent-bounds}
+use Rattle.turned_down.proofs.Demand3.{stores-first, full-unlooked, not-held-unlooked, invents-count, invents-counts, leaves-out-highs, answers-none, counts-arrangements, leaves-last-line, appends-entries, places-from-zero, inserts-late, opens-nothing, enters-nothing, opens-any-slice, refuses-own-bytes}
+use Rattle.turned_down.proofs.Demand1.{refuses-opens, refuses-enters, grows-slice, open-grows-slice, count-writes, held-writes, open-writes-refusing, opens-capacity-0, asks-cells-first, asks-register-last, trusts-bytes}
+use Rattle.turned_down.proofs.Count.{counts-pruned, counts-none, prunes-lent-bounds, counts-unlike, counts-barred}
 use Rattle.turned_down.proofs.Terminals.{terminal-hands-back, asks-columns-first, refuses-5-rows, refuses-9-rows, never-14, same-asks-columns-first, same-refuses-5-rows, same-never-14, keeps-8-positions, agrees-with-14, enter-never-14, enter-refuses-5-rows, enter-asks-length-first, enter-writes-with-14, stores-as-sent, terminal-appends, only-acknowledges, enters-twice}
-use Rattle.turned_down.proofs.Planbook.{goes-on-after-13, prints-register-after-11, ends-at-malformed, prints-under-zero, malformed-reaches, refuses-cells-as-malformed, asks-length-first, silent-without-commands, takes-unended, counts-without-room, clears-rest}
+use Rattle.turned_down.proofs.Planbook.{goes-on-after-13, prints-register-after-11, ends-at-malformed, prints-under-zero, malformed-reaches, refuses-cells-as-malformed, asks-length-first, silent-without-commands, takes-unended, counts-refused-bounds, counts-refused-calls, counts-without-room, clears-rest}
 
 -- the faults of orders, of all kinds
 all-orders : All Turned (orderFaults 8 ++ (testFaults 8 ++ (orderFaults 16 ++ (testFaults 16 ++ orderFaults 5))))
@@ -42,11 +44,11 @@ all-orders =
 
 pub turned-down : TurnedDown
 unfolding TurnedDown table
-turned-down = (hands-back, (one-for-all, (refuses-all, (sorts-by-turns, (follows-first, (orders-backwards, (pads-with-zeros, (ignores-length, (ignores-cells, (writes-refusing, (moves-refusing, (never-same, (judges-by-row-sums, (compares-sorted, (orders-from-b, (ignores-b, (moves-with-103, (agrees-as-sent, (miscounts-by-one, (agrees-in-none, (agrees-refusing, (never-prunes, (never-empty, (removes-nothing, (raises-no-low, (lowers-no-high, (prunes-unsorted, (invents-removed, (writes-empty, (shortens-bounds, (leaves-above-top, (ignores-order, (prune-writes-refusing, (stores-first, (full-unlooked, (not-held-unlooked, (invents-count, (invents-fit, (leaves-last-line, (appends-entries, (places-from-zero, (inserts-late, (opens-nothing, (enters-nothing, (opens-any-slice, (refuses-own-bytes, (refuses-opens, (refuses-enters, (grows-slice, (open-grows-slice, (fit-writes, (held-writes, (open-writes-refusing, (opens-capacity-0, (asks-cells-first, (asks-register-last, (trusts-bytes, (fits-as-sent, (prunes-lent-bounds, (goes-on-after-13, (prints-register-after-11, (ends-at-malformed, (prints-under-zero, (malformed-reaches, (refuses-cells-as-malformed, (asks-length-first, (silent-without-commands, (takes-unended, (counts-without-room, (clears-rest, (terminal-hands-back, (asks-columns-first, (refuses-5-rows, (refuses-9-rows, (never-14, (same-asks-columns-first, (same-refuses-5-rows, (same-never-14, (keeps-8-positions, (agrees-with-14, (enter-never-14, (enter-refuses-5-rows, (enter-asks-length-first, (enter-writes-with-14, (stores-as-sent, (terminal-appends, (only-acknowledges, (enters-twice, all-orders))))))))))))))))))))))))))))))))))))))))))))))))))))))))))))))))))))))))))))))))))))))))
+turned-down = (hands-back, (one-for-all, (refuses-all, (sorts-by-turns, (follows-first, (orders-backwards, (pads-with-zeros, (ignores-length, (ignores-cells, (writes-refusing, (moves-refusing, (never-same, (judges-by-row-sums, (compares-sorted, (orders-from-b, (ignores-b, (moves-with-103, (agrees-as-sent, (miscounts-by-one, (agrees-in-none, (agrees-refusing, (never-prunes, (never-empty, (removes-nothing, (raises-no-low, (lowers-no-high, (prunes-unsorted, (invents-removed, (writes-empty, (shortens-bounds, (leaves-above-top, (ignores-order, (prune-writes-refusing, (stores-first, (full-unlooked, (not-held-unlooked, (invents-count, (invents-counts, (leaves-out-highs, (answers-none, (counts-arrangements, (leaves-last-line, (appends-entries, (places-from-zero, (inserts-late, (opens-nothing, (enters-nothing, (opens-any-slice, (refuses-own-bytes, (refuses-opens, (refuses-enters, (grows-slice, (open-grows-slice, (count-writes, (held-writes, (open-writes-refusing, (opens-capacity-0, (asks-cells-first, (asks-register-last, (trusts-bytes, (counts-pruned, (counts-none, (prunes-lent-bounds, (counts-unlike, (counts-barred, (goes-on-after-13, (prints-register-after-11, (ends-at-malformed, (prints-under-zero, (malformed-reaches, (refuses-cells-as-malformed, (asks-length-first, (silent-without-commands, (takes-unended, (counts-refused-bounds, (counts-refused-calls, (counts-without-room, (clears-rest, (terminal-hands-back, (asks-columns-first, (refuses-5-rows, (refuses-9-rows, (never-14, (same-asks-columns-first, (same-refuses-5-rows, (same-never-14, (keeps-8-positions, (agrees-with-14, (enter-never-14, (enter-refuses-5-rows, (enter-asks-length-first, (enter-writes-with-14, (stores-as-sent, (terminal-appends, (only-acknowledges, (enters-twice, all-orders))))))))))))))))))))))))))))))))))))))))))))))))))))))))))))))))))))))))))))))))))))))))))))))))
 
 ours : Meets registerCalls
 unfolding registerCalls
-ours = record { opens = λ s b. refl; enters = λ b g. refl; strikes = λ b g. refl; fits = λ b low high. refl; terminalEnters = λ b g. refl }
+ours = record { opens = λ s b. refl; enters = λ b g. refl; strikes = λ b g. refl; counts = λ b low high. refl; terminalEnters = λ b g. refl }
 
 representing : Representing
 representing m n top g out = let a = represent-answers m n top g out in record { number = a .0; rows = a .1; columns = a .2; out = a .3 }
@@ -83,11 +85,11 @@ met = record {
   composes = λ width. (composedPadded width, λ n p k r. refl);
   inverts = λ width. (inversePadded width, λ n p. refl);
   tests = λ width. (isSound width, λ n p. refl);
-  keeps = (registerCalls, ours, demand1 registerCalls ours, demand3 registerCalls ours);
-  fits = (
-    λ b low high. record { outcome = fitted b low high; low = low; high = high },
+  keeps = (registerCalls, ours, demand1 registerCalls ours, demand3 registerCalls ours, both-counts registerCalls ours);
+  counts = (
+    λ b low high. record { outcome = counted b low high; low = low; high = high },
     record { answers = λ b low high. refl; low-kept = λ b low high. refl; high-kept = λ b low high. refl },
   );
-  prints = (transcript, λ input. refl);
+  prints = (transcript, λ input. refl, prints-demand3 transcript (λ input. refl));
   transcribes = (transcribed, λ input register out. refl);
 }

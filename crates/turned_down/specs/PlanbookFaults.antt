@@ -3,7 +3,8 @@
 --
 --   laidIn input l             ==  l is laid as a command line, by the numbers of the input's line 1
 --   cellsOn input l            ==  the cells that it states
---   firstStep input l          ==  what the machine does with its call, on the empty set
+--   firstStep input l          ==  what the machine does with its command, on the empty set
+--   prunedOn input l           ==  what prune answers and leaves of its bounds, where its command is 3
 --   GoesOnAfter13 p            ==  with 13 more is printed than one line
 --   PrintsRegisterAfter11 p    ==  after the line of 11 comes a register
 --   EndsAtMalformed p          ==  a first command line that is not laid ends the run
@@ -13,6 +14,7 @@
 --   AsksLengthFirst p          ==  the register's length is asked before questions 1 to 4
 --   SilentWithoutCommands p    ==  where there is no command line nothing is printed
 --   TakesUnended p             ==  a line that lacks only its line feed, the only one, does not get 12
+--   CountsRefusedBounds p      ==  a first command 3 whose bounds prune answers with 102 is printed with 0 and some count, as if they were counted
 --   CountsWithoutRoom f        ==  where a slice is too small some bytes count
 --   ClearsRest f               ==  the bytes behind what is printed are not kept
 use mathlib.Core.Path.{_≡_}
@@ -21,12 +23,14 @@ use mathlib.Core.Bool.{Bool, true, false}
 use Prim.Native.Nat.{ℕ, _≤_, _<_}
 use lib.ListN.{length, take, drop}
 use Rattle.grids.specs.Grids.{capped}
+use Rattle.bounds.specs.Prune.{Pruned}
 use Rattle.layout.specs.Decimal.{field}
 use Rattle.layout.specs.Layout.{gridSize, layoutLength, laidOut}
 use Rattle.machine.specs.CallLists.{accepted}
-use Rattle.machine.specs.Machine.{Step, step, shown}
-use Rattle.protocol.specs.Input.{furtherLines, cellsIn, isLaid}
-use Rattle.protocol.specs.Commands.{callIn, report}
+use Rattle.machine.specs.Machine.{Step, shown}
+use Rattle.machine.specs.Demand3.{prunedFor}
+use Rattle.protocol.specs.Input.{furtherLines, commandIn, cellsIn, isLaid}
+use Rattle.protocol.specs.Commands.{lows, highs, commandStep, report}
 use Rattle.protocol.specs.Transcript.{byteLimit, shapeIn, question12, startNo, transcript}
 use Rattle.protocol.specs.Programs.{Printing, Transcribing, hasRoom}
 
@@ -37,7 +41,10 @@ abbrev pub cellsOn : List ℕ → List ℕ → List ℕ
 cellsOn input l = cellsIn (gridSize (shapeIn input)) l
 
 abbrev pub firstStep : List ℕ → List ℕ → Step
-firstStep input l = step (shapeIn input) [] (callIn (gridSize (shapeIn input)) l)
+firstStep input l = commandStep (shapeIn input) [] (commandIn l) (cellsOn input l)
+
+abbrev pub prunedOn : List ℕ → List ℕ → Pruned
+prunedOn input l = prunedFor (shapeIn input) (lows (gridSize (shapeIn input)) (cellsOn input l)) (highs (gridSize (shapeIn input)) (cellsOn input l))
 
 unfoldable pub GoesOnAfter13 : Printing → Type 0
 GoesOnAfter13 p = (input : List ℕ) → startNo input ≡ 13 → 19 < length (p input)
@@ -52,7 +59,7 @@ EndsAtMalformed p =
 unfoldable pub PrintsUnderZero : Printing → Type 0
 PrintsUnderZero p =
     (input l : List ℕ) (ls : List (List ℕ)) → startNo input ≡ 0 → furtherLines input ≡ l ∷ ls → laidIn input l ≡ true →
-    accepted (firstStep input l .number) ≡ false → take 6 (p input) ≡ field 6 0
+    accepted (firstStep input l .number) ≡ false → (firstStep input l .number ≡ 102 → ⊥) → take 6 (p input) ≡ field 6 0
 
 unfoldable pub MalformedReaches : Printing → Type 0
 MalformedReaches p =
@@ -74,6 +81,11 @@ unfoldable pub TakesUnended : Printing → Type 0
 TakesUnended p =
     (input l : List ℕ) → startNo input ≡ 0 → furtherLines input ≡ l ∷ [] → laidIn input l ≡ false → laidIn input (l ++ (10 ∷ [])) ≡ true →
     take 19 (p input) ≡ report 0 12 0 → ⊥
+
+unfoldable pub CountsRefusedBounds : Printing → Type 0
+CountsRefusedBounds p =
+    (input l : List ℕ) (ls : List (List ℕ)) → startNo input ≡ 0 → furtherLines input ≡ l ∷ ls → laidIn input l ≡ true → commandIn l ≡ 3 →
+    prunedOn input l .number ≡ 102 → (x : ℕ) × (take 19 (p input) ≡ report 3 0 x)
 
 unfoldable pub CountsWithoutRoom : Transcribing → Type 0
 CountsWithoutRoom f = (input register out : List ℕ) → hasRoom register out ≡ false → 0 < f input register out .count

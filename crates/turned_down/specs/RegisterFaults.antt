@@ -1,11 +1,14 @@
--- Faults of programs for open, enter, strike and fit. The first are against demand 3, the others against demand 1; the last two, of fit alone, are
--- against its contract.
+-- Faults of programs for open, enter, strike and count. The first are against demand 3, the others against demand 1; the last, of count alone, are
+-- against its contract, and against what joins the counts of bounds as sent and of what prune leaves.
 --
 --   StoresFirst i        ==  the first plan is stored, and the others are only acknowledged
 --   FullUnlooked i       ==  a register with capacity entries accepts no enter, whether or not the class is held
 --   NotHeldUnlooked i    ==  no class is struck, as if none were held
 --   InventsCount i       ==  the count in line 1 does not go by what was entered
---   InventsFit i         ==  fit's count does not go by the register
+--   InventsCounts i      ==  a count of bounds does not go by the register
+--   LeavesOutHighs i     ==  an entry with a cell at its high is not counted: where every low is its high, none is
+--   AnswersNone i        ==  a count answers 102 where prune does
+--   CountsArrangements i ==  an entry is counted where some arrangement of it lies in the bounds
 --   lastEntry b          ==  the byte at which the last entry's line begins
 --   LeavesLastLine i     ==  after a strike the bytes from the last entry's line on are left behind
 --   AppendsEntries i     ==  a new entry goes behind the others
@@ -17,16 +20,19 @@
 --   RefusesOwnBytes i    ==  question 5 gets a no on a register that has an entry
 --   GrowsSlice i         ==  enter makes the slice longer
 --   OpenGrowsSlice i     ==  open does
---   FitWrites i          ==  a fit changes the register's bytes
+--   CountWrites i        ==  a count changes the register's bytes
 --   HeldWrites i         ==  some enter answers 101 and changes the bytes
 --   OpenWritesRefusing i ==  an open that refuses changes the slice
 --   OpensCapacity0 i     ==  capacity 0 is accepted
 --   AsksCellsFirst i     ==  question 7 before question 6
---   AsksRegisterLast i   ==  fit asks question 6 before question 5
+--   AsksRegisterLast i   ==  count asks question 6 before question 5
 --   TrustsBytes i        ==  enter does not ask question 5
---   FitsAsSent i         ==  fit counts the entries in the bounds as sent, also those that are no representatives
---   prunedBy b low high  ==  what prune leaves of the bounds, with the register's numbers
---   PrunesLentBounds f   ==  a fit leaves the pruned bounds in low, or in high
+--   CountsPruned i       ==  a count prunes: it counts the entries in what prune leaves of the bounds
+--   CountsNone i         ==  where prune says 102 a count is 0, also of entries that no call can have written
+--   PrunesLentBounds f   ==  a count leaves the pruned bounds in low, or in high
+--   Reached i, keptOn r  ==  a register reached by calls, and bounds; what prune answers and leaves of them, with its numbers
+--   CountsUnlike i       ==  on some such register bounds as sent and what prune leaves of them are counted as two numbers
+--   CountsBarred i       ==  on some such register prune says 102, and some entry is counted
 use mathlib.Core.Path.{_≡_}
 use mathlib.Core.List.{List, _∷_}
 use mathlib.Core.Bool.{true, false}
@@ -34,15 +40,14 @@ use mathlib.Core.Logic.{_⊎_}
 use Prim.Native.Nat.{ℕ, suc, _+_, _-_, _*_, _≤_}
 use lib.ListN.{length, drop}
 use lib.Dec.{eqb}
-use Rattle.permutations.specs.Lists.{select}
-use Rattle.grids.specs.Grids.{capped}
+use Rattle.grids.specs.Grids.{capped, oneClass}
 use Rattle.grids.specs.Questions.{Limits}
-use Rattle.bounds.specs.Bounds.{inBounds}
-use Rattle.bounds.specs.Prune.{Pruned, pruned}
+use Rattle.bounds.specs.Prune.{Pruned}
 use Rattle.layout.specs.Layout.{Shape, gridSize, headLength, lineLength, layoutLength, count, entryAt, decodeShape, decode, InLimits, laidOut}
-use Rattle.machine.specs.Calls.{leastIn}
-use Rattle.machine.specs.CallLists.{Implementation, accepted}
-use Rattle.machine.specs.FitSlices.{Fitting}
+use Rattle.machine.specs.Calls.{leastIn, holds, entriesIn}
+use Rattle.machine.specs.CallLists.{Call, Implementation, left, accepted}
+use Rattle.machine.specs.CountSlices.{Counting}
+use Rattle.machine.specs.Demand3.{prunedFor}
 
 unfoldable pub StoresFirst : Implementation → Type 0
 StoresFirst i = (b g : List ℕ) → 1 ≤ count b → i .enters b g .bytes ≡ b
@@ -57,9 +62,19 @@ unfoldable pub InventsCount : Implementation → Type 0
 InventsCount i =
     (b g b′ g′ : List ℕ) → i .enters b g .number ≡ 0 → i .enters b′ g′ .number ≡ 0 → count (i .enters b g .bytes) ≡ count (i .enters b′ g′ .bytes)
 
-unfoldable pub InventsFit : Implementation → Type 0
-InventsFit i =
-    (b b′ low high : List ℕ) → i .fits b low high .number ≡ 0 → i .fits b′ low high .number ≡ 0 → i .fits b low high .place ≡ i .fits b′ low high .place
+unfoldable pub InventsCounts : Implementation → Type 0
+InventsCounts i =
+    (b b′ low high : List ℕ) → i .counts b low high .number ≡ 0 → i .counts b′ low high .number ≡ 0 → i .counts b low high .place ≡ i .counts b′ low high .place
+
+unfoldable pub LeavesOutHighs : Implementation → Type 0
+LeavesOutHighs i = (b bounds : List ℕ) → i .counts b bounds bounds .place ≡ 0
+
+unfoldable pub AnswersNone : Implementation → Type 0
+AnswersNone i = (b low high : List ℕ) → prunedFor (decodeShape b) low high .number ≡ 102 → i .counts b low high .number ≡ 102
+
+unfoldable pub CountsArrangements : Implementation → Type 0
+CountsArrangements i =
+    (b g r : List ℕ) → holds r (decode b .entries) ≡ true → oneClass (decodeShape b .rows) (decodeShape b .columns) g r ≡ true → 1 ≤ i .counts b g g .place
 
 unfoldable pub lastEntry : List ℕ → ℕ
 lastEntry b = headLength + (count b - 1) * lineLength (gridSize (decodeShape b))
@@ -101,7 +116,7 @@ unfoldable pub AsksCellsFirst : Implementation → Type 0
 AsksCellsFirst i = (b g : List ℕ) → laidOut b ≡ true → capped (decodeShape b .top) g ≡ false → i .enters b g .number ≡ 7
 
 unfoldable pub AsksRegisterLast : Implementation → Type 0
-AsksRegisterLast i = (b low high : List ℕ) → eqb (length low) (gridSize (decodeShape b)) ≡ false → i .fits b low high .number ≡ 6
+AsksRegisterLast i = (b low high : List ℕ) → eqb (length low) (gridSize (decodeShape b)) ≡ false → i .counts b low high .number ≡ 6
 
 unfoldable pub TrustsBytes : Implementation → Type 0
 TrustsBytes i = (b g : List ℕ) → laidOut b ≡ false → i .enters b g .number ≡ 5 → ⊥
@@ -112,8 +127,8 @@ GrowsSlice i = (b g : List ℕ) → length (i .enters b g .bytes) ≡ suc (lengt
 unfoldable pub OpenGrowsSlice : Implementation → Type 0
 OpenGrowsSlice i = (s : Shape) (b : List ℕ) → length (i .opens s b .bytes) ≡ suc (length b)
 
-unfoldable pub FitWrites : Implementation → Type 0
-FitWrites i = (x : ℕ) (b low high : List ℕ) → i .fits (x ∷ b) low high .bytes ≡ x ∷ b → ⊥
+unfoldable pub CountWrites : Implementation → Type 0
+CountWrites i = (x : ℕ) (b low high : List ℕ) → i .counts (x ∷ b) low high .bytes ≡ x ∷ b → ⊥
 
 pub record HeldWrites (i : Implementation) : Type 0 where
   pub before : List ℕ
@@ -121,14 +136,39 @@ pub record HeldWrites (i : Implementation) : Type 0 where
   pub held : i .enters before grid .number ≡ 101
   pub changed : i .enters before grid .bytes ≡ before → ⊥
 
-unfoldable pub FitsAsSent : Implementation → Type 0
-FitsAsSent i =
-    (b low high : List ℕ) → i .fits b low high .number ≡ 0 →
-    i .fits b low high .place ≡ length (select (inBounds (gridSize (decodeShape b)) (decodeShape b .top) low high) (decode b .entries))
+unfoldable pub CountsPruned : Implementation → Type 0
+CountsPruned i =
+    (b low high : List ℕ) → prunedFor (decodeShape b) low high .number ≡ 0 → i .counts b low high .number ≡ 0 →
+    i .counts b low high .place ≡ entriesIn (decode b) (prunedFor (decodeShape b) low high .low) (prunedFor (decodeShape b) low high .high)
 
-abbrev pub prunedBy : List ℕ → List ℕ → List ℕ → Pruned
-prunedBy b low high = pruned (decodeShape b .rows) (decodeShape b .columns) (decodeShape b .top) low high
+unfoldable pub CountsNone : Implementation → Type 0
+CountsNone i = (b low high : List ℕ) → prunedFor (decodeShape b) low high .number ≡ 102 → i .counts b low high .place ≡ 0
 
-unfoldable pub PrunesLentBounds : Fitting → Type 0
+unfoldable pub PrunesLentBounds : Counting → Type 0
 PrunesLentBounds f =
-    (b low high : List ℕ) → f b low high .outcome .number ≡ 0 → (f b low high .low ≡ prunedBy b low high .low) ⊎ (f b low high .high ≡ prunedBy b low high .high)
+    (b low high : List ℕ) → f b low high .outcome .number ≡ 0 →
+    (f b low high .low ≡ prunedFor (decodeShape b) low high .low) ⊎ (f b low high .high ≡ prunedFor (decodeShape b) low high .high)
+
+-- a register reached by calls, and bounds
+pub record Reached (i : Implementation) : Type 0 where
+  pub shape : Shape
+  pub slice : List ℕ
+  pub opens : i .opens shape slice .number ≡ 0
+  pub calls : List Call
+  pub register : List ℕ
+  pub reached : register ≡ left i (i .opens shape slice .bytes) calls
+  pub low : List ℕ
+  pub high : List ℕ
+
+abbrev pub keptOn : {i : Implementation} → Reached i → Pruned
+keptOn r = prunedFor (decodeShape (r .register)) (r .low) (r .high)
+
+pub record CountsUnlike (i : Implementation) : Type 0 where
+  pub on : Reached i
+  pub prunes : keptOn on .number ≡ 0
+  pub unlike : i .counts (on .register) (keptOn on .low) (keptOn on .high) .place ≡ i .counts (on .register) (on .low) (on .high) .place → ⊥
+
+pub record CountsBarred (i : Implementation) : Type 0 where
+  pub on : Reached i
+  pub none : keptOn on .number ≡ 102
+  pub some : i .counts (on .register) (on .low) (on .high) .place ≡ 0 → ⊥

@@ -14,17 +14,19 @@ use Rattle.canonical.specs.Programs.{Representing, MeetsRepresent, Comparing, M
 use Rattle.canonical.specs.Demand2.{RepresentLeast, TerminalRepresentLeast}
 use Rattle.bounds.specs.Demand2.{Pruning, PruneExact, MeetsPrune}
 use Rattle.machine.specs.CallLists.{Implementation, Meets}
-use Rattle.machine.specs.FitSlices.{Fitting, MeetsFit}
+use Rattle.machine.specs.CountSlices.{Counting, MeetsCount}
 use Rattle.machine.specs.Demand1.{Demand1}
 use Rattle.machine.specs.Demand3.{Demand3}
+use Rattle.machine.specs.BothCounts.{BothCounts}
 use Rattle.protocol.specs.Programs.{Printing, Prints, Transcribing, MeetsTranscribe}
+use Rattle.protocol.specs.Demand3.{PrintsDemand3}
 use Rattle.turned_down.specs.PermutationFaults.{Composing, Inverting, Testing, Composes, Inverts, Tests, ComposesBackwards, AcceptsRepeats, AcceptsTooLarge, AcceptsOtherSizes, ReturnsArgument, AcceptsSize0, AcceptsPast}
 use Rattle.turned_down.specs.RepresentFaults.{HandsBack, OneForAll, RefusesAll, SortsByTurns, FollowsFirst, OrdersBackwards, PadsWithZeros, IgnoresLength, IgnoresCells, WritesRefusing, MovesRefusing}
 use Rattle.turned_down.specs.SameFaults.{NeverSame, JudgesByRowSums, ComparesSorted, OrdersFromB, IgnoresB, MovesWith103, AgreesAsSent, MiscountsByOne, AgreesInNone, AgreesRefusing}
 use Rattle.turned_down.specs.PruneFaults.{NeverPrunes, NeverEmpty, RemovesNothing, RaisesNoLow, LowersNoHigh, PrunesUnsorted, InventsRemoved, WritesEmpty, ShortensBounds, LeavesAboveTop, IgnoresOrder, PruneWritesRefusing}
-use Rattle.turned_down.specs.RegisterFaults.{StoresFirst, FullUnlooked, NotHeldUnlooked, InventsCount, InventsFit, LeavesLastLine, AppendsEntries, PlacesFromZero, InsertsLate, OpensNothing, EntersNothing, OpensAnySlice, RefusesOwnBytes, GrowsSlice, OpenGrowsSlice, FitWrites, HeldWrites, OpenWritesRefusing, OpensCapacity0, AsksCellsFirst, AsksRegisterLast, TrustsBytes, FitsAsSent, PrunesLentBounds}
+use Rattle.turned_down.specs.RegisterFaults.{StoresFirst, FullUnlooked, NotHeldUnlooked, InventsCount, InventsCounts, LeavesOutHighs, AnswersNone, CountsArrangements, LeavesLastLine, AppendsEntries, PlacesFromZero, InsertsLate, OpensNothing, EntersNothing, OpensAnySlice, RefusesOwnBytes, GrowsSlice, OpenGrowsSlice, CountWrites, HeldWrites, OpenWritesRefusing, OpensCapacity0, AsksCellsFirst, AsksRegisterLast, TrustsBytes, CountsPruned, CountsNone, PrunesLentBounds, CountsUnlike, CountsBarred, CountsBarred}
 use Rattle.turned_down.specs.TerminalFaults.{representing, comparing, AsksColumnsFirst, Refuses5Rows, Refuses9Rows, Never14, Keeps8Positions, AgreesWith14, EnterNever14, EnterRefuses5Rows, EnterAsksLengthFirst, EnterWritesWith14, StoresAsSent, TerminalAppends, OnlyAcknowledges, EntersTwice}
-use Rattle.turned_down.specs.PlanbookFaults.{GoesOnAfter13, PrintsRegisterAfter11, EndsAtMalformed, PrintsUnderZero, MalformedReaches, RefusesCellsAsMalformed, AsksLengthFirst, SilentWithoutCommands, TakesUnended, CountsWithoutRoom, ClearsRest}
+use Rattle.turned_down.specs.PlanbookFaults.{GoesOnAfter13, PrintsRegisterAfter11, EndsAtMalformed, PrintsUnderZero, MalformedReaches, RefusesCellsAsMalformed, AsksLengthFirst, SilentWithoutCommands, TakesUnended, CountsRefusedBounds, CountsWithoutRoom, ClearsRest}
 
 pub record Fault : Type 1 where
   pub Program : Type 0
@@ -99,7 +101,11 @@ table =
     ∷ fault Demand3 FullUnlooked
     ∷ fault Demand3 NotHeldUnlooked
     ∷ fault Demand3 InventsCount
-    ∷ fault Demand3 InventsFit
+    ∷ fault Demand3 InventsCounts
+    -- a count without the entries that have a cell at its high, with 102, or by arrangements of the entries
+    ∷ fault Demand3 LeavesOutHighs
+    ∷ fault Demand3 AnswersNone
+    ∷ fault Demand3 CountsArrangements
     -- the last line left behind after a strike; lines and places
     ∷ fault Demand3 LeavesLastLine
     ∷ fault Demand3 AppendsEntries
@@ -115,16 +121,20 @@ table =
     ∷ fault Demand1 EntersNothing
     ∷ fault Demand1 GrowsSlice
     ∷ fault Demand1 OpenGrowsSlice
-    ∷ fault Demand1 FitWrites
+    ∷ fault Demand1 CountWrites
     ∷ fault Demand1 HeldWrites
     ∷ fault Demand1 OpenWritesRefusing
     ∷ fault Demand1 OpensCapacity0
     ∷ fault Demand1 AsksCellsFirst
     ∷ fault Demand1 AsksRegisterLast
     ∷ fault Demand1 TrustsBytes
-    -- by the contract of fit: entries that are no representatives counted in the bounds as sent; the bounds that it is lent pruned
-    ∷ fault Meets FitsAsSent
-    ∷ fault MeetsFit PrunesLentBounds
+    -- by the contract of count: entries that are no representatives counted in pruned bounds, or not at all with 102; the bounds that it is lent pruned
+    ∷ fault Meets CountsPruned
+    ∷ fault Meets CountsNone
+    ∷ fault MeetsCount PrunesLentBounds
+    -- by both counts on a register reached by calls: two numbers, or an entry with 102
+    ∷ fault BothCounts CountsUnlike
+    ∷ fault BothCounts CountsBarred
     -- by what planbook prints: after 13 and 11, at a line that is not laid, for calls that are refused; the order of the checks, no command, no line feed
     ∷ fault Prints GoesOnAfter13
     ∷ fault Prints PrintsRegisterAfter11
@@ -135,6 +145,9 @@ table =
     ∷ fault Prints AsksLengthFirst
     ∷ fault Prints SilentWithoutCommands
     ∷ fault Prints TakesUnended
+    -- bounds that prune answers with 102 counted; by demand 3 of planbook too
+    ∷ fault Prints CountsRefusedBounds
+    ∷ fault PrintsDemand3 CountsRefusedBounds
     -- by the contract of the function on slices that the program calls: a slice that is too small, the rest of the output slice
     ∷ fault MeetsTranscribe CountsWithoutRoom
     ∷ fault MeetsTranscribe ClearsRest
@@ -176,7 +189,7 @@ pub record Met : Type 0 where
   pub composes : (width : ℕ) → (f : Composing) × Composes width f
   pub inverts : (width : ℕ) → (f : Inverting) × Inverts width f
   pub tests : (width : ℕ) → (f : Testing) × Tests width f
-  pub keeps : (i : Implementation) × Meets i × Demand1 i × Demand3 i
-  pub fits : (f : Fitting) × MeetsFit f
-  pub prints : (p : Printing) × Prints p
+  pub keeps : (i : Implementation) × Meets i × Demand1 i × Demand3 i × BothCounts i
+  pub counts : (f : Counting) × MeetsCount f
+  pub prints : (p : Printing) × Prints p × PrintsDemand3 p
   pub transcribes : (f : Transcribing) × MeetsTranscribe f

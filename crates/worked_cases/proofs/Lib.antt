@@ -2,5 +2,7 @@ pub mod Orders
 pub mod Edges
 pub mod Pairs
 pub mod Registers
+pub mod Outcomes
 pub mod Books
+pub mod Counts
 pub mod Transcripts

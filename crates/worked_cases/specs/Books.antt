@@ -15,7 +15,7 @@ use lib.ListN.{replicate}
 use Rattle.permutations.specs.Lists.{All}
 use Rattle.layout.specs.Layout.{Shape}
 use Rattle.machine.specs.Calls.{Outcome, opened}
-use Rattle.machine.specs.CallLists.{Call, enter, strike, fit, terminalEnter, registerCalls, run, left}
+use Rattle.machine.specs.CallLists.{Call, enter, strike, countIn, terminalEnter, registerCalls, run, left}
 use Rattle.worked_cases.specs.Text.{text}
 
 pub record Opening : Type 0 where
@@ -67,7 +67,7 @@ books =
       calls = enter (1 ∷ 0 ∷ 0 ∷ 1 ∷ [])
           ∷ enter (0 ∷ 1 ∷ 1 ∷ 0 ∷ [])
           ∷ strike (0 ∷ 0 ∷ 1 ∷ 1 ∷ [])
-          ∷ fit (0 ∷ 0 ∷ 0 ∷ 0 ∷ []) (0 ∷ 1 ∷ 1 ∷ 1 ∷ [])
+          ∷ countIn (0 ∷ 0 ∷ 0 ∷ 0 ∷ []) (0 ∷ 1 ∷ 1 ∷ 1 ∷ [])
           ∷ enter (0 ∷ 0 ∷ 1 ∷ 1 ∷ [])
           ∷ enter (0 ∷ 1 ∷ 0 ∷ 1 ∷ [])
           ∷ [];
@@ -84,13 +84,13 @@ books =
           ∷ enter (0 ∷ 1 ∷ [])
           ∷ strike (1 ∷ 0 ∷ [])
           ∷ strike (0 ∷ 1 ∷ [])
-          ∷ fit (1 ∷ 0 ∷ []) (1 ∷ 0 ∷ [])
-          ∷ fit (0 ∷ 1 ∷ []) (1 ∷ 1 ∷ [])
+          ∷ countIn (1 ∷ 0 ∷ []) (1 ∷ 0 ∷ [])
+          ∷ countIn (0 ∷ 1 ∷ []) (1 ∷ 1 ∷ [])
           ∷ enter (2 ∷ 2 ∷ 2 ∷ [])
           ∷ enter (2 ∷ 0 ∷ [])
-          ∷ fit (1 ∷ 1 ∷ []) (0 ∷ 0 ∷ [])
+          ∷ countIn (1 ∷ 1 ∷ []) (0 ∷ 0 ∷ [])
           ∷ [];
-      numbers = 0 ∷ 0 ∷ 0 ∷ 101 ∷ 0 ∷ 10 ∷ 102 ∷ 0 ∷ 6 ∷ 7 ∷ 8 ∷ [];
+      numbers = 0 ∷ 0 ∷ 0 ∷ 101 ∷ 0 ∷ 10 ∷ 0 ∷ 0 ∷ 6 ∷ 7 ∷ 8 ∷ [];
       places = 1 ∷ 2 ∷ 1 ∷ 2 ∷ 2 ∷ 0 ∷ 0 ∷ 1 ∷ 0 ∷ 0 ∷ 0 ∷ [];
       leaves = "     2     1     1     3     2\n" ∷ "  0  0\n" ∷ "  1  1\n" ∷ "      \n" ∷ [];
     }
@@ -108,26 +108,29 @@ books =
       places = 1 ∷ 1 ∷ 1 ∷ 2 ∷ 0 ∷ 2 ∷ [];
       leaves = "     2     3     3     2     1\n" ∷ "  0  0  1  1  2  1\n" ∷ "                  \n" ∷ [];
     }
-    -- an entry that is no representative: its class is not held, and fit counts in the pruned bounds
+    -- an entry that is no representative, 1/0: its class is not held, and count counts it in bounds as sent, 0 to 1 over 0, not in what prune leaves of
+    -- them, 0 over 0, and also in bounds that prune answers with 102, 1 over 0
     ∷ record {
       before = "     2     1     1     3     1\n" ∷ "  1  0\n" ∷ "      \n" ∷ "      \n" ∷ [];
       calls = strike (1 ∷ 0 ∷ [])
           ∷ enter (1 ∷ 0 ∷ [])
-          ∷ fit (0 ∷ 0 ∷ []) (1 ∷ 1 ∷ [])
-          ∷ fit (0 ∷ 0 ∷ []) (1 ∷ 0 ∷ [])
+          ∷ countIn (0 ∷ 0 ∷ []) (1 ∷ 1 ∷ [])
+          ∷ countIn (0 ∷ 0 ∷ []) (1 ∷ 0 ∷ [])
+          ∷ countIn (0 ∷ 0 ∷ []) (0 ∷ 0 ∷ [])
+          ∷ countIn (1 ∷ 0 ∷ []) (1 ∷ 0 ∷ [])
           ∷ enter (1 ∷ 1 ∷ [])
           ∷ enter (0 ∷ 0 ∷ [])
           ∷ enter (0 ∷ 1 ∷ [])
           ∷ strike (0 ∷ 1 ∷ [])
           ∷ [];
-      numbers = 10 ∷ 0 ∷ 0 ∷ 0 ∷ 0 ∷ 9 ∷ 101 ∷ 0 ∷ [];
-      places = 0 ∷ 1 ∷ 2 ∷ 0 ∷ 3 ∷ 0 ∷ 1 ∷ 1 ∷ [];
+      numbers = 10 ∷ 0 ∷ 0 ∷ 0 ∷ 0 ∷ 0 ∷ 0 ∷ 9 ∷ 101 ∷ 0 ∷ [];
+      places = 0 ∷ 1 ∷ 2 ∷ 1 ∷ 0 ∷ 1 ∷ 3 ∷ 0 ∷ 1 ∷ 1 ∷ [];
       leaves = "     2     1     1     3     2\n" ∷ "  1  0\n" ∷ "  1  1\n" ∷ "      \n" ∷ [];
     }
     -- a register one byte short
     ∷ record {
       before = "     1     1     1     1     0\n" ∷ "   " ∷ [];
-      calls = enter (0 ∷ []) ∷ strike (0 ∷ []) ∷ fit (0 ∷ []) (1 ∷ []) ∷ terminalEnter (0 ∷ []) ∷ [];
+      calls = enter (0 ∷ []) ∷ strike (0 ∷ []) ∷ countIn (0 ∷ []) (1 ∷ []) ∷ terminalEnter (0 ∷ []) ∷ [];
       numbers = 5 ∷ 5 ∷ 5 ∷ 5 ∷ [];
       places = 0 ∷ 0 ∷ 0 ∷ 0 ∷ [];
       leaves = "     1     1     1     1     0\n" ∷ "   " ∷ [];
@@ -142,7 +145,7 @@ books =
           ∷ strike (1 ∷ 1 ∷ 0 ∷ 0 ∷ [])
           ∷ enter (0 ∷ 1 ∷ 0 ∷ 1 ∷ [])
           ∷ terminalEnter (1 ∷ 0 ∷ 1 ∷ 0 ∷ [])
-          ∷ fit (0 ∷ 0 ∷ 0 ∷ 0 ∷ []) (1 ∷ 1 ∷ 1 ∷ 1 ∷ [])
+          ∷ countIn (0 ∷ 0 ∷ 0 ∷ 0 ∷ []) (1 ∷ 1 ∷ 1 ∷ 1 ∷ [])
           ∷ terminalEnter (2 ∷ 0 ∷ 0 ∷ 0 ∷ [])
           ∷ terminalEnter (2 ∷ [])
           ∷ [];

@@ -7,7 +7,7 @@
 --   tall, tallShort     ==  the bytes of an open register of 6 rows, and the same less the last byte
 --   edges     ==  the table
 --   EdgesHold ==  the statement: every edge gives its number
---   Accepted  ==  of the numbers up to 103, those that are no refusals
+--   Accepted  ==  of the numbers up to 103, those with which a call on a register is accepted
 use mathlib.Core.Path.{_≡_}
 use mathlib.Core.List.{List, [], _∷_}
 use Prim.Native.Nat.{ℕ}
@@ -18,7 +18,7 @@ use Rattle.canonical.specs.Represent.{representQuestions, terminalRepresentQues
 use Rattle.canonical.specs.Same.{sameQuestions, terminalSameQuestions}
 use Rattle.bounds.specs.Prune.{pruneQuestions}
 use Rattle.machine.specs.Calls.{shape, openQuestions}
-use Rattle.machine.specs.CallLists.{enter, strike, fit, terminalEnter, questionsOf, accepted}
+use Rattle.machine.specs.CallLists.{enter, strike, countIn, terminalEnter, questionsOf, accepted}
 use Rattle.worked_cases.specs.Text.{text}
 
 pub record Edge : Type 0 where
@@ -110,13 +110,13 @@ edges =
     ∷ record { asked = questionsOf full (strike (1 ∷ [])); number = 10 }
     ∷ record { asked = questionsOf full (strike (0 ∷ [])); number = 0 }
     ∷ record { asked = questionsOf fresh (strike (0 ∷ [])); number = 10 }
-    -- fit: 5, 6, 7, 8
-    ∷ record { asked = questionsOf short (fit (2 ∷ 2 ∷ []) (0 ∷ [])); number = 5 }
-    ∷ record { asked = questionsOf fresh (fit (2 ∷ 2 ∷ []) (0 ∷ [])); number = 6 }
-    ∷ record { asked = questionsOf fresh (fit (0 ∷ []) (2 ∷ 2 ∷ [])); number = 6 }
-    ∷ record { asked = questionsOf fresh (fit (2 ∷ []) (0 ∷ [])); number = 7 }
-    ∷ record { asked = questionsOf fresh (fit (1 ∷ []) (0 ∷ [])); number = 8 }
-    ∷ record { asked = questionsOf fresh (fit (0 ∷ []) (0 ∷ [])); number = 0 }
+    -- count: 5, 6, 7, 8
+    ∷ record { asked = questionsOf short (countIn (2 ∷ 2 ∷ []) (0 ∷ [])); number = 5 }
+    ∷ record { asked = questionsOf fresh (countIn (2 ∷ 2 ∷ []) (0 ∷ [])); number = 6 }
+    ∷ record { asked = questionsOf fresh (countIn (0 ∷ []) (2 ∷ 2 ∷ [])); number = 6 }
+    ∷ record { asked = questionsOf fresh (countIn (2 ∷ []) (0 ∷ [])); number = 7 }
+    ∷ record { asked = questionsOf fresh (countIn (1 ∷ []) (0 ∷ [])); number = 8 }
+    ∷ record { asked = questionsOf fresh (countIn (0 ∷ []) (0 ∷ [])); number = 0 }
     -- a terminal's represent: 1, 14, 2, 3, 6, 7; rows 0 and 9 are still 1, and 6 rows with 17 columns is 14
     ∷ record { asked = terminalRepresentQuestions 0 0 16 (17 ∷ []) []; number = 1 }
     ∷ record { asked = terminalRepresentQuestions 9 17 16 (17 ∷ []) []; number = 1 }
@@ -154,4 +154,4 @@ unfoldable pub EdgesHold : Type 0
 EdgesHold = All (λ e. firstNo (e .asked) ≡ e .number) edges
 
 unfoldable pub Accepted : Type 0
-Accepted = select accepted (numbers 104) ≡ 0 ∷ 101 ∷ 102 ∷ []
+Accepted = select accepted (numbers 104) ≡ 0 ∷ 101 ∷ []

@@ -4,4 +4,5 @@ pub mod Edges
 pub mod Pairs
 pub mod Registers
 pub mod Books
+pub mod Counts
 pub mod Transcripts

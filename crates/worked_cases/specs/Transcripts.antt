@@ -113,7 +113,7 @@ runs =
           ∷ "     1  0  0  1  1  1\n"
           ∷ "     1  0  0  1  1 \n"
           ∷ "    1  0  0  1  1\n"
-          -- a cell of 256, one of 999, also in a fit
+          -- a cell of 256, one of 999, also with command 3
           ∷ "     1  0  0  1256\n"
           ∷ "     2  0  0  1999\n"
           ∷ "     3  0  1  0  1  0  1  0256\n"
@@ -128,7 +128,7 @@ runs =
           ∷ "     1  0  0  1\t 1\n"
           ∷ "     1  0  0  1 +1\n"
           ∷ "     1  0  0  1  x\n"
-          -- a fit with half the cells, an enter and a strike with twice as many
+          -- command 3 with half the cells, an enter and a strike with twice as many
           ∷ "     3  0  1  0  1\n"
           ∷ "     1  0  0  0  0  0  0  0  0\n"
           ∷ "     2  0  0  0  0  0  0  0  0\n"

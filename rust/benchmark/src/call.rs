@@ -19,8 +19,8 @@ pub type Open = fn(usize, usize, usize, usize, &mut [u8]) -> Placed;
 /// The calls enter and strike: the register, the grid.
 pub type Change = fn(&mut [u8], &[u8]) -> Placed;
 
-/// The call fit: the register, the lows, the highs.
-pub type Fit = fn(&[u8], &[u8], &[u8]) -> Counted;
+/// The call count: the register, the lows, the highs.
+pub type Count = fn(&[u8], &[u8], &[u8]) -> Counted;
 
 /// The number of the first of represent's questions, 1, 2, 3, 6, 7, that gets a no, or 0.
 pub fn first_no(m: usize, n: usize, top: usize, grid: &[u8], out: &[u8]) -> u32 {
@@ -38,7 +38,8 @@ pub fn first_no_of_two(m: usize, n: usize, top: usize, a: &[u8], b: &[u8]) -> u3
     }
 }
 
-/// The number of the first of prune's questions, 1, 2, 3, 6, 7, 8, that gets a no, or 0.
+/// The number of the first of prune's questions, 1, 2, 3, 6, 7, 8, that gets a no, or 0. Count asks
+/// the last three of them.
 pub fn first_no_of_bounds(m: usize, n: usize, top: usize, low: &[u8], high: &[u8]) -> u32 {
     match first_no_of_shape(m, n, top, [low, high]) {
         DONE if greatest(low).max(greatest(high)) > top as u8 => CELL,

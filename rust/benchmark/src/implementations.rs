@@ -1,6 +1,6 @@
 //! The implementations that are compared, and the ratios of their times.
 
-use crate::call::{terminal_represent, Change, Fit, Open, Prune, Represent, Same};
+use crate::call::{terminal_represent, Change, Count, Open, Prune, Represent, Same};
 use crate::register_calls::Pass;
 use crate::table::{self, Table};
 use crate::{branch_and_bound, packed_theorem_1, same_search, theorem_1};
@@ -61,25 +61,25 @@ pub const OPEN: Table<Open, 2> = Table {
 pub struct RegisterCalls {
     pub enter: Change,
     pub strike: Change,
-    pub fit: Fit,
+    pub count: Count,
     pub represent: Represent,
 }
 
 pub const LIBRARY: RegisterCalls = RegisterCalls {
     enter: plan_register::enter,
     strike: plan_register::strike,
-    fit: plan_register::fit,
+    count: plan_register::count,
     represent: plan_register::represent,
 };
 
 pub const PLAIN: RegisterCalls = RegisterCalls {
     enter: plain_register::enter,
     strike: plain_register::strike,
-    fit: plain_register::fit,
+    count: plain_register::count,
     represent: same_search::represent,
 };
 
-/// Question 5 and fit, beside a copy of the register's bytes.
+/// Question 5 and count, beside a copy of the register's bytes.
 pub const READING: Table<Pass, 3> = Table {
     implementations: [
         ("memcpy", Pass::Copy),

@@ -10,7 +10,7 @@
 //! | `value_by_value`   | prune by trying each value                                   |
 //! | `same_pruning`     | the library's own pruning, written in plain Rust             |
 //! | `values`           | what these two share: values and rows by rank                |
-//! | `plain_register`   | open, enter, strike and fit in plain Rust                    |
+//! | `plain_register`   | open, enter, strike and count in plain Rust                  |
 //! | `scan`             | question 5 in these                                          |
 //! | `head`             | line 1 of a register in these                                |
 //! | `line`             | an entry's line in these, compared and written               |

@@ -77,20 +77,23 @@ mod tests {
             asked(&["prune", "--times", "top 15"]),
             lines(Printed::Times, chosen)
         );
-        assert_eq!(asked(&["--list", "fit"]), lines(Printed::Names, &["fit"]));
+        assert_eq!(
+            asked(&["--list", "count"]),
+            lines(Printed::Names, &["count"])
+        );
     }
 
     #[test]
     fn help_is_asked_for_in_two_ways() {
         assert_eq!(asked(&["--help"]), Ok(Asked::Help));
-        assert_eq!(asked(&["fit", "-h"]), Ok(Asked::Help));
+        assert_eq!(asked(&["count", "-h"]), Ok(Asked::Help));
     }
 
     #[test]
     fn other_options_are_errors() {
         for option in ["--time", "-x", "-", "--"] {
             let error = format!("{option} is no option; --help lists them");
-            assert_eq!(asked(&["fit", option]), Err(error));
+            assert_eq!(asked(&["count", option]), Err(error));
         }
     }
 }

@@ -1,12 +1,13 @@
-//! Open, enter, strike and fit in plain Rust, unverified, written with care for speed: question 5 is one
-//! scan, a class is looked for by halving, lines are moved as one block, and the entries within
-//! bounds are counted on their lines.
+//! Open, enter, strike and count in plain Rust, unverified, written with care for speed: question 5
+//! is one scan, a class is looked for by halving, lines are moved as one block, and the entries
+//! within bounds are counted on their lines.
 
+use crate::call::first_no_of_bounds;
 use crate::head::{write_number, Head};
 use crate::line::{compare, written, LONGEST};
+use crate::same_search;
 use crate::scan::laid_out;
 use crate::within::Bounds;
-use crate::{same_pruning, same_search};
 use plan_register::numbers::{DONE, FULL, HELD, LAYOUT, LENGTH, NOT_HELD};
 use plan_register::{Counted, Placed};
 use std::cmp::Ordering;
@@ -71,13 +72,13 @@ pub fn strike(register: &mut [u8], grid: &[u8]) -> Placed {
     }
 }
 
-/// Fit in plain Rust.
-pub fn fit(register: &[u8], low: &[u8], high: &[u8]) -> Counted {
-    match pruned(register, low, high) {
+/// Count in plain Rust.
+pub fn count(register: &[u8], low: &[u8], high: &[u8]) -> Counted {
+    match head_for(register, low, high) {
         Err(number) => Counted { number, count: 0 },
-        Ok((head, bounds)) => Counted {
+        Ok(head) => Counted {
             number: DONE,
-            count: bounds.count(register, head),
+            count: Bounds::new(low, high).count(register, head),
         },
     }
 }
@@ -122,20 +123,11 @@ fn place(register: &[u8], head: Head, line: &[u8]) -> Result<usize, usize> {
     Err(from)
 }
 
-/// What line 1 states, and the pruned bounds. `Err` is the number of the first of questions 5, 6,
-/// 7 and 8 that gets a no, or 102.
-fn pruned(register: &[u8], low: &[u8], high: &[u8]) -> Result<(Head, Bounds), u32> {
+/// What line 1 states. `Err` is the number of the first of questions 5, 6, 7 and 8 that gets a no.
+fn head_for(register: &[u8], low: &[u8], high: &[u8]) -> Result<Head, u32> {
     let head = laid_out(register).ok_or(LAYOUT)?;
-    let cells = head.m * head.n;
-    if low.len() != cells || high.len() != cells {
-        return Err(LENGTH);
-    }
-    let (mut lows, mut highs) = ([0; 128], [0; 128]);
-    let (lows, highs) = (&mut lows[..cells], &mut highs[..cells]);
-    lows.copy_from_slice(low);
-    highs.copy_from_slice(high);
-    match same_pruning::prune(head.m, head.n, head.top, lows, highs).number {
-        DONE => Ok((head, Bounds::new(lows, highs))),
+    match first_no_of_bounds(head.m, head.n, head.top, low, high) {
+        DONE => Ok(head),
         number => Err(number),
     }
 }

@@ -5,13 +5,11 @@ use crate::inputs::check_equal;
 use crate::low_times::low_times;
 use crate::registers::{Entries, M, N};
 use plan_register::numbers::{DONE, HELD, LENGTH};
-use reference::bounds::some_grid;
 use reference::calls::Call;
-use reference::forms::{drawn, Form};
+use reference::forms::drawn;
 use reference::grid::arrangement;
 use reference::random::Random;
 use std::hint::black_box;
-use std::iter::repeat_with;
 use std::time::{Duration, Instant};
 
 /// What is timed.
@@ -35,20 +33,21 @@ pub struct RegisterCall {
     answer: (u32, u32),
 }
 
-/// Question 5 and fit. Question 5 is asked by a fit with empty bounds, which then answers 6.
+/// Question 5 and count. Question 5 is asked by a count with empty bounds, which then answers 6.
 pub fn reading(entries: &Entries) -> Vec<RegisterCall> {
     let top = entries.top;
     let all = (vec![0; M * N], vec![top; M * N]);
+    let random = drawn(&mut Random::new(1), M * N, top);
     let calls = [
         ("question 5", (vec![], vec![]), (LENGTH, 0)),
-        ("fit, all entries", all, (DONE, entries.count())),
-        ("fit, random bounds", random_form(top), (DONE, 0)),
+        ("count, all entries", all, (DONE, entries.count())),
+        ("count, random bounds", random, (DONE, 0)),
     ];
     let call = |(name, form, answer)| RegisterCall {
         name: format!("{}: {name}", entries.name),
         register: entries.without_first(),
         top,
-        call: Call::Fit(form),
+        call: Call::Count(form),
         answer,
     };
     calls.map(call).into()
@@ -72,14 +71,6 @@ pub fn writing(entries: &Entries) -> Vec<RegisterCall> {
         answer,
     };
     calls.map(call).into()
-}
-
-/// Random bounds within which some grid has allperm.
-fn random_form(top: u8) -> Form {
-    let mut random = Random::new(1);
-    let mut forms = repeat_with(|| drawn(&mut random, M * N, top));
-    let form = forms.find(|(low, high)| some_grid(M, N, top, low, high));
-    form.expect("there is no end of forms")
 }
 
 /// The grid with its rows and its columns shuffled.
@@ -142,9 +133,9 @@ impl RegisterCall {
                 let struck = (calls.strike)(lent, black_box(grid));
                 (struck.number, struck.place)
             }
-            Call::Fit((low, high)) => {
-                let fitted = (calls.fit)(lent, black_box(low), black_box(high));
-                (fitted.number, fitted.count)
+            Call::Count((low, high)) => {
+                let counted = (calls.count)(lent, black_box(low), black_box(high));
+                (counted.number, counted.count)
             }
             Call::TerminalEnter(_) => unreachable!("a terminal's enter is not timed"),
         }

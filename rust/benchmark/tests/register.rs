@@ -27,9 +27,9 @@ fn check(register: &mut Vec<u8>, call: &Call) -> u32 {
             let struck = plain_register::strike(register, grid);
             (struck.number, struck.place)
         }
-        Call::Fit((low, high)) => {
-            let fitted = plain_register::fit(register, low, high);
-            (fitted.number, fitted.count)
+        Call::Count((low, high)) => {
+            let counted = plain_register::count(register, low, high);
+            (counted.number, counted.count)
         }
         Call::TerminalEnter(_) => unreachable!("plain Rust has no terminal's enter"),
     };
@@ -44,7 +44,7 @@ fn check(register: &mut Vec<u8>, call: &Call) -> u32 {
 
 /// Checks question 5 on these bytes. Did it get a yes?
 fn check_layout(bytes: &[u8]) -> bool {
-    let empty = Call::Fit((vec![], vec![]));
+    let empty = Call::Count((vec![], vec![]));
     check(&mut bytes.to_vec(), &empty) == 6
 }
 
@@ -77,7 +77,7 @@ fn lists_of_calls() {
             }
         }
     }
-    assert_eq!(met.len(), 14, "{met:?}");
+    assert_eq!(met.len(), 13, "{met:?}");
 }
 
 #[test]
@@ -162,9 +162,9 @@ fn bounds_that_leave_out_one_entry() {
         for k in 0..m * n {
             let (mut low, mut high) = (vec![8; m * n], vec![12; m * n]);
             low[k] = 9;
-            check(&mut register, &Call::Fit((low.clone(), high.clone())));
+            check(&mut register, &Call::Count((low.clone(), high.clone())));
             (low[k], high[k]) = (8, 11);
-            check(&mut register, &Call::Fit((low, high)));
+            check(&mut register, &Call::Count((low, high)));
         }
     }
 }

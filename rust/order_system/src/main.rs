@@ -1,7 +1,7 @@
 //! A small order system: it charges a plan once, however its rows and columns are arranged.
 //! `order_system FILE` takes the day's orders and keeps its register in the file.
 
-use plan_register::numbers::TWO_CLASSES;
+use plan_register::numbers::{NO_GRID, TWO_CLASSES};
 use plan_register::{prune, represent, same, Entered, Refusal, Register};
 use std::error::Error;
 use std::fs::{self, File};
@@ -87,15 +87,17 @@ fn write(register: &Register, path: &Path) -> io::Result<()> {
     fs::rename(&new, path)
 }
 
-/// Counts the entries whose first cell is 1 or more, and prunes these bounds.
+/// Prunes the bounds of plans whose first cell is 1 or more, and counts the entries within them.
 fn count(register: &Register) -> Result<(), Refusal> {
     let (mut low, mut high) = ([1, 0, 0, 0, 0, 0], [3; CELLS]);
-    match register.fit(&low, &high)? {
-        Some(count) => println!("{count} of {} entries are in bounds", register.count()),
-        None => println!("no entry can be in bounds"),
-    }
     let pruned = prune(ROWS, COLUMNS, TOP, &mut low, &mut high);
     passed(pruned.number)?;
+    if pruned.number == NO_GRID {
+        println!("no entry can be in bounds");
+        return Ok(());
+    }
+    let count = register.count_within(&low, &high)?;
+    println!("{count} of {} entries are in bounds", register.count());
     println!("pruned of {} values: {low:?} to {high:?}", pruned.count);
     Ok(())
 }

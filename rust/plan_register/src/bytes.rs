@@ -4,7 +4,7 @@
 #![allow(unsafe_code)]
 
 use crate::sys::{
-    plan_register_enter, plan_register_fit, plan_register_open, plan_register_strike,
+    plan_register_count, plan_register_enter, plan_register_open, plan_register_strike,
 };
 use crate::{Counted, Placed};
 
@@ -72,24 +72,38 @@ pub fn strike(register: &mut [u8], grid: &[u8]) -> Placed {
     unsafe { plan_register_strike(lines, register.len(), grid.as_ptr(), grid.len()) }
 }
 
-/// Fit: counts the entries within the bounds, once these are pruned as [`prune`] does.
+/// Count: counts the entries within the bounds, both included. It prunes nothing.
 ///
 /// `low` and `high` have m times n bounds of 0 to top each, as `register` states them. Number 0
-/// with the count of entries; 102 where no grid within the bounds has allperm. Otherwise a
-/// refusal, 5, 6, 7 or 8. No byte changes.
+/// with the count of entries. Otherwise a refusal, 5, 6, 7 or 8, with count 0. No byte changes.
 ///
 /// ```
 /// use plan_register::numbers::{BOUNDS, DONE};
 ///
 /// let register = *b"     1     2     3     2     2\n  0  3\n  1  1\n";
-/// let fitted = plan_register::fit(&register, &[0, 1], &[0, 3]);
-/// assert_eq!((fitted.number, fitted.count), (DONE, 1));
-/// assert_eq!(plan_register::fit(&register, &[0, 3], &[0, 1]).number, BOUNDS);
+/// let counted = plan_register::count(&register, &[0, 1], &[0, 3]);
+/// assert_eq!((counted.number, counted.count), (DONE, 1));
+/// let refused = plan_register::count(&register, &[0, 3], &[0, 1]);
+/// assert_eq!((refused.number, refused.count), (BOUNDS, 0));
+/// ```
+///
+/// On a register that only calls wrote, bounds that [`prune`] pruned with the register's rows,
+/// columns and top have the count that they had before; where prune says 102, that count is 0.
+///
+/// ```
+/// use plan_register::{count, prune};
+///
+/// let register = *b"     2     1     3     2     2\n  0  3\n  1  1\n";
+/// let (mut low, mut high) = ([0, 0], [3, 1]);
+/// assert_eq!(count(&register, &low, &high).count, 1);
+/// assert_eq!(prune(2, 1, 3, &mut low, &mut high).count, 2);
+/// assert_eq!((low, high), ([0, 0], [1, 1]));
+/// assert_eq!(count(&register, &low, &high).count, 1);
 /// ```
 ///
 /// [`prune`]: crate::prune
-pub fn fit(register: &[u8], low: &[u8], high: &[u8]) -> Counted {
+pub fn count(register: &[u8], low: &[u8], high: &[u8]) -> Counted {
     let (lines, lows, highs) = (register.as_ptr(), low.as_ptr(), high.as_ptr());
     // SAFETY: as `sys` says of every call.
-    unsafe { plan_register_fit(lines, register.len(), lows, low.len(), highs, high.len()) }
+    unsafe { plan_register_count(lines, register.len(), lows, low.len(), highs, high.len()) }
 }

@@ -1,4 +1,4 @@
-//! What prune and fit return.
+//! What prune and count return.
 
 /// A number and a count.
 ///
@@ -15,19 +15,18 @@
 /// | 8        | refused: a low is above its high                          |
 /// | 102      | no grid within the bounds has allperm; this is no refusal |
 ///
-/// By fit it is that of the entries within the pruned bounds:
+/// By count it is that of the entries within the bounds:
 ///
-/// | `number` | what fit means by it                                      |
+/// | `number` | what count means by it                                    |
 /// |----------|-----------------------------------------------------------|
 /// | 0        | done: the entries are counted                             |
 /// | 5        | refused: the bytes are not laid out as a register         |
 /// | 6        | refused: a slice has not exactly rows times columns bytes |
 /// | 7        | refused: a bound is above top                             |
 /// | 8        | refused: a low is above its high                          |
-/// | 102      | no grid within the bounds has allperm; this is no refusal |
 ///
 /// Of several refusals the first in the call's list is returned. With any number but 0 the
-/// count is 0, and every slice is unchanged. Fit writes nothing with any number.
+/// count is 0, and every slice is unchanged. Count writes nothing with any number.
 #[repr(C)]
 #[must_use]
 #[derive(Clone, Copy, Debug, PartialEq, Eq)]

@@ -14,9 +14,9 @@
 //! | `matched`           | what same returns                                         |
 //! | `agreement`         | how far two plans agree, in words                         |
 //! | `bounds`            | prune                                                     |
-//! | `bytes`             | open, enter, strike and fit                               |
+//! | `bytes`             | open, enter, strike and count                             |
 //! | `placed`            | what the first three return                               |
-//! | `counted`           | what prune and fit return                                 |
+//! | `counted`           | what prune and count return                               |
 //! | `terminals`         | a shop terminal's represent, same and enter               |
 //! | `terminal_arranged` | what a terminal's represent returns                       |
 //! | `terminal_matched`  | what a terminal's same returns                            |
@@ -50,7 +50,7 @@ mod terminals;
 pub use agreement::Agreement;
 pub use arranged::Arranged;
 pub use bounds::prune;
-pub use bytes::{enter, fit, open, strike};
+pub use bytes::{count, enter, open, strike};
 pub use counted::Counted;
 pub use entered::Entered;
 pub use grids::{represent, same};

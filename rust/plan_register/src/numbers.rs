@@ -28,7 +28,7 @@ pub const NOT_HELD: u32 = 10;
 pub const TERMINAL_ROWS: u32 = 14;
 /// Enter: the class was held already.
 pub const HELD: u32 = 101;
-/// Prune and fit: no grid within the bounds has allperm.
+/// Prune: no grid within the bounds has allperm.
 pub const NO_GRID: u32 = 102;
 /// Same: the two grids are in two classes.
 pub const TWO_CLASSES: u32 = 103;

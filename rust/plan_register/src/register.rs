@@ -1,8 +1,8 @@
 //! A register that owns its bytes.
 
 use crate::fields::{cells, number};
-use crate::numbers::{DONE, HELD, NO_GRID};
-use crate::{enter, fit, open, strike, terminal_enter};
+use crate::numbers::{DONE, HELD};
+use crate::{count, enter, open, strike, terminal_enter};
 use crate::{Entered, Placed, Refusal};
 use std::fmt;
 
@@ -22,7 +22,7 @@ const FIELD: usize = 6;
 /// assert_eq!(register.enter(&[1, 0, 0, 1])?, Entered::New { place: 1 });
 /// assert_eq!(register.enter(&[0, 1, 1, 0])?, Entered::Held { place: 1 });
 /// assert_eq!(register.strike(&[0, 0, 1, 1]), Err(Refusal::NotHeld));
-/// assert_eq!(register.fit(&[0, 0, 0, 0], &[0, 1, 1, 1])?, Some(1));
+/// assert_eq!(register.count_within(&[0, 0, 0, 0], &[0, 1, 1, 1])?, 1);
 /// assert_eq!(register.enter(&[0, 0, 1, 1])?, Entered::New { place: 1 });
 /// assert_eq!(register.enter(&[0, 1, 0, 1]), Err(Refusal::Full));
 /// assert_eq!(register.count(), 2);
@@ -74,7 +74,7 @@ impl Register {
     /// ```
     pub fn from_bytes(bytes: Vec<u8>) -> Result<Register, Refusal> {
         // No grid is empty, so with empty bounds a register is refused by 6.
-        match Refusal::answered(fit(&bytes, &[], &[]).number) {
+        match Refusal::answered(count(&bytes, &[], &[]).number) {
             Refusal::Length => Ok(Register { bytes }),
             layout => Err(layout),
         }
@@ -136,7 +136,7 @@ impl Register {
         self.stated(3)
     }
 
-    /// The number of entries, 0 to the capacity.
+    /// The number of entries, 0 to the capacity, as line 1 states it.
     #[must_use]
     pub fn count(&self) -> usize {
         self.stated(4)
@@ -226,24 +226,46 @@ impl Register {
         }
     }
 
-    /// Counts the entries within the bounds, as [`fit`] does. `None` where no grid within the
-    /// bounds has allperm, number 102. Refused by number 6, 7 or 8.
+    /// Counts the entries within the bounds, both included, as [`count`] does. Refused by number
+    /// 6, 7 or 8.
     ///
     /// ```
     /// use plan_register::{Refusal, Register};
     ///
     /// let mut register = Register::open(2, 1, 3, 5).unwrap();
     /// assert!(register.enter(&[0, 3]).is_ok());
-    /// assert_eq!(register.fit(&[0, 0], &[3, 3]), Ok(Some(1)));
-    /// assert_eq!(register.fit(&[0, 0], &[3, 2]), Ok(Some(0)));
-    /// assert_eq!(register.fit(&[2, 0], &[3, 1]), Ok(None));
-    /// assert_eq!(register.fit(&[2, 0], &[1, 1]), Err(Refusal::Bounds));
+    /// assert_eq!(register.count_within(&[0, 0], &[3, 3]), Ok(1));
+    /// assert_eq!(register.count_within(&[0, 0], &[3, 2]), Ok(0));
+    /// assert_eq!(register.count_within(&[2, 0], &[1, 1]), Err(Refusal::Bounds));
     /// ```
-    pub fn fit(&self, low: &[u8], high: &[u8]) -> Result<Option<usize>, Refusal> {
-        let fitted = fit(&self.bytes, low, high);
-        match fitted.number {
-            DONE => Ok(Some(fitted.count as usize)),
-            NO_GRID => Ok(None),
+    ///
+    /// Nothing is pruned. A laboratory that has pruned bounds once, by [`prune`], can count within
+    /// them on several registers of the same rows, columns and top.
+    ///
+    /// ```
+    /// use plan_register::{prune, Refusal, Register};
+    ///
+    /// # fn main() -> Result<(), Refusal> {
+    /// let mut spring = Register::open(2, 2, 3, 5)?;
+    /// spring.enter(&[1, 1, 2, 1])?;
+    /// spring.enter(&[1, 2, 1, 2])?;
+    /// let mut autumn = Register::open(2, 2, 3, 5)?;
+    /// autumn.enter(&[2, 1, 1, 0])?;
+    ///
+    /// let (mut low, mut high) = ([1, 0, 0, 0], [3, 3, 1, 2]);
+    /// assert_eq!(prune(2, 2, 3, &mut low, &mut high).number, 0);
+    /// assert_eq!((low, high), ([1, 0, 1, 1], [1, 2, 1, 2]));
+    /// assert_eq!(spring.count_within(&low, &high)?, 2);
+    /// assert_eq!(autumn.count_within(&low, &high)?, 0);
+    /// # Ok(())
+    /// # }
+    /// ```
+    ///
+    /// [`prune`]: crate::prune
+    pub fn count_within(&self, low: &[u8], high: &[u8]) -> Result<usize, Refusal> {
+        let counted = count(&self.bytes, low, high);
+        match counted.number {
+            DONE => Ok(counted.count as usize),
             number => Err(Refusal::answered(number)),
         }
     }

@@ -66,7 +66,7 @@ unsafe extern "C" {
         grid_length: usize,
     ) -> Placed;
 
-    pub fn plan_register_fit(
+    pub fn plan_register_count(
         register: *const u8,
         register_length: usize,
         low: *const u8,

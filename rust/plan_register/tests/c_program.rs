@@ -32,8 +32,8 @@ enter 9, place 0
 enter 6, place 0
      2     2     1     1     1
   0  1  1  0
-fit 0, count 1
-fit 8, count 0
+count 0, count 1
+count 8, count 0
 strike 5, place 0
 strike 0, place 1
 strike 10, place 0

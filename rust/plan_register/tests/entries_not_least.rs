@@ -1,11 +1,11 @@
 //! Registers with entries that are no representatives, which question 5 lets pass: a class is held
-//! only where its representative stands there, and fit counts in the pruned bounds.
+//! only where its representative stands there, and a count may fall when the bounds are pruned.
 
 mod common;
 
-use common::calls::{answer, check_call, distinct_grids, holding};
-use plan_register::{Entered, Refusal, Register};
-use reference::bounds::lies_in;
+use common::calls::{answer, check_call, check_count, distinct_grids, holding};
+use common::pruned::Pruned;
+use plan_register::{prune, Entered, Refusal, Register};
 use reference::calls::Call;
 use reference::examples::cells;
 use reference::grid::{arrangements, least};
@@ -36,12 +36,22 @@ fn a_class_is_held_by_its_representative_alone() {
 }
 
 #[test]
-fn fit_counts_in_the_pruned_bounds() {
+fn count_is_of_the_bounds_as_sent() {
     // Both entries lie in the bounds as sent; pruned, row 0 begins with 0 only.
-    let mut register = holding(2, 2, 1, 3, &[cells("00/01"), cells("10/01")]).bytes();
-    let (low, high) = (cells("00/01"), cells("10/01"));
-    let fitted = check_call(&mut register, &Call::Fit((low, high)));
-    assert_eq!(fitted, answer(0, 1));
+    let register = holding(2, 2, 1, 3, &[cells("00/01"), cells("10/01")]).bytes();
+    let (mut low, mut high) = (cells("00/01"), cells("10/01"));
+    let sent = (low.clone(), high.clone());
+    assert_eq!(check_count(&register, &sent), answer(0, 2));
+    assert_eq!(prune(2, 2, 1, &mut low, &mut high).number, 0);
+    assert_eq!(check_count(&register, &(low, high)), answer(0, 1));
+}
+
+#[test]
+fn an_entry_may_lie_in_bounds_of_which_prune_says_102() {
+    let register = holding(2, 2, 1, 3, &[cells("00/01"), cells("10/01")]).bytes();
+    let (mut low, mut high) = (cells("10/01"), cells("10/01"));
+    assert_eq!(prune(2, 2, 1, &mut low, &mut high).number, 102);
+    assert_eq!(check_count(&register, &(low, high)), answer(0, 1));
 }
 
 #[test]
@@ -61,8 +71,10 @@ struct Met {
     entered: usize,
     /// A class not held, with another grid of it standing there.
     not_held: usize,
-    /// A count in the pruned bounds that is less than in the bounds as sent.
-    pruned: usize,
+    /// A count that falls when the bounds are pruned.
+    falls: usize,
+    /// A count above 0 in bounds of which prune says 102.
+    no_grid: usize,
 }
 
 impl Met {
@@ -75,9 +87,13 @@ impl Met {
             Call::Strike(grid) if answer.number == 10 => {
                 self.not_held += usize::from(another_stands_in(before, grid));
             }
-            Call::Fit((low, high)) if answer.number == 0 => {
-                let lie_in = before.entries.iter().filter(|e| lies_in(low, high, e));
-                self.pruned += usize::from(answer.place < lie_in.count() as u64);
+            Call::Count(form) if answer.number == 0 => {
+                let (m, n) = (before.rows as usize, before.columns as usize);
+                let form = Pruned::once(m, n, before.top as u8, form.clone());
+                match form.counts(&before.bytes()) {
+                    (sent, Some(pruned)) => self.falls += usize::from(pruned < sent),
+                    (sent, None) => self.no_grid += usize::from(sent > 0),
+                }
             }
             _ => {}
         }
@@ -111,8 +127,8 @@ fn check_lists(seed: u64, call: fn(&Pool, &mut Random) -> Call) {
             met.note(&before, &call, answer);
         }
     }
-    let least = met.entered.min(met.not_held).min(met.pruned);
-    assert!(least > 50, "{met:?}");
+    let least = met.entered.min(met.not_held).min(met.falls);
+    assert!(least.min(met.no_grid) > 50, "{met:?}");
 }
 
 #[test]

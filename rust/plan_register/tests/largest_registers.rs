@@ -3,9 +3,8 @@
 mod common;
 
 use common::book::Book;
-use common::calls::{answer, check_call, holding, opened};
+use common::calls::{answer, check_count, holding, opened};
 use common::{represented, shuffled};
-use reference::calls::Call;
 use reference::grid::compare;
 use reference::random::Random;
 
@@ -63,8 +62,8 @@ fn top_0_has_one_class() {
     assert_eq!(book.check_strike(&zeros), answer(10, 0));
     assert_eq!(book.check_enter(&zeros), answer(0, 1));
     assert_eq!(book.check_enter(&zeros), answer(101, 1));
-    let fits = Call::Fit((zeros.clone(), zeros.clone()));
-    assert_eq!(check_call(&mut book.bytes, &fits), answer(0, 1));
+    let form = (zeros.clone(), zeros.clone());
+    assert_eq!(check_count(&book.bytes, &form), answer(0, 1));
     assert_eq!(book.check_strike(&zeros), answer(0, 1));
 }
 
@@ -120,15 +119,12 @@ fn long_lists() {
 }
 
 #[test]
-fn fits_on_full_registers() {
+fn counts_on_full_registers() {
     let mut random = Random::new(115);
     for top in TOPS {
         let classes = representatives(&mut random, top, CAPACITY);
-        let mut bytes = book(top, &classes).bytes;
-        let mut check = |low: &[u8], high: &[u8]| {
-            let form = (low.to_vec(), high.to_vec());
-            check_call(&mut bytes, &Call::Fit(form))
-        };
+        let bytes = book(top, &classes).bytes;
+        let check = |low: &[u8], high: &[u8]| check_count(&bytes, &(low.to_vec(), high.to_vec()));
         let (zeros, tops) = ([0; M * N], [top; M * N]);
         assert_eq!(check(&zeros, &tops), answer(0, 500));
         assert_eq!(check(&tops, &tops), answer(0, 0));

@@ -1,4 +1,4 @@
-//! Long lists of enter, strike and fit against the reference: the answer and all bytes after
+//! Long lists of enter, strike and count against the reference: the answer and all bytes after
 //! every call.
 
 mod common;

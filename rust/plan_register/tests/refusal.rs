@@ -64,7 +64,7 @@ fn every_refusal_is_met() {
         Register::from_bytes(vec![]).unwrap_err(),
         register.enter(&[0]).unwrap_err(),
         register.strike(&[0, 4]).unwrap_err(),
-        register.fit(&[0, 1], &[0, 0]).unwrap_err(),
+        register.count_within(&[0, 1], &[0, 0]).unwrap_err(),
         register.enter(&[0, 1]).unwrap_err(),
         register.strike(&[0, 1]).unwrap_err(),
         large.terminal_enter(&[0; 6]).unwrap_err(),

@@ -91,27 +91,24 @@ fn answered(register: &mut Register, call: &Call) -> (u32, u64) {
         Ok(entered @ Entered::Held { .. }) => (101, entered.place()),
         Err(refusal) => (refusal.number(), 0),
     };
+    let done = |done: Result<usize, Refusal>| match done {
+        Ok(place) => (0, place),
+        Err(refusal) => (refusal.number(), 0),
+    };
     let (number, place) = match call {
         Call::Enter(grid) => entered(register.enter(grid)),
         Call::TerminalEnter(grid) => entered(register.terminal_enter(grid)),
-        Call::Strike(grid) => match register.strike(grid) {
-            Ok(place) => (0, place),
-            Err(refusal) => (refusal.number(), 0),
-        },
-        Call::Fit((low, high)) => match register.fit(low, high) {
-            Ok(Some(count)) => (0, count),
-            Ok(None) => (102, 0),
-            Err(refusal) => (refusal.number(), 0),
-        },
+        Call::Strike(grid) => done(register.strike(grid)),
+        Call::Count((low, high)) => done(register.count_within(low, high)),
     };
     (number, place as u64)
 }
 
 /// Checks lists of calls, which the pool makes so, on registers of at most so many rows. Returns how
 /// often each number was answered.
-fn check_lists(seed: u64, rows: u64, call: fn(&Pool, &mut Random) -> Call) -> [usize; 103] {
+fn check_lists(seed: u64, rows: u64, call: fn(&Pool, &mut Random) -> Call) -> [usize; 102] {
     let mut random = Random::new(seed);
-    let mut met = [0; 103];
+    let mut met = [0; 102];
     for _ in 0..200 {
         let (m, n) = (
             random.between(1, rows) as usize,
@@ -137,7 +134,7 @@ fn check_lists(seed: u64, rows: u64, call: fn(&Pool, &mut Random) -> Call) -> [u
             met[number as usize] += 1;
         }
     }
-    for number in [0, 6, 7, 8, 9, 10, 101, 102] {
+    for number in [0, 6, 7, 8, 9, 10, 101] {
         assert!(met[number] > 20, "{number}");
     }
     met

@@ -1,4 +1,4 @@
-//! The questions of enter, strike and fit: every set of failures at once, the first decides; and
+//! The questions of enter, strike and count: every set of failures at once, the first decides; and
 //! a refusal changes no byte.
 
 mod common;
@@ -47,7 +47,7 @@ fn strike_answers_the_first_no_of_5_6_7_10() {
 }
 
 #[test]
-fn fit_answers_the_first_no_of_5_6_7_8() {
+fn count_answers_the_first_no_of_5_6_7_8() {
     for (failed, number) in sets_of([5, 6, 7, 8], 0) {
         let low = if failed.contains(&8) {
             "002/000"
@@ -57,12 +57,12 @@ fn fit_answers_the_first_no_of_5_6_7_8() {
         let high = cells("111/333");
         for register in registers(&failed, &full()) {
             for spoilt in slices(&failed, &high) {
-                let call = Call::Fit((cells(low), spoilt));
+                let call = Call::Count((cells(low), spoilt));
                 check(&register, &call, number);
             }
             for spoilt in slices(&failed, &cells(low)) {
                 // A low above top is above its high, too, but 7 is asked first.
-                let call = Call::Fit((spoilt, high.clone()));
+                let call = Call::Count((spoilt, high.clone()));
                 check(&register, &call, number);
             }
         }
@@ -81,9 +81,9 @@ fn every_length_is_asked() {
         let (slice, exact) = (vec![0; length], vec![0; 128]);
         check(&register, &Call::Enter(slice.clone()), 6);
         check(&register, &Call::Strike(slice.clone()), 6);
-        check(&register, &Call::Fit((slice.clone(), exact.clone())), 6);
-        check(&register, &Call::Fit((exact, slice.clone())), 6);
-        check(&register, &Call::Fit((slice.clone(), slice)), 6);
+        check(&register, &Call::Count((slice.clone(), exact.clone())), 6);
+        check(&register, &Call::Count((exact, slice.clone())), 6);
+        check(&register, &Call::Count((slice.clone(), slice)), 6);
     }
 }
 
@@ -97,8 +97,8 @@ fn every_cell_is_asked() {
             let tops = vec![top; 128];
             check(&register, &Call::Enter(above.clone()), 7);
             check(&register, &Call::Strike(above.clone()), 7);
-            check(&register, &Call::Fit((above.clone(), tops)), 7);
-            check(&register, &Call::Fit((vec![0; 128], above)), 7);
+            check(&register, &Call::Count((above.clone(), tops)), 7);
+            check(&register, &Call::Count((vec![0; 128], above)), 7);
         }
     }
 }
@@ -111,9 +111,9 @@ fn every_bound_is_asked() {
             let tops = vec![top; 128];
             let mut below = tops.clone();
             below[k] -= 1;
-            check(&register, &Call::Fit((tops.clone(), below.clone())), 8);
-            let fits = Call::Fit((below, tops));
-            check_answer(&register, &fits, answer(0, 0), &register);
+            check(&register, &Call::Count((tops.clone(), below.clone())), 8);
+            let passes = Call::Count((below, tops));
+            check_answer(&register, &passes, answer(0, 0), &register);
         }
     }
 }
@@ -136,6 +136,6 @@ fn the_edges_of_document_01() {
         let short = &held[..held.len() - 1];
         check(short, &Call::Enter(at.clone()), 5);
         check(short, &Call::Strike(at.clone()), 5);
-        check(short, &Call::Fit((at.clone(), at)), 5);
+        check(short, &Call::Count((at.clone(), at)), 5);
     }
 }

@@ -70,7 +70,7 @@ fn the_printed_run() {
         (Call::Enter(cells("10/01")), 0, 1),
         (Call::Enter(cells("01/10")), 101, 1),
         (Call::Strike(cells("00/11")), 10, 0),
-        (Call::Fit(form), 0, 1),
+        (Call::Count(form), 0, 1),
         (Call::Enter(cells("00/11")), 0, 1),
         (Call::Enter(cells("01/01")), 9, 0),
     ] {

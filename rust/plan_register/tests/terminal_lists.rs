@@ -3,10 +3,10 @@
 
 mod common;
 
-use common::calls::{check_call, holding, opened};
+use common::calls::{check_call, holding, made, opened};
 use common::met::{Met, ANSWERS, TERMINAL_ANSWERS};
 use common::shapes_of;
-use plan_register::{enter, fit, strike, terminal_enter};
+use plan_register::{enter, strike, terminal_enter};
 use reference::calls::Call;
 use reference::examples::every_grid;
 use reference::grid::least;
@@ -139,20 +139,6 @@ fn from_empty_to_full_through_both_sets() {
     assert_eq!(register, opened(1, 3, 15, 500));
 }
 
-/// What the library answers to the call: the number, and the place or count.
-fn answered(register: &mut [u8], call: &Call) -> (u32, u32) {
-    let placed = match call {
-        Call::Enter(grid) => enter(register, grid),
-        Call::TerminalEnter(grid) => terminal_enter(register, grid),
-        Call::Strike(grid) => strike(register, grid),
-        Call::Fit((low, high)) => {
-            let fitted = fit(register, low, high);
-            return (fitted.number, fitted.count);
-        }
-    };
-    (placed.number, placed.place)
-}
-
 /// Checks a list of so many calls on two registers, on the other one with every enter made at a
 /// terminal: equal answers, and equal bytes after each call. Returns how many enters changed it.
 fn check_alike(random: &mut Random, pool: &Pool, capacity: usize, calls: usize) -> usize {
@@ -162,9 +148,9 @@ fn check_alike(random: &mut Random, pool: &Pool, capacity: usize, calls: usize) 
     for _ in 0..calls {
         let call = pool.call(random);
         let before = one.clone();
-        let answer = answered(&mut one, &call);
+        let answer = made(&mut one, &call);
         let at_terminal = call.clone().at_terminal();
-        assert_eq!(answered(&mut other, &at_terminal), answer, "{call:?}");
+        assert_eq!(made(&mut other, &at_terminal), answer, "{call:?}");
         assert_eq!(other, one, "{call:?}");
         entered += usize::from(at_terminal != call && before != one);
     }

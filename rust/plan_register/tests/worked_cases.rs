@@ -2,10 +2,10 @@
 
 mod common;
 
-use common::calls::{answer, check_answer, placed};
+use common::calls::{answer, check_answer, check_count, placed};
 use common::Lent;
-use plan_register::{open, same, terminal_same, Register};
-use reference::worked_cases::{books, openings, pairs, registers, terminal_pairs};
+use plan_register::{open, prune, same, terminal_same, Register};
+use reference::worked_cases::{books, count_cases, openings, pairs, registers, terminal_pairs};
 
 #[test]
 fn same_answers_as_the_table_says() {
@@ -58,5 +58,21 @@ fn books_are_kept_as_the_table_says() {
             register = left;
         }
         assert_eq!(register, book.leaves, "{book:?}");
+    }
+}
+
+#[test]
+fn bounds_are_pruned_and_counted_as_the_table_says() {
+    for case in count_cases() {
+        let register = Register::from_bytes(case.register.clone()).expect("it is a register");
+        let (m, n, top) = (register.rows(), register.columns(), register.top());
+        let (mut low, mut high) = case.sent.clone();
+        let pruned = prune(m, n, top, &mut low, &mut high);
+        assert_eq!(pruned.number, case.number, "{case:?}");
+        assert_eq!((low, high), case.left, "{case:?}");
+        for (form, count) in [&case.sent, &case.left].into_iter().zip(case.counts) {
+            let expected = answer(0, count as u32);
+            assert_eq!(check_count(&case.register, form), expected, "{case:?}");
+        }
     }
 }

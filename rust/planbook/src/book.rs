@@ -2,11 +2,11 @@
 //! reference is slow in finding those of many rows.
 
 use crate::checks::check_prints;
-use crate::lines::{enter, fit, line_1, strike};
+use crate::lines::{count, enter, line_1, strike};
 use crate::outputs::printed;
 use reference::grid::compare;
 use reference::layout::Contents;
-use reference::register;
+use reference::planbook::prune_and_count;
 
 /// The lines so far, what is printed for them, and what the register then holds.
 pub struct Book {
@@ -62,9 +62,11 @@ impl Book {
     }
 
     /// A further line that counts the entries in the bounds. Returns the number that answers it.
-    pub fn fit(&mut self, low: &[u8], high: &[u8]) -> u64 {
-        let answer = register::fit(&self.contents.bytes(), low, high);
-        self.add(fit(low, high), [3, answer.number.into(), answer.place])
+    pub fn count(&mut self, low: &[u8], high: &[u8]) -> u64 {
+        let contents = &self.contents;
+        let shape = [contents.rows, contents.columns, contents.top];
+        let answer = prune_and_count(shape, &contents.bytes(), low, high);
+        self.add(count(low, high), [3, answer.number.into(), answer.place])
     }
 
     /// A further line that is not laid as it should be.

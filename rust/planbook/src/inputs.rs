@@ -1,6 +1,6 @@
 //! Inputs: random ones, edited ones.
 
-use crate::lines::{enter, fit, line_1, strike};
+use crate::lines::{count, enter, line_1, strike};
 use reference::lists::Pool;
 use reference::random::Random;
 
@@ -27,7 +27,7 @@ pub fn drawn_command(random: &mut Random, pool: &Pool) -> Vec<u8> {
             }
             raise(random, pool.top, &mut low);
             raise(random, pool.top, &mut high);
-            fit(&low, &high)
+            count(&low, &high)
         }
     }
 }

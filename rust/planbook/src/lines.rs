@@ -27,14 +27,14 @@ pub fn strike(grid: &[u8]) -> Vec<u8> {
 }
 
 /// The command line that counts the entries in the bounds: low and high of each cell in turn.
-pub fn fit(low: &[u8], high: &[u8]) -> Vec<u8> {
+pub fn count(low: &[u8], high: &[u8]) -> Vec<u8> {
     let in_turn: Vec<u8> = low.iter().zip(high).flat_map(|(&l, &h)| [l, h]).collect();
     command(3, &numbers(&in_turn))
 }
 
 /// The command line that counts all entries of so many cells.
-pub fn fit_all(cells: usize, top: u8) -> Vec<u8> {
-    fit(&vec![0; cells], &vec![top; cells])
+pub fn count_all(cells: usize, top: u8) -> Vec<u8> {
+    count(&vec![0; cells], &vec![top; cells])
 }
 
 /// The bytes as a line: with a line feed.

@@ -1,7 +1,7 @@
 //! Every single byte of a line changed to every other byte.
 
 use planbook::inputs::LIKELY;
-use planbook::lines::{enter, fit, fit_all, line_1, strike};
+use planbook::lines::{count, count_all, enter, line_1, strike};
 use planbook::outputs::{Met, Output};
 use planbook::{check, check_each};
 use reference::examples::cells;
@@ -32,7 +32,7 @@ fn check_command(before: &[Vec<u8>], line: &[u8], count_all: &[u8]) -> Met {
 fn changed_enters() {
     let (line, held) = (enter(&[1, 0, 12, 10]), enter(&cells("01/10")));
     let before = [line_1([2, 2, 12, 60]), held, line.clone()];
-    let met = check_command(&before, &line, &fit_all(4, 12));
+    let met = check_command(&before, &line, &count_all(4, 12));
     for answer in [(0, 12), (1, 0), (1, 7), (1, 101), (2, 0), (3, 0)] {
         assert!(met.contains_key(&answer), "{met:?}");
     }
@@ -42,7 +42,7 @@ fn changed_enters() {
 #[test]
 fn changed_strikes() {
     let before = [line_1([2, 2, 12, 2]), enter(&cells("01/10"))];
-    let met = check_command(&before, &strike(&[0, 1, 1, 0]), &fit_all(4, 12));
+    let met = check_command(&before, &strike(&[0, 1, 1, 0]), &count_all(4, 12));
     for answer in [(0, 12), (1, 0), (2, 0), (2, 7), (2, 10), (3, 0)] {
         assert!(met.contains_key(&answer), "{met:?}");
     }
@@ -50,10 +50,10 @@ fn changed_strikes() {
 }
 
 #[test]
-fn changed_fits() {
+fn changed_counts() {
     let before = [line_1([2, 2, 12, 3]), enter(&cells("01/10"))];
-    let line = fit(&[0, 0, 0, 0], &[1, 12, 10, 5]);
-    let met = check_command(&before, &line, &fit_all(4, 12));
+    let line = count(&[0, 0, 0, 0], &[1, 12, 10, 5]);
+    let met = check_command(&before, &line, &count_all(4, 12));
     for answer in [(0, 12), (3, 0), (3, 7), (3, 8)] {
         assert!(met.contains_key(&answer), "{met:?}");
     }
@@ -63,8 +63,8 @@ fn changed_fits() {
 #[test]
 fn changed_lines_of_one_cell() {
     let before = [line_1([1, 1, 15, 16]), enter(&[7])];
-    for line in [enter(&[13]), strike(&[7]), fit(&[2], &[11])] {
-        let met = check_command(&before, &line, &fit_all(1, 15));
+    for line in [enter(&[13]), strike(&[7]), count(&[2], &[11])] {
+        let met = check_command(&before, &line, &count_all(1, 15));
         assert!(met[&(0, 12)] > 9 * 240, "{met:?}");
     }
 }

@@ -1,7 +1,7 @@
 //! Inputs of 65,536 bytes, a little less and more.
 
 use planbook::inputs::drawn_command;
-use planbook::lines::{ended, enter, fit, line_1, LIMIT};
+use planbook::lines::{count, ended, enter, line_1, LIMIT};
 use planbook::outputs::{refusal, Output};
 use planbook::{check, check_both, check_each, run};
 use reference::lists::Pool;
@@ -61,13 +61,13 @@ fn good_and_a_malformed_line(length: usize) -> Vec<u8> {
 
 /// Line 1 and good lines only, of 19 and of 31 bytes: these make up every length that is large.
 fn good(length: usize) -> Vec<u8> {
-    let (enter, fit) = (enter(&[1, 0, 0, 1]), fit(&[0; 4], &[1; 4]));
+    let (enter, count) = (enter(&[1, 0, 0, 1]), count(&[0; 4], &[1; 4]));
     let rest = length - head().len();
-    let fits = (0..19)
-        .find(|fits| (rest - 31 * fits).is_multiple_of(19))
+    let counts = (0..19)
+        .find(|counts| (rest - 31 * counts).is_multiple_of(19))
         .expect("19 is prime");
-    let enters = (rest - 31 * fits) / 19;
-    [head(), fit.repeat(fits), enter.repeat(enters)].concat()
+    let enters = (rest - 31 * counts) / 19;
+    [head(), count.repeat(counts), enter.repeat(enters)].concat()
 }
 
 /// Random bytes behind line 1.

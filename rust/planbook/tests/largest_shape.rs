@@ -79,7 +79,7 @@ fn add(
         _ if random.once_in(3) => close(random, M, N, top),
         _ => ordered(vec![0; M * N], vec![top; M * N]),
     };
-    book.fit(&low, &high)
+    book.count(&low, &high)
 }
 
 #[test]
@@ -115,7 +115,7 @@ fn symmetric_grids_of_7_and_8_rows() {
         for _ in 0..5 {
             assert_eq!(book.enter(&copy(), &representative), 101);
         }
-        assert_eq!(book.fit(&representative, &representative), 0);
+        assert_eq!(book.count(&representative, &representative), 0);
         assert_eq!(book.strike(&copy(), &representative), 0);
         assert_eq!(book.enter(&copy(), &representative), 0);
         book.check();

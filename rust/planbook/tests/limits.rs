@@ -1,6 +1,6 @@
 //! Numbers at their limits and past them.
 
-use planbook::lines::{command, enter, fit_all, line_1, strike};
+use planbook::lines::{command, count_all, enter, line_1, strike};
 use planbook::outputs::{refusal, Output};
 use planbook::{check, check_both, check_each};
 
@@ -50,8 +50,8 @@ fn with_commands(numbers: [u64; 4]) -> Vec<u8> {
         enter(&above),
         strike(&above),
         b"\n".to_vec(),
-        fit_all(zeros.len(), top as u8),
-        fit_all(zeros.len(), top as u8 + 1),
+        count_all(zeros.len(), top as u8),
+        count_all(zeros.len(), top as u8 + 1),
         strike(&tops),
     ]
     .concat()

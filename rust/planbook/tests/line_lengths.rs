@@ -1,6 +1,6 @@
 //! Lines cut, lengthened, removed, doubled, joined and parted.
 
-use planbook::lines::{enter, fit, fit_all, line_1, strike};
+use planbook::lines::{count, count_all, enter, line_1, strike};
 use planbook::outputs::{refusal, Output};
 use planbook::{check, check_each};
 
@@ -62,8 +62,8 @@ fn check_command(head: &[u8], line: &[u8], count_all: &[u8]) {
 fn command_lines_of_another_length() {
     for (m, n) in [(1, 1), (2, 2), (3, 4)] {
         let (head, zeros) = (line_1([m, n, 1, 2]), vec![0; (m * n) as usize]);
-        for line in [enter(&zeros), strike(&zeros), fit(&zeros, &zeros)] {
-            check_command(&head, &line, &fit_all(zeros.len(), 1));
+        for line in [enter(&zeros), strike(&zeros), count(&zeros, &zeros)] {
+            check_command(&head, &line, &count_all(zeros.len(), 1));
         }
     }
 }
@@ -96,7 +96,7 @@ fn every_beginning_and_every_end_of_the_printed_input() {
 fn a_missing_line_feed_at_the_end_is_12() {
     let head = line_1([2, 2, 1, 2]);
     let zeros = [0; 4];
-    for line in [enter(&zeros), strike(&zeros), fit(&zeros, &zeros)] {
+    for line in [enter(&zeros), strike(&zeros), count(&zeros, &zeros)] {
         let ended = check(&[&head[..], &line].concat());
         let unended = check(&[&head[..], &line[..line.len() - 1]].concat());
         assert_ne!(ended[..19], refusal(12));

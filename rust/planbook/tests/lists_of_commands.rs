@@ -3,7 +3,7 @@
 use planbook::check_each;
 use planbook::classes::shuffled;
 use planbook::inputs::drawn;
-use planbook::lines::{enter, fit, fit_all, line_1, strike};
+use planbook::lines::{count, count_all, enter, line_1, strike};
 use planbook::outputs::{check_met, Met, Output, ANSWERS};
 use reference::designs::{all, Design};
 use reference::examples::shapes_up_to;
@@ -101,7 +101,7 @@ fn registers_of_every_capacity_are_filled() {
         for grid in &pool.grids {
             input.extend(enter(&shuffled(&mut random, 2, 3, grid)));
         }
-        input.extend(fit_all(6, 15));
+        input.extend(count_all(6, 15));
         for _ in 0..20 {
             input.extend(strike(&pool.grid(&mut random)));
             input.extend(enter(&pool.grid(&mut random)));
@@ -123,8 +123,8 @@ fn on_design(random: &mut Random, design: &Design) -> Vec<u8> {
         strike(&copy()),
         enter(&copy()),
         enter(&copy()),
-        fit(&design.cells, &design.cells),
-        fit_all(m * n, design.top),
+        count(&design.cells, &design.cells),
+        count_all(m * n, design.top),
         strike(&copy()),
         strike(&copy()),
         enter(&design.cells),

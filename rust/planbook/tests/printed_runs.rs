@@ -1,7 +1,7 @@
 //! Runs whose output is written out: document 01's, the examples, marked plans.
 
 use planbook::check;
-use planbook::lines::{enter, fit, line_1};
+use planbook::lines::{count, enter, line_1};
 use reference::examples::{plan, register};
 use reference::forms::written;
 
@@ -39,11 +39,11 @@ fn check_one_class(top: u64, entry: &str, grids: &[&str]) {
 }
 
 /// What is printed for these bounds after this grid is entered, without the register.
-fn fitted(grid: &str, bounds: &str) -> String {
+fn counted(grid: &str, bounds: &str) -> String {
     let (m, n, grid) = plan(grid);
     let (low, high) = written(bounds).2;
     let head = line_1([m as u64, n as u64, 3, 1]);
-    let output = printed(&[head, enter(&grid), fit(&low, &high)].concat());
+    let output = printed(&[head, enter(&grid), count(&low, &high)].concat());
     output[19..38].to_string()
 }
 
@@ -110,15 +110,15 @@ fn the_matrices_of_document_002_are_in_one_class() {
 }
 
 #[test]
-fn fits_of_marked_plans_7_to_10() {
+fn counts_of_marked_plans_7_to_10() {
     let (none, one, no_grid) = (
         "     3     0     0\n",
         "     3     0     1\n",
         "     3   102     0\n",
     );
-    assert_eq!(fitted("223/231", "22 22 33/22 33 11"), no_grid);
-    assert_eq!(fitted("223/231", "11 22 33/33 22 22"), one);
-    assert_eq!(fitted("10/01", "13 03/01 02"), none);
-    assert_eq!(fitted("11/12", "13 03/01 02"), one);
-    assert_eq!(fitted("1/1", "23/01"), no_grid);
+    assert_eq!(counted("223/231", "22 22 33/22 33 11"), no_grid);
+    assert_eq!(counted("223/231", "11 22 33/33 22 22"), one);
+    assert_eq!(counted("10/01", "13 03/01 02"), none);
+    assert_eq!(counted("11/12", "13 03/01 02"), one);
+    assert_eq!(counted("1/1", "23/01"), no_grid);
 }

@@ -43,7 +43,7 @@ fn the_largest_registers_of_every_shape() {
         assert_eq!(book.contents.entries.len(), 5);
         let least = with_cell(cells, cells - 1, 10);
         assert_eq!(book.strike(&with_cell(cells, 0, 10), &least), 0);
-        assert_eq!(book.fit(&vec![0; cells], &vec![15; cells]), 0);
+        assert_eq!(book.count(&vec![0; cells], &vec![15; cells]), 0);
         book.check();
         if m <= 5 {
             check_both(&book.input, &book.output());

@@ -2,14 +2,14 @@
 
 use crate::forms::Form;
 use crate::machine::Machine;
-use crate::register::{enter, fit, strike, terminal_enter, Answer};
+use crate::register::{count, enter, strike, terminal_enter, Answer};
 
 /// A call on an opened register: a grid, or the bounds of a form.
 #[derive(Clone, Debug, PartialEq, Eq)]
 pub enum Call {
     Enter(Vec<u8>),
     Strike(Vec<u8>),
-    Fit(Form),
+    Count(Form),
     TerminalEnter(Vec<u8>),
 }
 
@@ -19,7 +19,7 @@ impl Call {
         match self {
             Call::Enter(_) => "enter",
             Call::Strike(_) => "strike",
-            Call::Fit(_) => "fit",
+            Call::Count(_) => "count",
             Call::TerminalEnter(_) => "terminal enter",
         }
     }
@@ -37,7 +37,7 @@ impl Call {
         match self {
             Call::Enter(grid) => enter(register, grid),
             Call::Strike(grid) => strike(register, grid),
-            Call::Fit((low, high)) => fit(register, low, high),
+            Call::Count((low, high)) => count(register, low, high),
             Call::TerminalEnter(grid) => terminal_enter(register, grid),
         }
     }
@@ -47,7 +47,7 @@ impl Call {
         match self {
             Call::Enter(grid) => machine.enter(grid),
             Call::Strike(grid) => machine.strike(grid),
-            Call::Fit((low, high)) => machine.fit(low, high),
+            Call::Count((low, high)) => machine.count(low, high),
             Call::TerminalEnter(grid) => machine.terminal_enter(grid),
         }
     }

@@ -1,4 +1,4 @@
-//! A plain reference for the plan register: document 01 and requests 1 and 2 of document 02.
+//! A plain reference for the plan register: document 01 and requests 1 to 3 of document 02.
 //!
 //! It is written to be seen right: every row permutation is listed, the columns
 //! are sorted, the least arrangement is taken; bounds are pruned by listing every
@@ -15,7 +15,7 @@
 //! | `grid_calls`   | represent and same, also those of a terminal         |
 //! | `bounds`       | forms and allperm; prune                             |
 //! | `layout`       | the register's bytes, and question 5                 |
-//! | `register`     | open, enter, strike, fit, a terminal's enter         |
+//! | `register`     | open, enter, strike, count, a terminal's enter       |
 //! | `machine`      | the plain machine of demand 3                        |
 //! | `planbook`     | the program, input bytes to output bytes             |
 //! | `random`       | a small generator for tests                          |

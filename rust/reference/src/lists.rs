@@ -1,6 +1,7 @@
 //! Random lists of calls for tests. The grids come from a pool of a few classes, so that a class
 //! is often entered again, struck again, or entered into a full register.
 
+use crate::bounds::prune;
 use crate::calls::Call;
 use crate::designs::{equal_columns, equal_rows, two_rows, zero};
 use crate::forms::{around, close, drawn, ordered, Form};
@@ -37,7 +38,7 @@ impl Pool {
         match random.below(8) {
             0..=2 => Call::Enter(self.sent(random)),
             3..=5 => Call::Strike(self.sent(random)),
-            _ => Call::Fit(self.sent_form(random)),
+            _ => Call::Count(self.sent_form(random)),
         }
     }
 
@@ -79,8 +80,13 @@ impl Pool {
         grid
     }
 
+    /// Bounds as they are drawn or, now and then, pruned, where prune does not say 102.
     fn sent_form(&self, random: &mut Random) -> Form {
         let (mut low, mut high) = self.form(random);
+        if random.once_in(3) {
+            let (m, n) = (self.m as u64, self.n as u64);
+            prune(m, n, self.top.into(), &mut low, &mut high);
+        }
         if random.once_in(10) {
             std::mem::swap(&mut low, &mut high);
         }

@@ -1,6 +1,6 @@
 //! The plain machine of demand 3.
 
-use crate::bounds::{lies_in, some_grid};
+use crate::bounds::lies_in;
 use crate::grid::{compare, least};
 use crate::layout::Contents;
 use crate::questions;
@@ -45,10 +45,9 @@ impl Machine {
         answered(self.try_strike(grid))
     }
 
-    /// Fit: 102 if no grid in the form satisfies allperm; else 0 and the number of
-    /// classes in the set whose least grid lies in the form as sent.
-    pub fn fit(&self, low: &[u8], high: &[u8]) -> Answer {
-        answered(self.try_fit(low, high))
+    /// Count: 0 and the number of classes in the set whose least grid lies in the form.
+    pub fn count(&self, low: &[u8], high: &[u8]) -> Answer {
+        answered(self.try_count(low, high))
     }
 
     /// The bytes: the four numbers, the size of the set, the least grids ascending.
@@ -88,17 +87,10 @@ impl Machine {
         Ok(Answer { number: 0, place })
     }
 
-    fn try_fit(&self, low: &[u8], high: &[u8]) -> Result<Answer, u32> {
+    fn try_count(&self, low: &[u8], high: &[u8]) -> Result<Answer, u32> {
         questions::lengths(&[low, high], self.rows * self.columns)?;
         questions::cells(&[low, high], self.top)?;
         questions::bounds(low, high)?;
-        let (m, n) = (self.rows as usize, self.columns as usize);
-        if !some_grid(m, n, self.top as u8, low, high) {
-            return Ok(Answer {
-                number: 102,
-                place: 0,
-            });
-        }
         let in_form = |class: &&Vec<u8>| lies_in(low, high, class);
         Ok(Answer {
             number: 0,

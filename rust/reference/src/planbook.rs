@@ -1,23 +1,24 @@
 //! The program `planbook`, input bytes to output bytes.
 
+use crate::bounds::prune;
 use crate::layout::{number, read_number, read_numbers, register_length};
 use crate::questions;
-use crate::register::{enter, fit, open, strike, Answer};
+use crate::register::{count, enter, open, strike, Answer};
 
 /// The most bytes of the input, and the most bytes of a register.
 pub const LIMIT: u64 = 65_536;
 
-/// A command line: 1 enter, 2 strike, 3 fit.
+/// A command line: 1 enter, 2 strike, 3 prune and then count.
 enum Command {
     Enter(Vec<u8>),
     Strike(Vec<u8>),
-    Fit(Vec<u8>, Vec<u8>),
+    PruneAndCount(Vec<u8>, Vec<u8>),
 }
 
-/// The register as line 1 opens it, and its number of cells.
+/// The register as line 1 opens it, and its rows, columns and top.
 struct Opened {
     register: Vec<u8>,
-    cells: usize,
+    shape: [u64; 3],
 }
 
 /// Everything that `planbook` prints for the input.
@@ -47,35 +48,47 @@ fn opened(input: &[u8], lines: &[&[u8]]) -> Result<Opened, u32> {
     // Open answers 0, as its questions were asked above.
     let mut register = vec![0; length as usize];
     open(m, n, top, capacity, &mut register);
-    let cells = (m * n) as usize;
-    Ok(Opened { register, cells })
+    let shape = [m, n, top];
+    Ok(Opened { register, shape })
 }
 
 /// A printed line for each command line, and then the register.
 fn run(opened: Opened, lines: &[&[u8]]) -> Vec<u8> {
     let Opened {
         mut register,
-        cells,
+        shape,
     } = opened;
+    let [m, n, _] = shape;
     let mut output = Vec::new();
     for line in lines {
-        match read_command(line, cells) {
+        match read_command(line, (m * n) as usize) {
             None => output.extend(printed(0, 12, 0)),
-            Some(command) => output.extend(call(&mut register, &command)),
+            Some(command) => output.extend(carry_out(shape, &mut register, &command)),
         }
     }
     output.extend(register);
     output
 }
 
-/// Makes the call and prints its command, number, and place or count.
-fn call(register: &mut [u8], command: &Command) -> Vec<u8> {
+/// Carries out the command and prints it, its number, and the place or count.
+fn carry_out(shape: [u64; 3], register: &mut [u8], command: &Command) -> Vec<u8> {
     let (name, answer): (u64, Answer) = match command {
         Command::Enter(grid) => (1, enter(register, grid)),
         Command::Strike(grid) => (2, strike(register, grid)),
-        Command::Fit(low, high) => (3, fit(register, low, high)),
+        Command::PruneAndCount(low, high) => (3, prune_and_count(shape, register, low, high)),
     };
     printed(name, answer.number, answer.place)
+}
+
+/// Command 3: prune, with the register's rows, columns and top, and then count of the pruned form.
+/// If prune's number is not 0, that is the answer, with count 0.
+pub fn prune_and_count(shape: [u64; 3], register: &[u8], low: &[u8], high: &[u8]) -> Answer {
+    let [m, n, top] = shape;
+    let (mut low, mut high) = (low.to_vec(), high.to_vec());
+    match prune(m, n, top, &mut low, &mut high).number {
+        0 => count(register, &low, &high),
+        number => Answer { number, place: 0 },
+    }
 }
 
 /// Command, number, and place or count, 6 wide each.
@@ -107,7 +120,7 @@ fn read_command(line: &[u8], cells: usize) -> Option<Command> {
         3 if bytes.len() == 2 * cells => {
             let low = bytes.iter().step_by(2).copied().collect();
             let high = bytes.iter().skip(1).step_by(2).copied().collect();
-            Some(Command::Fit(low, high))
+            Some(Command::PruneAndCount(low, high))
         }
         _ => None,
     }

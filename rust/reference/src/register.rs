@@ -1,11 +1,11 @@
-//! The calls on a register's bytes: open, enter, strike, fit, a terminal's enter.
+//! The calls on a register's bytes: open, enter, strike, count, a terminal's enter.
 
-use crate::bounds::{lies_in, pruned_form};
+use crate::bounds::lies_in;
 use crate::grid::{compare, least};
 use crate::layout::{register_length, Contents};
 use crate::questions;
 
-/// What a call returns: the number and the place, for fit the count.
+/// What a call returns: the number and the place, for count the count.
 #[derive(Clone, Copy, Debug, PartialEq, Eq)]
 pub struct Answer {
     pub number: u32,
@@ -37,9 +37,9 @@ pub fn strike(register: &mut [u8], grid: &[u8]) -> Answer {
     answered(try_strike(register, grid))
 }
 
-/// Fit: 0 and the number of entries in the pruned form, or 102. It passes 5, 6, 7, 8.
-pub fn fit(register: &[u8], low: &[u8], high: &[u8]) -> Answer {
-    answered(try_fit(register, low, high))
+/// Count: 0 and the number of entries in the form. It passes 5, 6, 7, 8.
+pub fn count(register: &[u8], low: &[u8], high: &[u8]) -> Answer {
+    answered(try_count(register, low, high))
 }
 
 fn try_open(m: u64, n: u64, top: u64, capacity: u64, register: &mut [u8]) -> Result<Answer, u32> {
@@ -105,19 +105,12 @@ fn try_strike(register: &mut [u8], grid: &[u8]) -> Result<Answer, u32> {
     })
 }
 
-fn try_fit(register: &[u8], low: &[u8], high: &[u8]) -> Result<Answer, u32> {
+fn try_count(register: &[u8], low: &[u8], high: &[u8]) -> Result<Answer, u32> {
     let contents = Contents::asked(register)?;
     questions::lengths(&[low, high], contents.rows * contents.columns)?;
     questions::cells(&[low, high], contents.top)?;
     questions::bounds(low, high)?;
-    let (m, n) = (contents.rows as usize, contents.columns as usize);
-    let Some(form) = pruned_form(m, n, contents.top as u8, low, high) else {
-        return Ok(Answer {
-            number: 102,
-            place: 0,
-        });
-    };
-    let in_form = |entry: &&Vec<u8>| lies_in(&form.low, &form.high, entry);
+    let in_form = |entry: &&Vec<u8>| lies_in(low, high, entry);
     Ok(Answer {
         number: 0,
         place: contents.entries.iter().filter(in_form).count() as u64,

@@ -2,6 +2,7 @@
 
 use crate::antt_records::{field, numbers, records, text_bytes, without_comments};
 use crate::calls::Call;
+use crate::forms::Form;
 use crate::register::Answer;
 
 /// Bytes, and what question 5 answers to them.
@@ -36,6 +37,17 @@ pub struct Book {
     pub before: Vec<u8>,
     pub calls: Vec<(Call, Answer)>,
     pub leaves: Vec<u8>,
+}
+
+/// A register's bytes and bounds, prune's number, the bounds that it leaves, and the counts of the
+/// bounds as sent and of those left.
+#[derive(Clone, Debug)]
+pub struct CountCase {
+    pub register: Vec<u8>,
+    pub sent: Form,
+    pub number: u32,
+    pub left: Form,
+    pub counts: [u64; 2],
 }
 
 /// A run of `planbook`: its input and its output.
@@ -112,6 +124,20 @@ pub fn books() -> Vec<Book> {
     cases.iter().map(read).collect()
 }
 
+/// The bounds that are counted as sent and pruned.
+pub fn count_cases() -> Vec<CountCase> {
+    let cases = table("Counts", "countCases", " prunedLow = ");
+    let form = |case: &str, names: [&str; 2]| names.map(|name| cells(field(case, name))).into();
+    let read = |case: &String| CountCase {
+        register: text_bytes(field(case, "lines")),
+        sent: form(case, ["low", "high"]),
+        number: numbers(field(case, "number"))[0] as u32,
+        left: form(case, ["prunedLow", "prunedHigh"]),
+        counts: ["sent", "left"].map(|name| numbers(field(case, name))[0]),
+    };
+    cases.iter().map(read).collect()
+}
+
 /// The runs of `planbook`.
 pub fn transcripts() -> Vec<Run> {
     let cases = table("Transcripts", "runs", " input = ");
@@ -157,7 +183,7 @@ fn calls(book: &str) -> Vec<(Call, Answer)> {
 
 /// The calls of a list, each from its name to the next one's.
 fn call_texts(value: &str) -> Vec<&str> {
-    let names = ["enter", "strike", "fit", "terminalEnter"];
+    let names = ["enter", "strike", "countIn", "terminalEnter"];
     let mut starts: Vec<usize> = names
         .iter()
         .flat_map(|name| value.match_indices(name).map(|(i, _)| i))
@@ -177,7 +203,7 @@ fn call(text: &str) -> Call {
     match text.split_whitespace().next() {
         Some("enter") => Call::Enter(next()),
         Some("strike") => Call::Strike(next()),
-        Some("fit") => Call::Fit((next(), next())),
+        Some("countIn") => Call::Count((next(), next())),
         Some("terminalEnter") => Call::TerminalEnter(next()),
         _ => panic!("a call: {text}"),
     }
@@ -204,7 +230,7 @@ mod tests {
           ∷ terminalEnter (0 ∷ 15 ∷ [])
           ∷ terminalEnter ([])
           ∷ strike (2 ∷ [])
-          ∷ fit (0 ∷ []) (1 ∷ [])
+          ∷ countIn (0 ∷ []) (1 ∷ [])
           ∷ []";
         let calls: Vec<Call> = call_texts(text).into_iter().map(call).collect();
         let expected = [
@@ -212,7 +238,7 @@ mod tests {
             Call::TerminalEnter(vec![0, 15]),
             Call::TerminalEnter(vec![]),
             Call::Strike(vec![2]),
-            Call::Fit((vec![0], vec![1])),
+            Call::Count((vec![0], vec![1])),
         ];
         assert_eq!(calls, expected);
     }

@@ -6,7 +6,7 @@ use common::register;
 use reference::grid::compare;
 use reference::layout::{number, read_number, Contents};
 use reference::random::Random;
-use reference::register::{enter, fit, strike, terminal_enter, Answer};
+use reference::register::{count, enter, strike, terminal_enter, Answer};
 
 /// The numbers in the fields of a line, read without strictness.
 fn loose_numbers(line: &str, width: usize) -> Option<Vec<u64>> {
@@ -85,7 +85,7 @@ fn check_calls(bytes: &[u8], valid: bool) {
         enter(&mut entered, &grid),
         terminal_enter(&mut entered_at_terminal, &grid),
         strike(&mut struck, &grid),
-        fit(bytes, &grid, &grid),
+        count(bytes, &grid, &grid),
     ];
     for answer in answers {
         assert_eq!(answer.number == 5, !valid);

@@ -2,6 +2,7 @@
 
 mod common;
 
+use reference::bounds::some_grid;
 use reference::forms::drawn;
 use reference::machine::Machine;
 use reference::planbook::transcript;
@@ -245,8 +246,8 @@ fn a_cell_of_top_plus_1_to_255_answers_7() {
         assert_eq!(commands(enter.as_bytes()), "     1     7     0\n");
         let strike = format!("     2{value:>3}  0  0  0\n");
         assert_eq!(commands(strike.as_bytes()), "     2     7     0\n");
-        let fit = format!("     3  0  0  0  1  0  1  0{value:>3}\n");
-        assert_eq!(commands(fit.as_bytes()), "     3     7     0\n");
+        let count = format!("     3  0  0  0  1  0  1  0{value:>3}\n");
+        assert_eq!(commands(count.as_bytes()), "     3     7     0\n");
     }
 }
 
@@ -338,14 +339,26 @@ fn well_laid(line: &[u8], cells: usize) -> Option<(u64, Vec<u8>)> {
     (format!("{command:>6}{again}") == text && bytes.len() == count).then_some((command, bytes))
 }
 
-/// What the machine prints for a command.
+/// What the machine prints for a command. For 3 it counts the form as sent; 102 is said if no grid
+/// in the form has allperm.
 fn by_machine(machine: &mut Machine, command: u64, bytes: &[u8]) -> String {
+    let (m, n, top) = (
+        machine.rows as usize,
+        machine.columns as usize,
+        machine.top as u8,
+    );
     let low: Vec<u8> = bytes.chunks(2).map(|two| two[0]).collect();
     let high: Vec<u8> = bytes.chunks(2).map(|two| *two.last().unwrap()).collect();
     let Answer { number, place } = match command {
         1 => machine.enter(bytes),
         2 => machine.strike(bytes),
-        _ => machine.fit(&low, &high),
+        _ => match machine.count(&low, &high) {
+            Answer { number: 0, .. } if !some_grid(m, n, top, &low, &high) => Answer {
+                number: 102,
+                place: 0,
+            },
+            counted => counted,
+        },
     };
     format!("{command:>6}{number:>6}{place:>6}\n")
 }

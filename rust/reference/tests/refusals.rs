@@ -7,7 +7,7 @@ use common::{cells, register, unopened};
 use reference::bounds::{prune, Counted};
 use reference::grid_calls::{represent, same, Arranged, Matched};
 use reference::layout::{register_length, Contents};
-use reference::register::{enter, fit, open, strike, Answer};
+use reference::register::{count, enter, open, strike, Answer};
 
 #[test]
 fn represent_asks_1_2_3_6_7_in_order() {
@@ -152,7 +152,7 @@ fn strike_asks_5_6_7_10_in_order() {
 }
 
 #[test]
-fn fit_asks_5_6_7_8_in_order() {
+fn count_asks_5_6_7_8_in_order() {
     for (failed, number) in sets_of(&[5, 6, 7, 8]) {
         let bytes = full_register(&failed);
         let (good, bad) = (slice(&[], 2, 3, 3), slice(&failed, 2, 3, 3));
@@ -160,17 +160,17 @@ fn fit_asks_5_6_7_8_in_order() {
             if failed.contains(&8) {
                 low[0] = 2;
             }
-            assert_eq!(fit(&bytes, &low, &high), refusal(number), "{failed:?}");
+            assert_eq!(count(&bytes, &low, &high), refusal(number), "{failed:?}");
         }
     }
 }
 
 #[test]
-fn fit_and_prune_ask_both_lengths() {
+fn count_and_prune_ask_both_lengths() {
     let bytes = full_register(&[]);
     for (a, b) in [(5, 6), (6, 5), (7, 6), (6, 7), (5, 5), (7, 7), (0, 0)] {
         let (mut low, mut high) = (vec![1; a], vec![9; b]);
-        assert_eq!(fit(&bytes, &low, &high), refusal(6));
+        assert_eq!(count(&bytes, &low, &high), refusal(6));
         assert_eq!(prune(2, 3, 3, &mut low, &mut high).number, 6);
         assert_eq!((low, high), (vec![1; a], vec![9; b]));
     }
@@ -245,7 +245,7 @@ fn the_largest_register_opens_and_serves() {
     assert_eq!(open(8, 16, 15, 500, &mut bytes), refusal(0));
     let first = enter(&mut bytes, &[15; 128]);
     assert_eq!((first.number, first.place), (0, 1));
-    assert_eq!(fit(&bytes, &[0; 128], &[15; 128]).place, 1);
+    assert_eq!(count(&bytes, &[0; 128], &[15; 128]).place, 1);
     let struck = strike(&mut bytes, &[15; 128]);
     assert_eq!((struck.number, struck.place), (0, 1));
     assert_eq!(bytes, register(8, 16, 15, 500, &[]));
@@ -280,7 +280,7 @@ fn a_register_of_another_length_gives_5_and_to_open_6() {
         let before = bytes.clone();
         assert_eq!(enter(&mut bytes, &[0; 4]), refusal(5));
         assert_eq!(strike(&mut bytes, &[0; 4]), refusal(5));
-        assert_eq!(fit(&bytes, &[0; 4], &[1; 4]), refusal(5));
+        assert_eq!(count(&bytes, &[0; 4], &[1; 4]), refusal(5));
         assert_eq!(open(2, 2, 3, 3, &mut bytes), refusal(6));
         assert_eq!(bytes, before);
     }
@@ -328,9 +328,9 @@ fn a_cell_equal_to_top_passes_and_one_more_gives_7() {
         assert_eq!(enter(&mut bytes, &above), refusal(7));
         assert_eq!(enter(&mut bytes, &at).number, 0);
         assert_eq!(strike(&mut bytes, &above), refusal(7));
-        assert_eq!(fit(&bytes, &at, &above), refusal(7));
-        assert_eq!(fit(&bytes, &above, &at), refusal(7));
-        assert_eq!(fit(&bytes, &at, &at).place, 1);
+        assert_eq!(count(&bytes, &at, &above), refusal(7));
+        assert_eq!(count(&bytes, &above, &at), refusal(7));
+        assert_eq!(count(&bytes, &at, &at).place, 1);
         assert_eq!(strike(&mut bytes, &at).number, 0);
     }
 }
@@ -360,7 +360,7 @@ fn a_register_s_own_limits_are_part_of_question_5() {
         let mut lent = bytes.clone();
         assert_eq!(enter(&mut lent, &grid), refusal(5));
         assert_eq!(strike(&mut lent, &grid), refusal(5));
-        assert_eq!(fit(&lent, &grid, &grid), refusal(5));
+        assert_eq!(count(&lent, &grid, &grid), refusal(5));
         assert_eq!(lent, bytes);
     }
 }

@@ -1,15 +1,16 @@
-//! Open, enter, strike and fit, alone and against the plain machine.
+//! Open, enter, strike and count, alone and against the plain machine.
 
 mod common;
 
 use common::{cells, register, unopened};
-use reference::bounds::{lies_in, prune};
+use reference::bounds::prune;
 use reference::forms::drawn;
 use reference::grid::{arrangement, least};
 use reference::layout::Contents;
 use reference::machine::Machine;
+use reference::planbook::prune_and_count;
 use reference::random::Random;
-use reference::register::{enter, fit, open, strike, Answer};
+use reference::register::{count, enter, open, strike, Answer};
 
 fn answer(number: u32, place: u64) -> Answer {
     Answer { number, place }
@@ -94,19 +95,22 @@ fn the_bytes_do_not_depend_on_the_order_of_the_calls() {
 }
 
 #[test]
-fn fit_on_an_empty_register_tells_102_from_0() {
+fn count_on_an_empty_register_is_0_also_where_prune_says_102() {
     let bytes = opened(2, 1, 3, 1);
-    assert_eq!(fit(&bytes, &[2, 0], &[3, 1]), answer(102, 0));
-    assert_eq!(fit(&bytes, &[0, 0], &[3, 1]), answer(0, 0));
+    assert_eq!(count(&bytes, &[2, 0], &[3, 1]), answer(0, 0));
+    assert_eq!(count(&bytes, &[0, 0], &[3, 1]), answer(0, 0));
+    let by_command_3 = |low, high| prune_and_count([2, 1, 3], &bytes, low, high);
+    assert_eq!(by_command_3(&[2, 0], &[3, 1]), answer(102, 0));
+    assert_eq!(by_command_3(&[0, 0], &[3, 1]), answer(0, 0));
 }
 
 #[test]
-fn fit_counts_the_entries_in_the_form() {
+fn count_counts_the_entries_in_the_form() {
     let bytes = register(2, 2, 2, 4, &["00/01", "00/02", "01/10"]);
-    assert_eq!(fit(&bytes, &[0; 4], &[2; 4]), answer(0, 3));
-    assert_eq!(fit(&bytes, &[0; 4], &[1; 4]), answer(0, 2));
-    assert_eq!(fit(&bytes, &[0, 0, 0, 1], &[0, 0, 0, 2]), answer(0, 2));
-    assert_eq!(fit(&bytes, &[1; 4], &[2; 4]), answer(0, 0));
+    assert_eq!(count(&bytes, &[0; 4], &[2; 4]), answer(0, 3));
+    assert_eq!(count(&bytes, &[0; 4], &[1; 4]), answer(0, 2));
+    assert_eq!(count(&bytes, &[0, 0, 0, 1], &[0, 0, 0, 2]), answer(0, 2));
+    assert_eq!(count(&bytes, &[1; 4], &[2; 4]), answer(0, 0));
 }
 
 #[test]
@@ -125,16 +129,21 @@ fn on_entries_that_are_not_least_a_class_is_held_by_its_representative_only() {
 }
 
 #[test]
-fn fit_on_bytes_counts_in_the_pruned_form() {
+fn on_entries_that_are_not_least_count_is_of_the_form_as_sent() {
     // The form as sent has both entries; pruned, row 0 begins with 0 only.
     let bytes = register(2, 2, 1, 3, &["00/01", "10/01"]);
     let (low, high) = (cells("00/01"), cells("10/01"));
-    assert!(lies_in(&low, &high, &cells("00/01")));
-    assert!(lies_in(&low, &high, &cells("10/01")));
-    assert_eq!(fit(&bytes, &low, &high), answer(0, 1));
-    let (mut new_low, mut new_high) = (low, high);
+    assert_eq!(count(&bytes, &low, &high), answer(0, 2));
+    let by_command_3 = |low, high| prune_and_count([2, 2, 1], &bytes, low, high);
+    assert_eq!(by_command_3(&low, &high), answer(0, 1));
+    let (mut new_low, mut new_high) = (low.clone(), high.clone());
     assert_eq!(prune(2, 2, 1, &mut new_low, &mut new_high).count, 1);
-    assert_eq!((new_low, new_high), (cells("00/01"), cells("00/01")));
+    assert_eq!([&new_low, &new_high], [&cells("00/01"); 2]);
+    assert_eq!(count(&bytes, &new_low, &new_high), answer(0, 1));
+    // The form of 10/01 alone: it has no allperm.
+    let alone = cells("10/01");
+    assert_eq!(by_command_3(&alone, &alone), answer(102, 0));
+    assert_eq!(count(&bytes, &alone, &alone), answer(0, 1));
 }
 
 /// The machine beside the register, and the checks after every call.
@@ -179,10 +188,19 @@ impl Pair {
         answer.number
     }
 
-    fn fit(&mut self, low: &[u8], high: &[u8]) -> u32 {
+    /// Counts the form as sent and, if it passes, pruned: one number, and 0 where prune says 102.
+    fn count(&mut self, low: &[u8], high: &[u8]) -> u32 {
         let before = self.bytes.clone();
-        let answer = fit(&self.bytes, low, high);
-        assert_eq!(answer, self.machine.fit(low, high));
+        let answer = count(&self.bytes, low, high);
+        assert_eq!(answer, self.machine.count(low, high));
+        let Machine {
+            rows, columns, top, ..
+        } = self.machine;
+        let by_command_3 = prune_and_count([rows, columns, top], &self.bytes, low, high);
+        match by_command_3.number {
+            102 => assert_eq!(answer, self::answer(0, 0)),
+            _ => assert_eq!(by_command_3, answer),
+        }
         assert_eq!(self.bytes, before);
         self.check();
         answer.number
@@ -235,7 +253,7 @@ fn random_list(random: &mut Random, shape: [u64; 4], calls: usize, met: &mut [u6
             4 => pair.strike(&held_grid(random, &pair, cells)),
             _ => {
                 let (low, high) = random_form(random, cells, least_top);
-                pair.fit(&low, &high)
+                pair.count(&low, &high)
             }
         };
         met[number as usize] += 1;
@@ -269,10 +287,10 @@ fn random_lists_of_calls_answer_as_the_machine() {
         ];
         random_list(&mut random, shape, 40, &mut met);
     }
-    for number in [0, 6, 7, 8, 9, 10, 101, 102] {
+    for number in [0, 6, 7, 8, 9, 10, 101] {
         assert!(met[number] > 50, "{number}");
     }
-    assert_eq!(met[5], 0);
+    assert_eq!((met[5], met[102]), (0, 0));
 }
 
 #[test]
@@ -299,7 +317,7 @@ fn a_list_on_the_largest_shape_answers_as_the_machine() {
     let (one, two) = (random.cells(128, 15), random.cells(128, 1));
     assert_eq!(pair.enter(&one), 0);
     assert_eq!(pair.enter(&two), 0);
-    assert_eq!(pair.fit(&[0; 128], &[15; 128]), 0);
+    assert_eq!(pair.count(&[0; 128], &[15; 128]), 0);
     let turned = arrangement(8, 16, &random.permutation(8), &random.permutation(16), &one);
     assert_eq!(pair.enter(&turned), 101);
     assert_eq!(pair.strike(&turned), 0);

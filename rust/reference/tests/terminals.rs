@@ -237,7 +237,7 @@ fn at_a_terminal_only_enter_is_another_call() {
     let call = Call::Enter(vec![1]).at_terminal();
     assert_eq!(call, Call::TerminalEnter(vec![1]));
     assert_eq!(call.name(), "terminal enter");
-    for call in [Call::Strike(vec![1]), Call::Fit((vec![0], vec![1])), call] {
+    for call in [Call::Strike(vec![1]), Call::Count((vec![0], vec![1])), call] {
         assert_eq!(call.clone().at_terminal(), call);
     }
 }

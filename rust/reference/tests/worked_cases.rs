@@ -1,13 +1,14 @@
 //! The worked cases of the definitions, answered by the reference.
 
+use reference::bounds::prune;
 use reference::calls::Call;
 use reference::grid::agreed;
 use reference::grid_calls::{same, terminal_same};
 use reference::layout::Contents;
 use reference::planbook::transcript;
-use reference::register::{open, Answer};
+use reference::register::{count, open, Answer};
 use reference::worked_cases::{
-    books, openings, pairs, prefixes, registers, terminal_pairs, transcripts,
+    books, count_cases, openings, pairs, prefixes, registers, terminal_pairs, transcripts,
 };
 
 #[test]
@@ -80,6 +81,22 @@ fn some_books_have_calls_of_both_sets() {
         .filter(|book| of_both(&book.calls) == [true, true])
         .count();
     assert_eq!(mixed, 2);
+}
+
+#[test]
+fn bounds_are_pruned_and_counted_as_the_table_says() {
+    for case in count_cases() {
+        let contents = Contents::read(&case.register).expect("it is a register");
+        let (m, n, top) = (contents.rows, contents.columns, contents.top);
+        let (mut low, mut high) = case.sent.clone();
+        let pruned = prune(m, n, top, &mut low, &mut high);
+        assert_eq!(pruned.number, case.number, "{case:?}");
+        assert_eq!((low, high), case.left, "{case:?}");
+        for ((low, high), place) in [&case.sent, &case.left].into_iter().zip(case.counts) {
+            let expected = Answer { number: 0, place };
+            assert_eq!(count(&case.register, low, high), expected, "{case:?}");
+        }
+    }
 }
 
 #[test]

@@ -88,8 +88,8 @@ static void call_on_a_register(void)
     print_placed("enter", plan_register_enter(bytes, length, other, 4));
     print_placed("enter", plan_register_enter(bytes, length, grid, 0));
     fwrite(bytes, 1, length, stdout);
-    print_counted("fit", plan_register_fit(bytes, length, zeros, 4, ones, 4));
-    print_counted("fit", plan_register_fit(bytes, length, ones, 4, zeros, 4));
+    print_counted("count", plan_register_count(bytes, length, zeros, 4, ones, 4));
+    print_counted("count", plan_register_count(bytes, length, ones, 4, zeros, 4));
     print_placed("strike", plan_register_strike(bytes, length - 1, grid, 4));
     print_placed("strike", plan_register_strike(bytes, length, grid, 4));
     print_placed("strike", plan_register_strike(bytes, length, grid, 4));

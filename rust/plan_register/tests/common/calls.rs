@@ -1,8 +1,9 @@
 //! Calls on a register, each compared with the reference.
 
 use super::Lent;
-use plan_register::{enter, fit, open, strike, terminal_enter, Counted, Placed};
+use plan_register::{count, enter, open, strike, terminal_enter, Counted, Placed};
 use reference::calls::Call;
+use reference::forms::Form;
 use reference::grid::compare;
 use reference::layout::Contents;
 use reference::random::Random;
@@ -29,6 +30,22 @@ pub fn check_call(register: &mut Vec<u8>, call: &Call) -> Answer {
     answer
 }
 
+/// Counts the entries in the form. Checks that it answers as the reference does, and that no byte
+/// of the register or of the form changed. Returns the answer.
+pub fn check_count(register: &[u8], form: &Form) -> Answer {
+    check_call(&mut register.to_vec(), &Call::Count(form.clone()))
+}
+
+/// Makes the call by the library alone.
+pub fn made(register: &mut [u8], call: &Call) -> Answer {
+    match call {
+        Call::Enter(grid) => placed(enter(register, grid)),
+        Call::Strike(grid) => placed(strike(register, grid)),
+        Call::Count((low, high)) => counted(count(register, low, high)),
+        Call::TerminalEnter(grid) => placed(terminal_enter(register, grid)),
+    }
+}
+
 /// Makes the call. Checks that it gives this answer and leaves these bytes, and that no other
 /// byte changed.
 pub fn check_answer(register: &[u8], call: &Call, answer: Answer, left: &[u8]) {
@@ -36,8 +53,8 @@ pub fn check_answer(register: &[u8], call: &Call, answer: Answer, left: &[u8]) {
     let found = match call {
         Call::Enter(grid) => placed(lending(grid, |grid| enter(lent.slice_mut(), grid))),
         Call::Strike(grid) => placed(lending(grid, |grid| strike(lent.slice_mut(), grid))),
-        Call::Fit((low, high)) => fitted(lending(low, |low| {
-            lending(high, |high| fit(lent.slice(), low, high))
+        Call::Count((low, high)) => counted(lending(low, |low| {
+            lending(high, |high| count(lent.slice(), low, high))
         })),
         Call::TerminalEnter(grid) => {
             placed(lending(grid, |grid| terminal_enter(lent.slice_mut(), grid)))
@@ -60,8 +77,9 @@ pub fn placed(placed: Placed) -> Answer {
     answer(placed.number, placed.place)
 }
 
-fn fitted(fitted: Counted) -> Answer {
-    answer(fitted.number, fitted.count)
+/// This answer, as the reference has it.
+fn counted(counted: Counted) -> Answer {
+    answer(counted.number, counted.count)
 }
 
 /// A number, and a place or count.

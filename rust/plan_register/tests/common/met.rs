@@ -5,17 +5,16 @@ use reference::register::Answer;
 use std::collections::BTreeMap;
 
 /// Every number that a call of the order system can answer on a register that was opened.
-pub const ANSWERS: [(&str, u32); 14] = [
+pub const ANSWERS: [(&str, u32); 13] = [
+    ("count", 0),
+    ("count", 6),
+    ("count", 7),
+    ("count", 8),
     ("enter", 0),
     ("enter", 6),
     ("enter", 7),
     ("enter", 9),
     ("enter", 101),
-    ("fit", 0),
-    ("fit", 6),
-    ("fit", 7),
-    ("fit", 8),
-    ("fit", 102),
     ("strike", 0),
     ("strike", 6),
     ("strike", 7),

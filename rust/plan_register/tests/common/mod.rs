@@ -7,6 +7,8 @@
 //! | `numbers`    | rows, columns and top of a call, and grids that fail questions |
 //! | `sets`       | represent and same, of the order system and of a terminal      |
 //! | `calls`      | calls on a register, each compared with the reference          |
+//! | `forms`      | bounds to count the entries of a register in                   |
+//! | `pruned`     | bounds that are pruned once, and registers to count them in    |
 //! | `met`        | which numbers the calls of lists answered                      |
 //! | `faults`     | registers and slices that fail questions                       |
 //! | `question_5` | question 5 on bytes that may be no register                    |
@@ -16,10 +18,12 @@
 pub mod book;
 pub mod calls;
 pub mod faults;
+pub mod forms;
 mod lent;
 pub mod limits;
 pub mod met;
 pub mod numbers;
+pub mod pruned;
 pub mod question_5;
 pub mod sets;
 

@@ -1,4 +1,4 @@
-//! Question 5 on bytes that may be no register, by enter, strike, fit and a terminal's enter.
+//! Question 5 on bytes that may be no register, by enter, strike, count and a terminal's enter.
 
 use super::calls::check_call;
 use plan_register::{Refusal, Register};
@@ -27,7 +27,7 @@ fn check_with(bytes: &[u8], grid: &[u8]) -> bool {
     for call in [
         Call::Enter(grid()),
         Call::Strike(grid()),
-        Call::Fit((grid(), grid())),
+        Call::Count((grid(), grid())),
         Call::TerminalEnter(grid()),
     ] {
         let number = check_call(&mut bytes.to_vec(), &call).number;

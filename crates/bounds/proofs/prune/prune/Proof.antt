@@ -1,69 +1,37 @@
 -- `prune` meets its contract: a refusal has the number of the first no; past the questions the rows are narrowed in copies,
 -- and where some grid has allperm the copies are the new bounds.
 use mathlib.Core.Path.{_≡_, refl, sym, _∙_}
-use mathlib.Core.List.{[], _∷_}
-use mathlib.Core.Bool.{true}
+use mathlib.Core.List.{[]}
 use native.Mathlib.Omega.{arith}
 use borrow.Author.Tests.{not-true, not-false}
 use borrow.Author.Needs.{needs}
-use Rattle.grids.specs.Questions.{firstNo, question7}
-use Rattle.grids.proofs.QuestionLaws.{two-capped, first-cells-no, second-cells-no}
+use Rattle.grids.specs.Questions.{firstNo, Limits}
+use Rattle.grids.proofs.QuestionLaws.{limits-decide, size-fits}
 use Rattle.bounds.specs.Prune.{pruneQuestions}
-use Rattle.bounds.proofs.PruneSteps.{prune-shape-no, prune-cells-no, prune-lengths, prune-order-no, prune-asked, prune-size, narrow-ready, prune-none, Wrote, narrow-wrote, parts-within, removed-ready, parts-fit, prune-some}
+use Rattle.bounds.proofs.PruneSteps.{prune-limits-no, prune-bounds-no, prune-yes, prune-size, narrow-ready, prune-none, Wrote, narrow-wrote, parts-within, removed-ready, parts-fit, prune-some}
 use Rattle.bounds.proofs.prune.prune.Statement.{statement}
 use Rattle.bounds.proofs.prune.prune.Tie as tie
 
 returns : tie.Need-returns
-returns c = prune-shape-no _ _ _ _ _ _ (c .before .shape-no .ensures) (c .if1 .taken)
+returns c = prune-limits-no _ _ _ _ _ _ (c .before .limits-no .ensures) (c .if1 .taken)
 
-returns-2 : tie.Need-returns-2
-returns-2 c =
-    let t = sym (c .before .is-capped .ensures) ∙ not-true _ (c .if2 .taken) in
-    let d = c .before .before .before in
-    prune-cells-no _ _ _ _ _ _ (d .before .shape-no .ensures) (d .if1 .left) (first-cells-no _ _ _ t)
-
-returns-3 : tie.Need-returns-3
-returns-3 c =
-    let e = c .before .before .before in
-    let ta = sym (e .before .is-capped .ensures) ∙ not-false _ (e .if2 .left) in
-    let tb = sym (c .before .is-capped2 .ensures) ∙ not-true _ (c .if3 .taken) in
-    let d = e .before .before .before in
-    prune-cells-no _ _ _ _ _ _ (d .before .shape-no .ensures) (d .if1 .left) (second-cells-no _ _ _ _ ta tb)
-
--- past question 7: what is known past the shape, and of the cells
-abbrev shaped : tie.Else3 → tie.Else1
-shaped c = c .before .before .before .before .before .before
-
-capped-all : (c : tie.Else3) →
-    let a = shaped c .before .before .before .before .args in
-    question7 (a .top) (a .low .now ∷ a .high .now ∷ []) .answer ≡ true
-capped-all c =
-    let d = c .before .before .before in
-    two-capped _ _ _ (sym (d .before .is-capped .ensures) ∙ not-false _ (d .if2 .left)) (sym (c .before .is-capped2 .ensures) ∙ not-false _ (c .if3 .left))
-
-is-ordered-requires : tie.Need-is-ordered-requires
-is-ordered-requires c κs =
-    let d = shaped (c .before .before) in
-    let a = d .before .before .before .before .args in
-    prune-lengths _ _ _ (a .low .now) (a .high .now) _ (d .before .shape-no .ensures) (d .if1 .left)
-
-returns-4 : tie.Need-returns-4
-returns-4 c =
-    let e = c .before .before .before .before in
-    let d = shaped e in
-    prune-order-no _ _ _ _ _ _ (d .before .shape-no .ensures) (d .if1 .left) (capped-all e) _ (c .before .is-ordered .ensures) (not-true _ (c .if4 .taken))
-
--- past the questions
-passed : (c : tie.Else4) →
-    let a = shaped (c .before .before .before .before) .before .before .before .before .args in
-    firstNo (pruneQuestions (a .m) (a .n) (a .top) (a .low .now) (a .high .now)) ≡ 0
-passed c =
-    let e = c .before .before .before .before in
-    let d = shaped e in
-    prune-asked _ _ _ _ _ _ (d .before .shape-no .ensures) (d .if1 .left) (capped-all e) _ (c .before .is-ordered .ensures) (not-false _ (c .if4 .left))
+-- past questions 1 to 3
+within : (c : tie.Else1) →
+    let a = c .before .before .before .before .args in
+    Limits (a .m) (a .n) (a .top)
+within c = limits-decide _ _ _ .0 (sym (c .before .limits-no .ensures) ∙ c .if1 .left)
 
 mul-size : tie.Need-mul-size
-mul-size c = omega (arith, prune-size _ _ _ _ _ (passed c))
+mul-size c = let l = within c in omega (arith, size-fits _ _ (l .rows-limits .1) (l .column-limits .1))
+
+returns-2 : tie.Need-returns-2
+returns-2 c = prune-bounds-no _ _ _ _ _ (within (c .before .before .before .before)) _ (c .before .bounds-no .ensures) (c .if2 .taken)
+
+-- past the questions
+passed : (c : tie.Else2) →
+    let a = c .before .before .before .before .before .before .before .before .args in
+    firstNo (pruneQuestions (a .m) (a .n) (a .top) (a .low .now) (a .high .now)) ≡ 0
+passed c = prune-yes _ _ _ _ _ (within (c .before .before .before .before)) _ (c .before .bounds-no .ensures) (c .if2 .left)
 
 sub-narrow : tie.Need-sub-narrow
 sub-narrow c = search needs
@@ -80,20 +48,20 @@ part-highs-end c = prune-size _ _ _ _ _ (passed (c .before .before .before))
 narrow-requires : tie.Need-narrow-requires
 narrow-requires c κs = narrow-ready _ _ _ _ _ (passed (c .before .before .before .before)) _ _ refl refl
 
-returns-5 : tie.Need-returns-5
-returns-5 c =
+returns-3 : tie.Need-returns-3
+returns-3 c =
     let d = c .before .before .before in
-    prune-none _ _ _ _ _ (passed (d .before .before .before .before .before)) (d .narrow .result) _ _ (d .narrow .ensures) (not-true _ (c .if5 .taken))
+    prune-none _ _ _ _ _ (passed (d .before .before .before .before .before)) (d .narrow .result) _ _ (d .narrow .ensures) (not-true _ (c .if3 .taken))
 
 -- past narrow: the lists that it leaves
-wrote : (c : tie.Else5) →
+wrote : (c : tie.Else3) →
     let d = c .before .before .before in
-    let a = shaped (d .before .before .before .before .before .before .before .before .before) .before .before .before .before .args in
+    let a = d .before .before .before .before .before .before .before .before .before .before .before .before .before .args in
     let l = d .narrow .last in
     Wrote (a .m) (a .n) (a .top) (a .low .now) (a .high .now) (l .1 .1 .1 .1 .0) (l .1 .1 .1 .1 .1 .0)
 wrote c =
     let d = c .before .before .before in
-    narrow-wrote _ _ _ _ _ (passed (d .before .before .before .before .before)) (d .narrow .result) _ _ (d .narrow .ensures) (not-false _ (c .if5 .left))
+    narrow-wrote _ _ _ _ _ (passed (d .before .before .before .before .before)) (d .narrow .result) _ _ (d .narrow .ensures) (not-false _ (c .if3 .left))
 
 sub-removed : tie.Need-sub-removed
 sub-removed c = search needs
@@ -128,18 +96,18 @@ part-copy-end-2 c = parts-within _ _ _ _ _ _ _ (wrote (c .before .before .before
 copy-requires-2 : tie.Need-copy-requires-2
 copy-requires-2 c κs = parts-fit _ _ _ _ _ _ _ (wrote (c .before .before .before .before .before .before .before .before .before .before .before .before .before .before .before .before)) [] _ .1
 
-same-length-8 : tie.Need-same-length-8
-same-length-8 c = search needs
+same-length-5 : tie.Need-same-length-5
+same-length-5 c = search needs
 
-same-length-9 : tie.Need-same-length-9
-same-length-9 c = search needs
+same-length-6 : tie.Need-same-length-6
+same-length-6 c = search needs
 
-returns-6 : tie.Need-returns-6
-returns-6 c =
+returns-4 : tie.Need-returns-4
+returns-4 c =
     let d = c .before .before .before .before .before .before .before .before in
     let e = d .before .before .before .before in
     prune-some _ _ _ _ _ _ _ (wrote (e .before .before .before .before .before .before .before)) _ _ _ _ _ (e .removed .ensures) (d .copy .ensures .1) (c .before .before .copy2 .ensures .1)
 
 pub prune-spec : {M : Type 1} → statement M
 prune-spec =
-    tie.close (search (tie.spec, returns, returns-2, returns-3, is-ordered-requires, returns-4, mul-size, sub-narrow, part-lows-end, sub-narrow-2, part-highs-end, narrow-requires, returns-5, sub-removed, part-removed-end, sub-removed-2, part-removed-end-2, removed-requires, sub-copy, part-copy-end, copy-requires, sub-copy-2, part-copy-end-2, copy-requires-2, same-length-8, same-length-9, returns-6, needs))
+    tie.close (search (tie.spec, returns, mul-size, returns-2, sub-narrow, part-lows-end, sub-narrow-2, part-highs-end, narrow-requires, returns-3, sub-removed, part-removed-end, sub-removed-2, part-removed-end-2, removed-requires, sub-copy, part-copy-end, copy-requires, sub-copy-2, part-copy-end-2, copy-requires-2, same-length-5, same-length-6, returns-4, needs))

@@ -1,11 +1,14 @@
--- `answer_line` meets its contract: the line is not laid, or its call is made.
+-- `answer_line` meets its contract: the line is not laid, or its command is answered.
 use mathlib.Core.Path.{_∙_}
 use native.Mathlib.Omega.{arith}
 use borrow.Author.Needs.{needs}
 use Rattle.permutations.proofs.ListLaws.{part-length}
-use Rattle.transcript.proofs.CallSteps.{answer-malformed, answer-called}
+use Rattle.transcript.proofs.CallSteps.{answer-malformed, answer-made}
 use Rattle.transcript.proofs.answers.answer_line.Statement.{statement}
 use Rattle.transcript.proofs.answers.answer_line.Tie as tie
+
+mul-size : tie.Need-mul-size
+mul-size c = search needs
 
 read-command-requires : tie.Need-read-command-requires
 read-command-requires c κs = search needs
@@ -13,7 +16,7 @@ read-command-requires c κs = search needs
 returns : tie.Need-returns
 returns c =
     let a = c .before .before .before .before .before .before in
-    answer-malformed (c .before .before .read-command .ensures) (a .args .register .now) (c .if1 .taken)
+    answer-malformed _ _ _ (c .before .before .read-command .ensures) (a .args .register .now) (c .if1 .taken)
 
 cell-count-requires : tie.Need-cell-count-requires
 cell-count-requires c κs = search needs
@@ -34,8 +37,8 @@ same-length c = search needs
 returns-2 : tie.Need-returns-2
 returns-2 c =
     let a = c .before .before .before .before .before .before .before .before .before .before .before .before .before in
-    answer-called (c .before .before .before .before .before .before .before .before .before .read-command .ensures) (a .args .register .now) (c .before .before .before .before .before .before .before .if1 .left) (c .before .before .before .before .before .before .cell-count .ensures .0) (c .before .before .make-call .ensures)
+    answer-made _ _ _ (c .before .before .before .before .before .before .before .before .before .read-command .ensures) (a .args .register .now) (c .before .before .before .before .before .before .before .if1 .left) (c .before .before .before .before .before .before .cell-count .ensures .0) (c .before .before .make-call .ensures)
 
 pub answer-line-spec : {M : Type 1} → statement M
 answer-line-spec =
-    tie.close (search (tie.spec, read-command-requires, returns, cell-count-requires, part-make-call-end, make-call-requires, same-length, returns-2, needs))
+    tie.close (search (tie.spec, mul-size, read-command-requires, returns, cell-count-requires, part-make-call-end, make-call-requires, same-length, returns-2, needs))

@@ -10,10 +10,10 @@ use Rattle.transcript.proofs.answers.answer_lines.Statement.{statement}
 use Rattle.transcript.proofs.answers.answer_lines.Tie as tie
 
 abbrev Inv-loop : tie.InvT-loop
-Inv-loop input size register₀ out₀ at₀ printed₀ register out at printed = Answering input out₀ register out at printed
+Inv-loop input m n top register₀ out₀ at₀ printed₀ register out at printed = Answering input out₀ register out at printed
 
 abbrev μ-loop : tie.MeasureT-loop
-μ-loop input size register₀ out₀ at₀ printed₀ register out at printed = length input - at
+μ-loop input m n top register₀ out₀ at₀ printed₀ register out at printed = length input - at
 
 loop-holds : tie.Need-loop-holds Inv-loop μ-loop
 loop-holds c = answering-none (c .before .before .before .pre)

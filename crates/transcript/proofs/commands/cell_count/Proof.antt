@@ -1,4 +1,4 @@
--- `cell_count` meets its contract: low and high of each cell for a fit, else the cells.
+-- `cell_count` meets its contract: low and high of each cell for command 3, else the cells.
 use mathlib.Core.Path.{refl}
 use native.Mathlib.Omega.{arith}
 use borrow.Author.Needs.{needs}

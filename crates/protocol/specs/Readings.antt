@@ -1,0 +1,62 @@
+-- Command lines as calls: which call of the register a line makes, once prune has answered where the command is 3.
+--
+--   Reading              ==  no call: the command and the number that are printed, with 0; or a call, and the command that its answer is printed under
+--   afterPrune k p       ==  after prune answered and left p: its number, unless it is 0: then a count of the bounds that it left
+--   readCommand m n top k c  ==  the command k with the cells c, on a register of m rows, n columns and this top
+--   readBy m n top line, readLine s line  ==  a line, by these numbers or by those of s: 12 under command 0 where it is not laid
+--   madeBy r, madeIn s ls  ==  the call that a line makes, if any; the calls of lines, in order
+--   commandOf r          ==  the command that is printed
+--   answeredBy i b r     ==  what is answered to a line by an implementation on the register b, and the bytes that are left
+use mathlib.Core.List.{List, [], _∷_, flatMap}
+use mathlib.Core.Bool.{true, false}
+use Prim.Native.Nat.{ℕ, zero, suc, _*_}
+use lib.Dec.{eqb}
+use Rattle.bounds.specs.Prune.{Pruned, pruned}
+use Rattle.layout.specs.Layout.{Shape}
+use Rattle.machine.specs.Calls.{Outcome, refusal}
+use Rattle.machine.specs.CallLists.{Call, enter, strike, countIn, Implementation, called}
+use Rattle.protocol.specs.Input.{commandIn, cellsIn, isLaid}
+use Rattle.protocol.specs.Commands.{lows, highs}
+
+pub data Reading : Type 0 where
+  says : ℕ → ℕ → Reading
+  calls : ℕ → Call → Reading
+
+unfoldable pub afterPrune : ℕ → Pruned → Reading
+afterPrune k p =
+    elim (p .number) [
+      | zero ↦ calls k (countIn (p .low) (p .high))
+      | suc j ↦ says k (suc j)
+    ]
+
+unfoldable pub readCommand : ℕ → ℕ → ℕ → ℕ → List ℕ → Reading
+readCommand m n top k c =
+    elim (eqb k 1) [
+      | true ↦ calls k (enter c)
+      | false ↦ elim (eqb k 2) [ true ↦ calls k (strike c) | false ↦ afterPrune k (pruned m n top (lows (m * n) c) (highs (m * n) c)) ]
+    ]
+
+unfoldable pub readBy : ℕ → ℕ → ℕ → List ℕ → Reading
+readBy m n top line =
+    elim (isLaid (m * n) line) [
+      | true ↦ readCommand m n top (commandIn line) (cellsIn (m * n) line)
+      | false ↦ says 0 12
+    ]
+
+abbrev pub readLine : Shape → List ℕ → Reading
+readLine s line = readBy (s .rows) (s .columns) (s .top) line
+
+unfoldable pub madeBy : Reading → List Call
+madeBy (says k x) = []
+madeBy (calls k c) = c ∷ []
+
+unfoldable pub madeIn : Shape → List (List ℕ) → List Call
+madeIn s ls = flatMap (λ line. madeBy (readLine s line)) ls
+
+unfoldable pub commandOf : Reading → ℕ
+commandOf (says k x) = k
+commandOf (calls k c) = k
+
+unfoldable pub answeredBy : Implementation → List ℕ → Reading → Outcome
+answeredBy i b (says k x) = refusal x b
+answeredBy i b (calls k c) = called i b c
