@@ -1,5 +1,6 @@
 -- Counting on the machine's bytes: bounds as sent, and what prune leaves of them.
 --
+--   inside s l low high  ==  how many grids of the set l lie in the bounds
 --   counted-bounds  ==  a count of bounds answers 0 and the number of classes whose least grid lies in them
 --   counted-sent    ==  an accepted count has that number
 --   sent-bounds     ==  slices that prune answers with 0 are bounds
@@ -28,15 +29,15 @@ use Rattle.machine.proofs.SortedLaws.{Grids}
 use Rattle.machine.proofs.MachineLaws.{Good, self-least, count-same}
 use Rattle.machine.proofs.LiveLaws.{bounds-refused}
 
-abbrev inside : Shape → Grids → List ℕ → List ℕ → ℕ
+abbrev pub inside : Shape → Grids → List ℕ → List ℕ → ℕ
 inside s l low high = length (select (inBounds (gridSize s) (s .top) low high) l)
 
 module _ (s : Shape) (l : Grids) (g : Good s l) (low high : List ℕ) where
-  pub counted-bounds : IsBounds (gridSize s) (s .top) low high → counted (shown s l) low high ≡ placed 0 (length (select (inBounds (gridSize s) (s .top) low high) l)) (shown s l)
+  pub counted-bounds : IsBounds (gridSize s) (s .top) low high → counted (shown s l) low high ≡ placed 0 (inside s l low high) (shown s l)
   unfolding stepUnless countClasses outcome
   counted-bounds i = count-same s l g low high ∙ ap (λ (k : ℕ). outcome s (stepUnless k l (countClasses s l low high))) (bounds-pass (gridSize s) (s .top) low high .1 i)
 
-  pub counted-sent : accepted (counted (shown s l) low high .number) ≡ true → counted (shown s l) low high .place ≡ length (select (inBounds (gridSize s) (s .top) low high) l)
+  pub counted-sent : accepted (counted (shown s l) low high .number) ≡ true → counted (shown s l) low high .place ≡ inside s l low high
   unfolding stepUnless countClasses outcome
   counted-sent h = ap (λ (o : Outcome). o .place) same ∙ go k refl (sym (ap (λ (o : Outcome). accepted (o .number)) same) ∙ h)
     where
@@ -62,12 +63,12 @@ module _ (s : Shape) (low high : List ℕ) where
         (ap length (select-ext _ _ l (λ r m. least-same-bounds (s .rows) (s .columns) (s .top) low high (w .1) r r (self-least s l g r m))))
 
     pub counted-pruned : prunedFor s low high .number ≡ 0 →
-        counted (shown s l) (prunedFor s low high .low) (prunedFor s low high .high) ≡ placed 0 (length (select (inBounds (gridSize s) (s .top) low high) l)) (shown s l)
+        counted (shown s l) (prunedFor s low high .low) (prunedFor s low high .high) ≡ placed 0 (inside s l low high) (shown s l)
     counted-pruned z =
         counted-bounds s l g (prunedFor s low high .low) (prunedFor s low high .high) (pruned-is-bounds (s .rows) (s .columns) (s .top) low high z)
         ∙ ap (λ (n : ℕ). placed 0 n (shown s l)) (same-inside z)
 
-    pub none-inside : prunedFor s low high .number ≡ 102 → IsBounds (gridSize s) (s .top) low high × (length (select (inBounds (gridSize s) (s .top) low high) l) ≡ 0)
+    pub none-inside : prunedFor s low high .number ≡ 102 → IsBounds (gridSize s) (s .top) low high × (inside s l low high ≡ 0)
     none-inside z =
         let w = says-none (s .rows) (s .columns) (s .top) low high z in (
           prune-pass (s .rows) (s .columns) (s .top) low high .0 (w .0) .1,

@@ -2,7 +2,8 @@
 --
 --   call-same            ==  each call on the machine's bytes answers and leaves what the machine does
 --   run-same, left-shown ==  the same of whole lists
---   never                ==  a number other than the machine's is never answered: 5 and 102 are not
+--   machineNumbers       ==  the numbers that the machine answers
+--   never                ==  no other is ever answered: neither 5 nor 102 is
 --   open-answers         ==  an open whose questions all get a yes answers 0
 --   opened-good, opened-shown  ==  after an open that answered 0: the empty set and its bytes
 --   shown-count          ==  the machine's bytes state the size of its set
@@ -17,7 +18,9 @@ use Prim.Native.Nat.{ℕ, zero, suc, _*_}
 use native.Mathlib.Omega.{arith}
 use lib.ListN.{length}
 use lib.Dec.{eqb}
+use borrow.Author.Tests.{not-true}
 use Rattle.permutations.specs.Lists.{every, All}
+use Rattle.permutations.proofs.ListLaws.{every-all}
 use Rattle.machine.proofs.AskedLaws.{open-pass}
 use Rattle.machine.proofs.CallListLaws.{meets-has}
 use Rattle.layout.specs.Layout.{Shape, Register, gridSize, layout, layoutLength, count, decode, InLimits}
@@ -55,7 +58,10 @@ left-shown s (c ∷ calls) l g = ap (λ (o : Outcome). left registerCalls (o .by
 
 -- ---- numbers that no call answers
 
-other : (n : ℕ) → All (λ k. eqb k n ≡ false) (0 ∷ 6 ∷ 7 ∷ 8 ∷ 9 ∷ 10 ∷ 14 ∷ 101 ∷ []) → (l : Grids) → Answerable (λ k p. eqb k n ≡ false) l
+abbrev pub machineNumbers : List ℕ
+machineNumbers = 0 ∷ 6 ∷ 7 ∷ 8 ∷ 9 ∷ 10 ∷ 14 ∷ 101 ∷ []
+
+other : (n : ℕ) → All (λ k. eqb k n ≡ false) machineNumbers → (l : Grids) → Answerable (λ k p. eqb k n ≡ false) l
 other n (zero-is, (length-is, (cells-are, (order-is, (full-is, (none-is, (rows-are, (held-is, u)))))))) l = record {
   length-no = length-is;
   cells-no = cells-are;
@@ -68,10 +74,13 @@ other n (zero-is, (length-is, (cells-are, (order-is, (full-is, (none-is, (rows-a
   counted = λ t. zero-is;
 }
 
-pub never : (n : ℕ) → All (λ k. eqb k n ≡ false) (0 ∷ 6 ∷ 7 ∷ 8 ∷ 9 ∷ 10 ∷ 14 ∷ 101 ∷ []) → (s : Shape) (calls : List Call) (l : Grids) → every (λ o. not (eqb (o .number) n)) (outcomes s l calls) ≡ true
+pub never : (n : ℕ) → every (λ k. not (eqb k n)) machineNumbers ≡ true → (s : Shape) (calls : List Call) (l : Grids) → every (λ o. not (eqb (o .number) n)) (outcomes s l calls) ≡ true
 unfolding outcomes outcome every
-never n h s [] l = refl
-never n h s (c ∷ calls) l = rw (step-answers (λ k p. eqb k n ≡ false) s l (other n h l) c) (never n h s calls (step s l c .next))
+never n h s calls l = go (every-all (λ k. eqb k n ≡ false) (λ k. not (eqb k n)) (λ k t. not-true (eqb k n) t) machineNumbers h) calls l
+  where
+    go : All (λ k. eqb k n ≡ false) machineNumbers → (calls : List Call) (l : Grids) → every (λ o. not (eqb (o .number) n)) (outcomes s l calls) ≡ true
+    go a [] l = refl
+    go a (c ∷ calls) l = rw (step-answers (λ k p. eqb k n ≡ false) s l (other n a l) c) (go a calls (step s l c .next))
 
 -- ---- after an open that answered 0
 
@@ -161,12 +170,12 @@ module _ (s : Shape) (slice slice′ : List ℕ) (e : opened s slice .number ≡
           ∙ sym (end-bytes s slice′ e′ calls′)
 
 after-open : (s : Shape) (slice : List ℕ) → opened s slice .number ≡ 0 → (calls : List Call) → AfterOpen registerCalls s (opened s slice .bytes) calls
-unfolding registerCalls
+unfolding registerCalls every
 after-open s slice e calls = record {
   starts = opened-shown s slice e;
   answers = end-run s slice e calls;
-  laid = rw (end-run s slice e calls) (never 5 (refl, (refl, (refl, (refl, (refl, (refl, (refl, (refl, tt)))))))) s calls []);
-  never-none = rw (end-run s slice e calls) (never 102 (refl, (refl, (refl, (refl, (refl, (refl, (refl, (refl, tt)))))))) s calls []);
+  laid = rw (end-run s slice e calls) (never 5 refl s calls []);
+  never-none = rw (end-run s slice e calls) (never 102 refl s calls []);
   classes = end s slice e calls;
   lists = end-lists s slice e calls;
   counts = ap count (end-bytes s slice e calls) ∙ shown-count s (end s slice e calls) (end-good s slice e calls);

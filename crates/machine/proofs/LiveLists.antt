@@ -9,14 +9,13 @@ use mathlib.Core.List.{List}
 use mathlib.Core.Bool.{Bool, true}
 use Prim.Native.Nat.{ℕ}
 use lib.ListN.{length}
-use Rattle.permutations.specs.Lists.{select}
-use Rattle.bounds.specs.Bounds.{inBounds}
-use Rattle.layout.specs.Layout.{Shape, gridSize, count}
+use Rattle.layout.specs.Layout.{Shape, count}
 use Rattle.machine.specs.Calls.{Outcome}
 use Rattle.machine.specs.CallLists.{Call, Implementation, left, accepted}
 use Rattle.machine.specs.Machine.{sorted}
 use Rattle.machine.specs.Demand3.{live, ListsLive, prunedFor, AfterOpen}
 use Rattle.machine.proofs.SortedLaws.{Grids, asc-ext, in-sorted, of-sorted, sorted-asc, length-sorted, count-sorted}
+use Rattle.machine.proofs.CountLaws.{inside}
 use Rattle.machine.proofs.Demand3Laws.{moved}
 
 pub lists-one : (m n : ℕ) (live : List ℕ → Bool) (k l : Grids) → ListsLive m n live k → ListsLive m n live l → sorted k ≡ sorted l
@@ -32,16 +31,16 @@ module _ (i : Implementation) (s : Shape) (b : List ℕ) (calls : List Call) (a 
   pub counts-live : count (left i b calls) ≡ length l
   counts-live = a .counts ∙ sym (length-sorted (a .classes)) ∙ ap length one ∙ length-sorted l
 
-  same-inside : (low high : List ℕ) → length (select (inBounds (gridSize s) (s .top) low high) (a .classes)) ≡ length (select (inBounds (gridSize s) (s .top) low high) l)
-  same-inside low high =
+  as-many : (low high : List ℕ) → inside s (a .classes) low high ≡ inside s l low high
+  as-many low high =
       sym (count-sorted _ (a .classes) (a .lists .once))
-      ∙ ap (λ (x : Grids). length (select (inBounds (gridSize s) (s .top) low high) x)) one
+      ∙ ap (λ (x : Grids). inside s x low high) one
       ∙ count-sorted _ l (y .once)
 
   pub sent-live : (low high : List ℕ) → accepted (i .counts (left i b calls) low high .number) ≡ true →
-      i .counts (left i b calls) low high .place ≡ length (select (inBounds (gridSize s) (s .top) low high) l)
-  sent-live low high h = a .counts-sent low high h ∙ same-inside low high
+      i .counts (left i b calls) low high .place ≡ inside s l low high
+  sent-live low high h = a .counts-sent low high h ∙ as-many low high
 
   pub pruned-live : (low high : List ℕ) → prunedFor s low high .number ≡ 0 →
-      i .counts (left i b calls) (prunedFor s low high .low) (prunedFor s low high .high) .place ≡ length (select (inBounds (gridSize s) (s .top) low high) l)
-  pruned-live low high z = ap (λ (o : Outcome). o .place) (a .counts-pruned low high z) ∙ same-inside low high
+      i .counts (left i b calls) (prunedFor s low high .low) (prunedFor s low high .high) .place ≡ inside s l low high
+  pruned-live low high z = ap (λ (o : Outcome). o .place) (a .counts-pruned low high z) ∙ as-many low high

@@ -1,6 +1,7 @@
 -- Command lines as calls: which call of the register a line makes, once prune has answered where the command is 3.
 --
 --   Reading              ==  no call: the command and the number that are printed, with 0; or a call, and the command that its answer is printed under
+--   prunedCells m n top c  ==  what prune answers and leaves of the bounds that the cells c hold in turn
 --   afterPrune k p       ==  after prune answered and left p: its number, unless it is 0: then a count of the bounds that it left
 --   readCommand m n top k c  ==  the command k with the cells c, on a register of m rows, n columns and this top
 --   readBy m n top line, readLine s line  ==  a line, by these numbers or by those of s: 12 under command 0 where it is not laid
@@ -13,7 +14,7 @@ use Prim.Native.Nat.{ℕ, zero, suc, _*_}
 use lib.Dec.{eqb}
 use Rattle.bounds.specs.Prune.{Pruned, pruned}
 use Rattle.layout.specs.Layout.{Shape}
-use Rattle.machine.specs.Calls.{Outcome, refusal}
+use Rattle.machine.specs.Calls.{Outcome, placed}
 use Rattle.machine.specs.CallLists.{Call, enter, strike, countIn, Implementation, called}
 use Rattle.protocol.specs.Input.{commandIn, cellsIn, isLaid}
 use Rattle.protocol.specs.Commands.{lows, highs}
@@ -21,6 +22,9 @@ use Rattle.protocol.specs.Commands.{lows, highs}
 pub data Reading : Type 0 where
   says : ℕ → ℕ → Reading
   calls : ℕ → Call → Reading
+
+abbrev pub prunedCells : ℕ → ℕ → ℕ → List ℕ → Pruned
+prunedCells m n top c = pruned m n top (lows (m * n) c) (highs (m * n) c)
 
 unfoldable pub afterPrune : ℕ → Pruned → Reading
 afterPrune k p =
@@ -33,7 +37,7 @@ unfoldable pub readCommand : ℕ → ℕ → ℕ → ℕ → List ℕ → Readin
 readCommand m n top k c =
     elim (eqb k 1) [
       | true ↦ calls k (enter c)
-      | false ↦ elim (eqb k 2) [ true ↦ calls k (strike c) | false ↦ afterPrune k (pruned m n top (lows (m * n) c) (highs (m * n) c)) ]
+      | false ↦ elim (eqb k 2) [ true ↦ calls k (strike c) | false ↦ afterPrune k (prunedCells m n top c) ]
     ]
 
 unfoldable pub readBy : ℕ → ℕ → ℕ → List ℕ → Reading
@@ -58,5 +62,5 @@ commandOf (says k x) = k
 commandOf (calls k c) = k
 
 unfoldable pub answeredBy : Implementation → List ℕ → Reading → Outcome
-answeredBy i b (says k x) = refusal x b
+answeredBy i b (says k x) = placed x 0 b
 answeredBy i b (calls k c) = called i b c

@@ -16,7 +16,7 @@ use Rattle.machine.specs.CallLists.{registerCalls, called}
 use Rattle.machine.specs.Calls.{entered, struck, counted, placed}
 use Rattle.protocol.specs.Input.{cellCount, cellsIn}
 use Rattle.protocol.specs.Commands.{lows, highs}
-use Rattle.protocol.specs.Readings.{readCommand, readBy, commandOf, answeredBy}
+use Rattle.protocol.specs.Readings.{prunedCells, readCommand, readBy, commandOf, answeredBy}
 use Rattle.protocol.proofs.ReadingLaws.{by-command, by-none, prune-says, prune-calls, command-of}
 use Rattle.transcript.specs.Commands.{ReadsCommand, Parts, PrunesParted}
 use Rattle.transcript.specs.Answers.{Answers}
@@ -45,20 +45,17 @@ parted-pruned {m} {n} {top} c e p q =
     record { number-is = ap (λ (x : Pruned). x .number) d; low-is = ap (λ (x : Pruned). x .low) d; high-is = ap (λ (x : Pruned). x .high) d }
 
 module _ (m n top : ℕ) (b c : List ℕ) {number : ℕ} {low high : List ℕ} (p : PrunesParted m n top c number low high) where
-  abbrev left : Pruned
-  left = pruned m n top (lows (m * n) c) (highs (m * n) c)
-
   pub pruned-no : (number ≡ 0 → ⊥) → placed number 0 b ≡ answeredBy registerCalls b (readCommand m n top 3 c)
   unfolding readCommand answeredBy
   pruned-no h = go number refl
     where
       go : (j : ℕ) → number ≡ j → placed number 0 b ≡ answeredBy registerCalls b (readCommand m n top 3 c)
       go zero z = absurd (h z)
-      go (suc j) z = ap (λ (x : ℕ). placed x 0 b) z ∙ sym (rw (prune-says 3 j left (sym (p .number-is) ∙ z)) refl)
+      go (suc j) z = ap (λ (x : ℕ). placed x 0 b) z ∙ sym (rw (prune-says 3 j (prunedCells m n top c) (sym (p .number-is) ∙ z)) refl)
 
   pub pruned-counted : number ≡ 0 → {x y : List ℕ} → x ≡ low → y ≡ high → {k q : ℕ} → placed k q b ≡ counted b x y → placed k q b ≡ answeredBy registerCalls b (readCommand m n top 3 c)
   unfolding readCommand answeredBy called registerCalls
-  pruned-counted z d e o = o ∙ ap₂ (counted b) (d ∙ p .low-is) (e ∙ p .high-is) ∙ sym (rw (prune-calls 3 left (sym (p .number-is) ∙ z)) refl)
+  pruned-counted z d e o = o ∙ ap₂ (counted b) (d ∙ p .low-is) (e ∙ p .high-is) ∙ sym (rw (prune-calls 3 (prunedCells m n top c) (sym (p .number-is) ∙ z)) refl)
 
 -- ---- a command line
 

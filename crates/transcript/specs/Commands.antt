@@ -6,11 +6,11 @@
 use mathlib.Core.Path.{_≡_}
 use mathlib.Core.List.{List}
 use mathlib.Core.Bool.{true, false}
-use Prim.Native.Nat.{ℕ, _*_, _≤_}
+use Prim.Native.Nat.{ℕ, _≤_}
 use lib.ListN.{length, take}
-use Rattle.bounds.specs.Prune.{pruned}
 use Rattle.protocol.specs.Input.{cellCount, commandIn, cellsIn, isLaid}
 use Rattle.protocol.specs.Commands.{lows, highs}
+use Rattle.protocol.specs.Readings.{prunedCells}
 
 pub record ReadsCommand (size : ℕ) (line cells : List ℕ) (r : ℕ) : Type 0 where
   pub malformed : r ≡ 0 → isLaid size line ≡ false
@@ -25,6 +25,6 @@ pub record Parts (c : List ℕ) (size : ℕ) (low high : List ℕ) : Type 0 wher
   pub high-is : high ≡ highs size c
 
 pub record PrunesParted (m n top : ℕ) (c : List ℕ) (number : ℕ) (low high : List ℕ) : Type 0 where
-  pub number-is : number ≡ pruned m n top (lows (m * n) c) (highs (m * n) c) .number
-  pub low-is : low ≡ pruned m n top (lows (m * n) c) (highs (m * n) c) .low
-  pub high-is : high ≡ pruned m n top (lows (m * n) c) (highs (m * n) c) .high
+  pub number-is : number ≡ prunedCells m n top c .number
+  pub low-is : low ≡ prunedCells m n top c .low
+  pub high-is : high ≡ prunedCells m n top c .high

@@ -6,8 +6,8 @@ use crate::reports::Report;
 ghost use Prim.Native.Nat.{_*_, _≤_};
 ghost use Rattle.transcript.specs.Answers.{Answers, Answered, Runs};
 
-// Answers a command line on a register of m rows, n columns and this top. Returns what is printed for it: 0, 12 and 0 where the line is not laid
-// as it should be.
+// Answers a command line on a register of m rows, n columns and this top. Returns what is printed for it: 0, 12 and 0 where the
+// line is not laid as it should be.
 fn answer_line(line: &[u8], m: usize, n: usize, top: usize, register: &mut [u8]) -> Report
     requires { ⌜ m * n ≤ 128 ⌝ }
     ensures { λ r. ⌜ Answers m n top (now (line .entry)) (now (register .entry)) (now (register .exit)) r ⌝ }

@@ -27,7 +27,7 @@ use Rattle.machine.specs.CallLists.{Implementation, Meets, left}
 use Rattle.machine.specs.CountSlices.{Counting, MeetsCount}
 use Rattle.machine.specs.Demand3.{prunedFor}
 use Rattle.machine.specs.BothCounts.{CountsAlike, BothCounts}
-use Rattle.turned_down.specs.RegisterFaults.{CountsPruned, CountsNone, PrunesLentBounds, Reached, CountsUnlike, CountsBarred}
+use Rattle.turned_down.specs.RegisterFaults.{CountsPruned, CountsNone, PrunesLentBounds, Reached, CountsUnlike, CountsWith102}
 use Rattle.turned_down.specs.TurnedDown.{fault, Turned}
 use Rattle.turned_down.proofs.Differences.{unequal}
 use Rattle.turned_down.proofs.RegisterCases.{column, column-low, column-high, plain, counting}
@@ -120,9 +120,9 @@ counts-unlike = record {
   refused = λ i f d. f .unlike (ap (λ (x : Outcome). x .place) (on-reached i d (f .on) .alike (f .prunes)));
 }
 
-pub counts-barred : Turned (fault BothCounts CountsBarred)
+pub counts-with-102 : Turned (fault BothCounts CountsWith102)
 unfolding reached
-counts-barred = record {
+counts-with-102 = record {
   example = counting counted;
   done = record { on = reached column-low; none = computed .none; some = λ e. omega (arith, computed .none-one) };
   refused = λ i f d. f .some (ap (λ (x : Outcome). x .place) (on-reached i d (f .on) .zero (f .none)));

@@ -30,7 +30,7 @@ use Rattle.turned_down.proofs.Same.{never-same, judges-by-row-sums, com
 use Rattle.turned_down.proofs.Prune.{never-prunes, never-empty, removes-nothing, raises-no-low, lowers-no-high, prunes-unsorted, invents-removed, writes-empty, shortens-bounds, leaves-above-top, ignores-order, prune-writes-refusing}
 use Rattle.turned_down.proofs.Demand3.{stores-first, full-unlooked, not-held-unlooked, invents-count, invents-counts, leaves-out-highs, answers-none, counts-arrangements, leaves-last-line, appends-entries, places-from-zero, inserts-late, opens-nothing, enters-nothing, opens-any-slice, refuses-own-bytes}
 use Rattle.turned_down.proofs.Demand1.{refuses-opens, refuses-enters, grows-slice, open-grows-slice, count-writes, held-writes, open-writes-refusing, opens-capacity-0, asks-cells-first, asks-register-last, trusts-bytes}
-use Rattle.turned_down.proofs.Count.{counts-pruned, counts-none, prunes-lent-bounds, counts-unlike, counts-barred}
+use Rattle.turned_down.proofs.Count.{counts-pruned, counts-none, prunes-lent-bounds, counts-unlike, counts-with-102}
 use Rattle.turned_down.proofs.Terminals.{terminal-hands-back, asks-columns-first, refuses-5-rows, refuses-9-rows, never-14, same-asks-columns-first, same-refuses-5-rows, same-never-14, keeps-8-positions, agrees-with-14, enter-never-14, enter-refuses-5-rows, enter-asks-length-first, enter-writes-with-14, stores-as-sent, terminal-appends, only-acknowledges, enters-twice}
 use Rattle.turned_down.proofs.Planbook.{goes-on-after-13, prints-register-after-11, ends-at-malformed, prints-under-zero, malformed-reaches, refuses-cells-as-malformed, asks-length-first, silent-without-commands, takes-unended, counts-refused-bounds, counts-refused-calls, counts-without-room, clears-rest}
 
@@ -44,7 +44,7 @@ all-orders =
 
 pub turned-down : TurnedDown
 unfolding TurnedDown table
-turned-down = (hands-back, (one-for-all, (refuses-all, (sorts-by-turns, (follows-first, (orders-backwards, (pads-with-zeros, (ignores-length, (ignores-cells, (writes-refusing, (moves-refusing, (never-same, (judges-by-row-sums, (compares-sorted, (orders-from-b, (ignores-b, (moves-with-103, (agrees-as-sent, (miscounts-by-one, (agrees-in-none, (agrees-refusing, (never-prunes, (never-empty, (removes-nothing, (raises-no-low, (lowers-no-high, (prunes-unsorted, (invents-removed, (writes-empty, (shortens-bounds, (leaves-above-top, (ignores-order, (prune-writes-refusing, (stores-first, (full-unlooked, (not-held-unlooked, (invents-count, (invents-counts, (leaves-out-highs, (answers-none, (counts-arrangements, (leaves-last-line, (appends-entries, (places-from-zero, (inserts-late, (opens-nothing, (enters-nothing, (opens-any-slice, (refuses-own-bytes, (refuses-opens, (refuses-enters, (grows-slice, (open-grows-slice, (count-writes, (held-writes, (open-writes-refusing, (opens-capacity-0, (asks-cells-first, (asks-register-last, (trusts-bytes, (counts-pruned, (counts-none, (prunes-lent-bounds, (counts-unlike, (counts-barred, (goes-on-after-13, (prints-register-after-11, (ends-at-malformed, (prints-under-zero, (malformed-reaches, (refuses-cells-as-malformed, (asks-length-first, (silent-without-commands, (takes-unended, (counts-refused-bounds, (counts-refused-calls, (counts-without-room, (clears-rest, (terminal-hands-back, (asks-columns-first, (refuses-5-rows, (refuses-9-rows, (never-14, (same-asks-columns-first, (same-refuses-5-rows, (same-never-14, (keeps-8-positions, (agrees-with-14, (enter-never-14, (enter-refuses-5-rows, (enter-asks-length-first, (enter-writes-with-14, (stores-as-sent, (terminal-appends, (only-acknowledges, (enters-twice, all-orders))))))))))))))))))))))))))))))))))))))))))))))))))))))))))))))))))))))))))))))))))))))))))))))))
+turned-down = (hands-back, (one-for-all, (refuses-all, (sorts-by-turns, (follows-first, (orders-backwards, (pads-with-zeros, (ignores-length, (ignores-cells, (writes-refusing, (moves-refusing, (never-same, (judges-by-row-sums, (compares-sorted, (orders-from-b, (ignores-b, (moves-with-103, (agrees-as-sent, (miscounts-by-one, (agrees-in-none, (agrees-refusing, (never-prunes, (never-empty, (removes-nothing, (raises-no-low, (lowers-no-high, (prunes-unsorted, (invents-removed, (writes-empty, (shortens-bounds, (leaves-above-top, (ignores-order, (prune-writes-refusing, (stores-first, (full-unlooked, (not-held-unlooked, (invents-count, (invents-counts, (leaves-out-highs, (answers-none, (counts-arrangements, (leaves-last-line, (appends-entries, (places-from-zero, (inserts-late, (opens-nothing, (enters-nothing, (opens-any-slice, (refuses-own-bytes, (refuses-opens, (refuses-enters, (grows-slice, (open-grows-slice, (count-writes, (held-writes, (open-writes-refusing, (opens-capacity-0, (asks-cells-first, (asks-register-last, (trusts-bytes, (counts-pruned, (counts-none, (prunes-lent-bounds, (counts-unlike, (counts-with-102, (goes-on-after-13, (prints-register-after-11, (ends-at-malformed, (prints-under-zero, (malformed-reaches, (refuses-cells-as-malformed, (asks-length-first, (silent-without-commands, (takes-unended, (counts-refused-bounds, (counts-refused-calls, (counts-without-room, (clears-rest, (terminal-hands-back, (asks-columns-first, (refuses-5-rows, (refuses-9-rows, (never-14, (same-asks-columns-first, (same-refuses-5-rows, (same-never-14, (keeps-8-positions, (agrees-with-14, (enter-never-14, (enter-refuses-5-rows, (enter-asks-length-first, (enter-writes-with-14, (stores-as-sent, (terminal-appends, (only-acknowledges, (enters-twice, all-orders))))))))))))))))))))))))))))))))))))))))))))))))))))))))))))))))))))))))))))))))))))))))))))))))
 
 ours : Meets registerCalls
 unfolding registerCalls

@@ -28,9 +28,9 @@ use Rattle.layout.specs.Decimal.{field}
 use Rattle.layout.specs.Layout.{gridSize, layoutLength, laidOut}
 use Rattle.machine.specs.CallLists.{accepted}
 use Rattle.machine.specs.Machine.{Step, shown}
-use Rattle.machine.specs.Demand3.{prunedFor}
 use Rattle.protocol.specs.Input.{furtherLines, commandIn, cellsIn, isLaid}
-use Rattle.protocol.specs.Commands.{lows, highs, commandStep, report}
+use Rattle.protocol.specs.Commands.{commandStep, report}
+use Rattle.protocol.specs.Readings.{prunedCells}
 use Rattle.protocol.specs.Transcript.{byteLimit, shapeIn, question12, startNo, transcript}
 use Rattle.protocol.specs.Programs.{Printing, Transcribing, hasRoom}
 
@@ -44,7 +44,7 @@ abbrev pub firstStep : List ℕ → List ℕ → Step
 firstStep input l = commandStep (shapeIn input) [] (commandIn l) (cellsOn input l)
 
 abbrev pub prunedOn : List ℕ → List ℕ → Pruned
-prunedOn input l = prunedFor (shapeIn input) (lows (gridSize (shapeIn input)) (cellsOn input l)) (highs (gridSize (shapeIn input)) (cellsOn input l))
+prunedOn input l = prunedCells (shapeIn input .rows) (shapeIn input .columns) (shapeIn input .top) (cellsOn input l)
 
 unfoldable pub GoesOnAfter13 : Printing → Type 0
 GoesOnAfter13 p = (input : List ℕ) → startNo input ≡ 13 → 19 < length (p input)

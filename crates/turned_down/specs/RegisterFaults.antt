@@ -32,7 +32,7 @@
 --   PrunesLentBounds f   ==  a count leaves the pruned bounds in low, or in high
 --   Reached i, keptOn r  ==  a register reached by calls, and bounds; what prune answers and leaves of them, with its numbers
 --   CountsUnlike i       ==  on some such register bounds as sent and what prune leaves of them are counted as two numbers
---   CountsBarred i       ==  on some such register prune says 102, and some entry is counted
+--   CountsWith102 i      ==  on some such register prune says 102, and some entry is counted
 use mathlib.Core.Path.{_≡_}
 use mathlib.Core.List.{List, _∷_}
 use mathlib.Core.Bool.{true, false}
@@ -168,7 +168,7 @@ pub record CountsUnlike (i : Implementation) : Type 0 where
   pub prunes : keptOn on .number ≡ 0
   pub unlike : i .counts (on .register) (keptOn on .low) (keptOn on .high) .place ≡ i .counts (on .register) (on .low) (on .high) .place → ⊥
 
-pub record CountsBarred (i : Implementation) : Type 0 where
+pub record CountsWith102 (i : Implementation) : Type 0 where
   pub on : Reached i
   pub none : keptOn on .number ≡ 102
   pub some : i .counts (on .register) (on .low) (on .high) .place ≡ 0 → ⊥

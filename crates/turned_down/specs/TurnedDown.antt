@@ -24,7 +24,7 @@ use Rattle.turned_down.specs.PermutationFaults.{Composing, Inverting, Te
 use Rattle.turned_down.specs.RepresentFaults.{HandsBack, OneForAll, RefusesAll, SortsByTurns, FollowsFirst, OrdersBackwards, PadsWithZeros, IgnoresLength, IgnoresCells, WritesRefusing, MovesRefusing}
 use Rattle.turned_down.specs.SameFaults.{NeverSame, JudgesByRowSums, ComparesSorted, OrdersFromB, IgnoresB, MovesWith103, AgreesAsSent, MiscountsByOne, AgreesInNone, AgreesRefusing}
 use Rattle.turned_down.specs.PruneFaults.{NeverPrunes, NeverEmpty, RemovesNothing, RaisesNoLow, LowersNoHigh, PrunesUnsorted, InventsRemoved, WritesEmpty, ShortensBounds, LeavesAboveTop, IgnoresOrder, PruneWritesRefusing}
-use Rattle.turned_down.specs.RegisterFaults.{StoresFirst, FullUnlooked, NotHeldUnlooked, InventsCount, InventsCounts, LeavesOutHighs, AnswersNone, CountsArrangements, LeavesLastLine, AppendsEntries, PlacesFromZero, InsertsLate, OpensNothing, EntersNothing, OpensAnySlice, RefusesOwnBytes, GrowsSlice, OpenGrowsSlice, CountWrites, HeldWrites, OpenWritesRefusing, OpensCapacity0, AsksCellsFirst, AsksRegisterLast, TrustsBytes, CountsPruned, CountsNone, PrunesLentBounds, CountsUnlike, CountsBarred, CountsBarred}
+use Rattle.turned_down.specs.RegisterFaults.{StoresFirst, FullUnlooked, NotHeldUnlooked, InventsCount, InventsCounts, LeavesOutHighs, AnswersNone, CountsArrangements, LeavesLastLine, AppendsEntries, PlacesFromZero, InsertsLate, OpensNothing, EntersNothing, OpensAnySlice, RefusesOwnBytes, GrowsSlice, OpenGrowsSlice, CountWrites, HeldWrites, OpenWritesRefusing, OpensCapacity0, AsksCellsFirst, AsksRegisterLast, TrustsBytes, CountsPruned, CountsNone, PrunesLentBounds, CountsUnlike, CountsWith102, CountsWith102}
 use Rattle.turned_down.specs.TerminalFaults.{representing, comparing, AsksColumnsFirst, Refuses5Rows, Refuses9Rows, Never14, Keeps8Positions, AgreesWith14, EnterNever14, EnterRefuses5Rows, EnterAsksLengthFirst, EnterWritesWith14, StoresAsSent, TerminalAppends, OnlyAcknowledges, EntersTwice}
 use Rattle.turned_down.specs.PlanbookFaults.{GoesOnAfter13, PrintsRegisterAfter11, EndsAtMalformed, PrintsUnderZero, MalformedReaches, RefusesCellsAsMalformed, AsksLengthFirst, SilentWithoutCommands, TakesUnended, CountsRefusedBounds, CountsWithoutRoom, ClearsRest}
 
@@ -134,7 +134,7 @@ table =
     ∷ fault MeetsCount PrunesLentBounds
     -- by both counts on a register reached by calls: two numbers, or an entry with 102
     ∷ fault BothCounts CountsUnlike
-    ∷ fault BothCounts CountsBarred
+    ∷ fault BothCounts CountsWith102
     -- by what planbook prints: after 13 and 11, at a line that is not laid, for calls that are refused; the order of the checks, no command, no line feed
     ∷ fault Prints GoesOnAfter13
     ∷ fault Prints PrintsRegisterAfter11
