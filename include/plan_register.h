@@ -26,7 +26,7 @@
 extern "C" {
 #endif
 
-/* The numbers that the calls answer. 1 to 10 and 14 are refusals; the others are none. */
+/* The numbers that the calls answer. 1 to 10 and 14 to 16 are refusals; the others are none. */
 enum {
     PLAN_REGISTER_DONE = 0,           /* the call is done */
     PLAN_REGISTER_ROWS = 1,           /* the rows are not 1 to 8 */
@@ -37,16 +37,19 @@ enum {
     PLAN_REGISTER_LENGTH = 6,         /* a slice has not its exact length */
     PLAN_REGISTER_CELL = 7,           /* a cell or a bound is above top */
     PLAN_REGISTER_BOUNDS = 8,         /* a low is above its high */
-    PLAN_REGISTER_FULL = 9,           /* the class is not held, and the register is full */
-    PLAN_REGISTER_NOT_HELD = 10,      /* the class is not held */
+    PLAN_REGISTER_FULL = 9,           /* nobody holds the class, and the register is full */
+    PLAN_REGISTER_NOT_HELD = 10,      /* this client holds none of the class */
     PLAN_REGISTER_TERMINAL_ROWS = 14, /* a terminal's rows are 6 to 8 */
-    PLAN_REGISTER_HELD = 101,         /* enter: the class was held already */
+    PLAN_REGISTER_CLIENT = 15,        /* the client is not 1 to 8 */
+    PLAN_REGISTER_HOLDING = 16,       /* this client's holding of the class is 999 already */
+    PLAN_REGISTER_HELD = 101,         /* enter: some client held the class already */
     PLAN_REGISTER_NO_GRID = 102,      /* prune: no grid within the bounds has allperm */
     PLAN_REGISTER_TWO_CLASSES = 103   /* same: the two grids are in two classes */
 };
 
-/* The bytes of a register. The numbers are within the limits. */
-#define PLAN_REGISTER_BYTES(m, n, capacity) (31 + (size_t)(capacity) * (3 * (size_t)(m) * (size_t)(n) + 1))
+/* The bytes of a register. The numbers are within the limits. Each line after line 1 has m * n cells
+ * and the holdings of clients 1 to 8, each 3 wide, and a line feed. */
+#define PLAN_REGISTER_BYTES(m, n, capacity) (31 + (size_t)(capacity) * (3 * (size_t)(m) * (size_t)(n) + 25))
 
 /* What represent returns. The arrangement of a grid A by the orders P and Q has the cell
  * A(P(i), Q(j)) in row i, column j. With any number but 0 each position holds its own number. */
@@ -147,21 +150,22 @@ plan_register_counted plan_register_prune(size_t m, size_t n, size_t top,
 plan_register_placed plan_register_open(size_t m, size_t n, size_t top, size_t capacity,
                                         uint8_t *bytes, size_t bytes_length);
 
-/* Enter: the grid's class is held from then on by the register in bytes. The grid has m * n bytes, as
- * the register states them; so have the grid of strike and the bounds of count.
- * 0 with the entry's place if the class was new; 101 with its place if it was held, and nothing is
- * written; otherwise 5, 6, 7 or 9. */
-plan_register_placed plan_register_enter(uint8_t *bytes, size_t bytes_length,
+/* Enter: the client, 1 to 8, holds one more of the grid's class in the register in bytes. The grid has
+ * m * n bytes, as the register states them; so have the grid of strike and the bounds of count.
+ * 0 with the entry's place if the class was new; 101 with its place if some client held it, and the
+ * client's holding is written; otherwise 5, 6, 7, 15, 9 or 16. */
+plan_register_placed plan_register_enter(uint8_t *bytes, size_t bytes_length, size_t client,
                                          const uint8_t *grid, size_t grid_length);
 
-/* Strike: the entry of the grid's class goes, and the later ones move up.
- * 0 with the place that it had; otherwise 5, 6, 7 or 10. */
-plan_register_placed plan_register_strike(uint8_t *bytes, size_t bytes_length,
+/* Strike: the client, 1 to 8, holds one less of the grid's class. Where nobody holds any then, the entry
+ * goes, and the later ones move up.
+ * 0 with the place that the entry had; otherwise 5, 6, 7, 15 or 10. */
+plan_register_placed plan_register_strike(uint8_t *bytes, size_t bytes_length, size_t client,
                                           const uint8_t *grid, size_t grid_length);
 
-/* Count: counts the entries within the bounds, both included. Prunes nothing, writes nothing. On a
- * register that only calls wrote, the count of bounds that were pruned by prune, with the register's
- * m, n and top, is that of the bounds as they were.
+/* Count: counts the entries within the bounds, both included, whoever holds them. Prunes nothing,
+ * writes nothing. On a register that only calls wrote, the count of bounds that were pruned by prune,
+ * with the register's m, n and top, is that of the bounds as they were.
  * 0 with the count of entries; otherwise 5, 6, 7 or 8. */
 plan_register_counted plan_register_count(const uint8_t *bytes, size_t bytes_length,
                                           const uint8_t *low, size_t low_length,
@@ -184,11 +188,11 @@ plan_register_terminal_matched plan_register_terminal_same(size_t m, size_t n, s
                                                            const uint8_t *a, size_t a_length,
                                                            const uint8_t *b, size_t b_length);
 
-/* A terminal's enter: the grid's class is held from then on by the register in bytes, which has at
- * most 5 rows.
- * 0 with the entry's place if the class was new; 101 with its place if it was held, and nothing is
- * written; otherwise 5, 14, 6, 7 or 9. */
-plan_register_placed plan_register_terminal_enter(uint8_t *bytes, size_t bytes_length,
+/* A terminal's enter: the client, 1 to 8, holds one more of the grid's class in the register in bytes,
+ * which has at most 5 rows.
+ * 0 with the entry's place if the class was new; 101 with its place if some client held it, and the
+ * client's holding is written; otherwise 5, 14, 6, 7, 15, 9 or 16. */
+plan_register_placed plan_register_terminal_enter(uint8_t *bytes, size_t bytes_length, size_t client,
                                                   const uint8_t *grid, size_t grid_length);
 
 #ifdef __cplusplus

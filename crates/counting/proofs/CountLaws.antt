@@ -19,11 +19,11 @@ use lib.Seq.{take-suc, take-all, getD-take, getD-drop, length-take-le}
 use Rattle.permutations.specs.Lists.{select}
 use Rattle.permutations.proofs.SelectLaws.{select-yes, select-no, length-select}
 use Rattle.bounds.specs.Bounds.{IsBounds, inBounds}
-use Rattle.layout.specs.Layout.{lineLength, decodeShape, decode}
+use Rattle.layout.specs.Layout.{gridsOf, lineLength, cellsOf, decodeShape, decode}
 use Rattle.layout.specs.Lines.{lineStart, lineAt, EntryLine}
-use Rattle.layout.proofs.LineLaws.{laid-lines, start-zero, next-start, cells-inside}
+use Rattle.layout.proofs.LineLaws.{laid-lines, start-zero, next-start, cells-inside, line-grid, grids-counted}
 use Rattle.machine.specs.Valid.{Valid}
-use Rattle.machine.proofs.ValidLaws.{valid-count, valid-line, valid-sizes, entry-fits}
+use Rattle.machine.proofs.ValidLaws.{valid-sizes, entry-fits}
 use Rattle.counting.specs.Within.{LineOutcome, OrderedBounds, BoundTables, oneMore}
 use Rattle.counting.proofs.LineLaws.{line-within}
 
@@ -47,13 +47,13 @@ select-snoc t (y ∷ l) x = go (t y) refl (select-snoc t l x)
 pub record Counting (b : List ℕ) (n : ℕ) (low high : List ℕ) (found from e : ℕ) : Type 0 where
   pub passed : e ≤ n
   pub place : from ≡ lineStart (length low) e
-  pub counted : found ≡ length (select (inBounds (length low) (decodeShape b .top) low high) (take e (decode b .entries)))
+  pub counted : found ≡ length (select (inBounds (length low) (decodeShape b .top) low high) (take e (gridsOf (decode b .entries))))
 
 pub record Room (size found from length : ℕ) : Type 0 where
   pub few : found < 500
   pub after-head : 31 ≤ from
   pub inside : from + lineLength size ≤ length
-  pub small : from + lineLength size ≤ 192531
+  pub small : from + lineLength size ≤ 204531
   pub wider : 3 * size < lineLength size
   pub narrow : 3 * size ≤ 384
 
@@ -87,7 +87,7 @@ module _ {n : ℕ} {b low high : List ℕ} (k : Valid (length low) n b) where
       let z = valid-sizes k in
       let f = entry-fits k e (lineLength (length low)) h refl in
       record {
-        few = omega (arith, c .counted, length-select (inBounds (length low) (decodeShape b .top) low high) (take e (decode b .entries)), length-take e (decode b .entries), z .count-fits, z .capacity-fits);
+        few = omega (arith, c .counted, length-select (inBounds (length low) (decodeShape b .top) low high) (take e (gridsOf (decode b .entries))), length-take e (gridsOf (decode b .entries)), z .count-fits, z .capacity-fits);
         after-head = omega (arith, c .place);
         inside = omega (arith, c .place, f .0);
         small = omega (arith, c .place, f .1);
@@ -103,11 +103,11 @@ module _ {n : ℕ} {b low high : List ℕ} (k : Valid (length low) n b) where
   counting-next {found} {from} {e} {lows} {spans} {r} more width w c h i t o m = record {
     passed = omega arith;
     place = omega (arith, c .place, next-start (length low) e);
-    counted = m ∙ ap₂ oneMore (c .counted) within ∙ sym (select-snoc (inBounds (length low) (decodeShape b .top) low high) (take e (decode b .entries)) (getD (decode b .entries) e [])) ∙ ap (λ (x : List (List ℕ)). length (select (inBounds (length low) (decodeShape b .top) low high) x)) one-more;
+    counted = m ∙ ap₂ oneMore (c .counted) within ∙ sym (select-snoc (inBounds (length low) (decodeShape b .top) low high) (take e (gridsOf (decode b .entries))) (getD (gridsOf (decode b .entries)) e [])) ∙ ap (λ (x : List (List ℕ)). length (select (inBounds (length low) (decodeShape b .top) low high) x)) one-more;
   }
     where
-      one-more : take e (decode b .entries) ++ (getD (decode b .entries) e [] ∷ []) ≡ take (e + 1) (decode b .entries)
-      one-more = sym (take-suc (decode b .entries) e [] (omega (arith, valid-count k))) ∙ ap (λ (j : ℕ). take j (decode b .entries)) (sym (add-one e))
+      one-more : take e (gridsOf (decode b .entries)) ++ (getD (gridsOf (decode b .entries)) e [] ∷ []) ≡ take (e + 1) (gridsOf (decode b .entries))
+      one-more = sym (take-suc (gridsOf (decode b .entries)) e [] (omega (arith, grids-counted b, k .counts))) ∙ ap (λ (j : ℕ). take j (gridsOf (decode b .entries))) (sym (add-one e))
 
       room : Room (length low) found from (length b)
       room = counting-room c h
@@ -132,13 +132,16 @@ module _ {n : ℕ} {b low high : List ℕ} (k : Valid (length low) n b) where
           let z : from - 1 + (j + 1) ≡ from + j = omega (arith, room .after-head) in
           part-at b (from - 1) (from + 3 * length low - 1 - (from - 1)) (j + 1) (omega (arith, room .after-head)) ∙ ap (λ (s : ℕ). getD b s 0) z ∙ sym (stands j (omega arith))
 
-      within : r ≡ inBounds (length low) (decodeShape b .top) low high (getD (decode b .entries) e [])
+      cells : cellsOf (length low) (lineAt (length low) b e) ≡ getD (gridsOf (decode b .entries)) e []
+      cells = rw (k .sized) (sym (line-grid b e (omega (arith, k .counts))))
+
+      within : r ≡ inBounds (length low) (decodeShape b .top) low high (getD (gridsOf (decode b .entries)) e [])
       within =
           let l = entry-line k e h in
-          line-within line before (l .0) (l .1) same earlier t i r (rw wide at o) ∙ ap (inBounds (length low) (decodeShape b .top) low high) (valid-line k e h .1)
+          line-within line before (l .0) (l .1) same earlier t i r (rw wide at o) ∙ ap (inBounds (length low) (decodeShape b .top) low high) cells
 
-  pub counting-all : {found from e : ℕ} → Counting b n low high found from e → n ≤ e → found ≡ length (select (inBounds (length low) (decodeShape b .top) low high) (decode b .entries))
+  pub counting-all : {found from e : ℕ} → Counting b n low high found from e → n ≤ e → found ≡ length (select (inBounds (length low) (decodeShape b .top) low high) (gridsOf (decode b .entries)))
   counting-all {found} {from} {e} c h =
-      let z = valid-count k in
-      let a = take-all e (decode b .entries) (omega arith) in
+      let z = grids-counted b ∙ sym (k .counts) in
+      let a = take-all e (gridsOf (decode b .entries)) (omega arith) in
       rw a at (c .counted)

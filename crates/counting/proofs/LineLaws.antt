@@ -5,19 +5,20 @@
 --   pass-in, in-pass        ==  the two directions
 --   line-within             ==  the answer that all bytes pass is the test of the cells
 use mathlib.Core.Path.{_≡_, sym, ap, ap₂, _∙_}
-use mathlib.Core.List.{List, [], _∷_}
+use mathlib.Core.List.{List, [], _∷_, _++_}
 use mathlib.Core.Bool.{Bool, true}
 use Prim.Native.Nat.{ℕ, _+_, _*_, _/_, _%_, _≤_, _<_}
 use native.Mathlib.Nat.{mul-comm}
 use native.Mathlib.Decide.{decLt}
 use native.Mathlib.Omega.{arith}
-use lib.ListN.{length, getD, take, drop}
+use lib.ListN.{length, getD, take, drop, length-append, List·getD-append}
 use Rattle.permutations.proofs.BoolLaws.{bool-ext}
 use Rattle.grids.specs.Order.{rank}
 use Rattle.grids.proofs.QuestionLaws.{capped-at}
 use Rattle.bounds.specs.Bounds.{IsBounds, InBounds, inBounds}
 use Rattle.bounds.proofs.BoundsLaws.{inBounds-decides}
-use Rattle.layout.specs.Layout.{entryLine, cellsOf}
+use Rattle.layout.specs.Decimal.{field}
+use Rattle.layout.specs.Layout.{entryLine, cellsOf, holdingsOf}
 use Rattle.layout.specs.Lines.{EntryLine}
 use Rattle.layout.proofs.LayoutLaws.{field-at}
 use Rattle.layout.proofs.LineLaws.{length-cells}
@@ -31,8 +32,11 @@ stated-cell : {size top : ℕ} {l : List ℕ} → EntryLine size top l → top �
 unfolding entryLine
 stated-cell {size} {top} {l} c small j h =
     let m : j < length (cellsOf size l) = omega (arith, length-cells size l) in
+    let n : j < length (cellsOf size l ++ holdingsOf size l) = omega (arith, length-append (cellsOf size l) (holdingsOf size l)) in
     stated-at l (3 * j) (getD (cellsOf size l) j 0) (omega (arith, capped-at top (cellsOf size l) (c .at-most) j m))
-    (ap (λ (x : List ℕ). take 3 (drop (3 * j) x)) (c .bytes) ∙ rw (mul-comm 3 j) (field-at 3 (cellsOf size l) (10 ∷ []) j m))
+    (ap (λ (x : List ℕ). take 3 (drop (3 * j) x)) (c .bytes)
+    ∙ rw (mul-comm 3 j) (field-at 3 (cellsOf size l ++ holdingsOf size l) (10 ∷ []) j n)
+    ∙ ap (field 3) (List·getD-append (cellsOf size l) (holdingsOf size l) 0 j m))
 
 -- l is the entry's line, line its cells' bytes and before those a byte earlier
 module _ {size top : ℕ} {l lows spans low high : List ℕ} (line before : List ℕ) (c : EntryLine size top l) (small : top ≤ 15)

@@ -11,7 +11,7 @@ ghost use lib.ListN.{length};
 ghost use Rattle.permutations.specs.Lists.{select};
 ghost use Rattle.grids.specs.Order.{rank};
 ghost use Rattle.bounds.specs.Bounds.{IsBounds, inBounds};
-ghost use Rattle.layout.specs.Layout.{decodeShape, decode};
+ghost use Rattle.layout.specs.Layout.{gridsOf, decodeShape, decode};
 ghost use Rattle.machine.specs.Valid.{Valid};
 ghost use Rattle.lines.specs.Bytes.{stated};
 ghost use Rattle.counting.specs.Within.{passes, LineOutcome, OrderedBounds, BoundTables, oneMore};
@@ -67,7 +67,7 @@ fn one_more(found: usize, within: bool) -> usize
 // How many entries lie within bounds.
 pub fn count_within(register: &[u8], count: usize, low: &[u8], high: &[u8]) -> usize
     requires { ⌜ Valid (length (now low)) count (now register) × IsBounds (length (now low)) (decodeShape (now register) .top) (now low) (now high) ⌝ }
-    ensures { λ r. ⌜ r ≡ length (select (inBounds (length (now (low .entry))) (decodeShape (now (register .entry)) .top) (now (low .entry)) (now (high .entry))) (decode (now (register .entry)) .entries)) ⌝ }
+    ensures { λ r. ⌜ r ≡ length (select (inBounds (length (now (low .entry))) (decodeShape (now (register .entry)) .top) (now (low .entry)) (now (high .entry))) (gridsOf (decode (now (register .entry)) .entries))) ⌝ }
 {
     let width = 3 * low.len();
     let length = entries::line_length(low.len());

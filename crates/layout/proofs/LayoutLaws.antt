@@ -6,21 +6,24 @@
 --   length-fields, field-at, fields-read  ==  numbers in fields of one width; each field taken out, and read back
 --   length-ended      ==  how many bytes numbers in fields and a line feed take
 --   length-entry, length-blank, length-head, length-entries, length-blanks, length-layout  ==  the lengths of the lines and of the whole
---   Printable r       ==  the numbers and cells of r fit their fields
+--   Fitted size e, Sized size es  ==  an entry, every entry of es, has so many cells and a holding for each client
+--   line-cells, line-holdings, entry-stated  ==  what an entry's line states: its cells, its holdings, itself
+--   Printable r       ==  the numbers, cells and holdings of r fit their fields
 --   decode-layout     ==  what the layout of a printable register states is that register
 --   count-layout      ==  its count
 use mathlib.Core.Path.{_≡_, refl, sym, ap, ap₂, _∙_}
-use mathlib.Core.List.{List, [], _∷_, _++_, map, flatten, append-assoc, List·Memᴰ, List·Memᴰ·head, List·Memᴰ·tail, List·Memᴰ·not-nil, List·Memᴰ·cases-cons, Memᴰ·of-map}
+use mathlib.Core.List.{List, [], _∷_, _++_, map, flatten, append-assoc, append-nil, List·Memᴰ, List·Memᴰ·head, List·Memᴰ·tail, List·Memᴰ·not-nil, List·Memᴰ·cases-cons, Memᴰ·of-map}
 use mathlib.Core.Logic.{_⊎_, inl, inr}
 use Prim.Native.Nat.{ℕ, zero, suc, _+_, _-_, _*_, _^_, _≤_, _<_}
 use native.Mathlib.Nat.{mul-comm, zero-mul, add-mul}
 use native.Mathlib.Omega.{arith}
-use lib.ListN.{length, getD, take, drop, replicate, length-append, length-map, length-replicate}
-use lib.Seq.{take-at, drop-at, drop-drop, drop-cons}
+use lib.ListN.{length, getD, take, drop, replicate, length-append, length-map, length-replicate, List·getD-append}
+use lib.Seq.{take-at, drop-at, drop-drop, drop-cons, getD-append-add}
 use Rattle.permutations.specs.Lists.{tabulate}
 use Rattle.permutations.proofs.ListLaws.{tabulate-is, mem-at, at-map}
 use Rattle.layout.specs.Decimal.{field, value}
-use Rattle.layout.specs.Layout.{Shape, Register, gridSize, fields, headLength, entryWidth, lineLength, entryLine, blankLine, headLine, layout, layoutLength, numberAt, count, entryAt, decodeShape, decode}
+use Rattle.layout.specs.Layout.{Shape, Entry, Register, clients, gridSize, fields, headLength, entryWidth, lineLength, entryLine, blankLine, headLine, layout, layoutLength, numberAt, cellsOf, holdingsOf, entryOf, count, entryAt, decodeShape, decode}
+use Rattle.layout.specs.Lines.{noEntry}
 use Rattle.layout.proofs.DecimalLaws.{value-field, length-field}
 
 -- ---- pieces of one length
@@ -84,9 +87,16 @@ fields-read w l t i h small = ap value (field-at (suc w) l t i h) ∙ value-fiel
 pub length-ended : (w : ℕ) (l : List ℕ) → length (fields w l ++ (10 ∷ [])) ≡ length l * w + 1
 length-ended w l = length-append (fields w l) (10 ∷ []) ∙ ap (λ (n : ℕ). n + 1) (length-fields w l)
 
-pub length-entry : (g : List ℕ) → length (entryLine g) ≡ lineLength (length g)
+pub record Fitted (size : ℕ) (e : Entry) : Type 0 where
+  pub cells : length (e .grid) ≡ size
+  pub held : length (e .holdings) ≡ clients
+
+abbrev pub Sized : ℕ → List Entry → Type 0
+Sized size es = (e : Entry) → List·Memᴰ e es → Fitted size e
+
+pub length-entry : (size : ℕ) (e : Entry) → Fitted size e → length (entryLine e) ≡ lineLength size
 unfolding entryLine lineLength entryWidth
-length-entry g = length-ended 3 g ∙ omega arith
+length-entry size e f = length-ended 3 (e .grid ++ e .holdings) ∙ omega (arith, length-append (e .grid) (e .holdings), f .cells, f .held)
 
 pub length-blank : (size : ℕ) → length (blankLine size) ≡ lineLength size
 unfolding blankLine lineLength
@@ -96,9 +106,31 @@ pub length-head : (s : Shape) (n : ℕ) → length (headLine s n) ≡ headLength
 unfolding headLine
 length-head s n = length-ended 6 (s .rows ∷ s .columns ∷ s .top ∷ s .capacity ∷ n ∷ [])
 
-cell-read : (g u : List ℕ) (k : ℕ) → k < length g → getD g k 0 < 1000 → value (take 3 (drop (3 * k) (entryLine g ++ u))) ≡ getD g k 0
-unfolding entryLine
-cell-read g u k h small = rw (mul-comm 3 k, append-assoc) (fields-read 2 g ((10 ∷ []) ++ u) k h small)
+number-read : (l u : List ℕ) (k : ℕ) → k < length l → getD l k 0 < 1000 → value (take 3 (drop (3 * k) (fields 3 l ++ u))) ≡ getD l k 0
+number-read l u k h small = rw (mul-comm 3 k) (fields-read 2 l u k h small)
+
+-- an entry's line, with anything behind it
+module _ (size : ℕ) (e : Entry) (f : Fitted size e) (u : List ℕ) where
+  pub line-cells : ((k : ℕ) → k < size → getD (e .grid) k 0 < 1000) → cellsOf size (entryLine e ++ u) ≡ e .grid
+  unfolding entryLine cellsOf numberAt
+  line-cells small = tabulate-is 0 (e .grid) size _ (f .cells) λ k c. sym (one k c)
+    where
+      one : (k : ℕ) → k < size → value (take 3 (drop (3 * k) ((fields 3 (e .grid ++ e .holdings) ++ (10 ∷ [])) ++ u))) ≡ getD (e .grid) k 0
+      one k c =
+          let i = List·getD-append (e .grid) (e .holdings) 0 k (omega (arith, f .cells)) in
+          rw append-assoc (number-read (e .grid ++ e .holdings) ((10 ∷ []) ++ u) k (omega (arith, length-append (e .grid) (e .holdings), f .cells)) (omega (arith, i, small k c)) ∙ i)
+
+  pub line-holdings : ((k : ℕ) → k < clients → getD (e .holdings) k 0 < 1000) → holdingsOf size (entryLine e ++ u) ≡ e .holdings
+  unfolding entryLine holdingsOf numberAt
+  line-holdings small = tabulate-is 0 (e .holdings) clients _ (f .held) λ k c. sym (one k c)
+    where
+      one : (k : ℕ) → k < clients → value (take 3 (drop (3 * (size + k)) ((fields 3 (e .grid ++ e .holdings) ++ (10 ∷ [])) ++ u))) ≡ getD (e .holdings) k 0
+      one k c =
+          let i = rw (f .cells) at (getD-append-add (e .grid) (e .holdings) k 0) in
+          rw append-assoc (number-read (e .grid ++ e .holdings) ((10 ∷ []) ++ u) (size + k) (omega (arith, length-append (e .grid) (e .holdings), f .cells, f .held)) (omega (arith, i, small k c)) ∙ i)
+
+  pub entry-stated : ((k : ℕ) → k < size → getD (e .grid) k 0 < 1000) → ((k : ℕ) → k < clients → getD (e .holdings) k 0 < 1000) → entryOf size (entryLine e ++ u) ≡ e
+  entry-stated small held = λ i. record { grid = line-cells small i; holdings = line-holdings held i }
 
 -- ---- the whole register
 
@@ -108,8 +140,9 @@ pub record Printable (r : Register) : Type 0 where
   pub top-small : r .shape .top < 1000000
   pub capacity-small : r .shape .capacity < 1000000
   pub count-small : length (r .entries) < 1000000
-  pub entries-sized : (g : List ℕ) → List·Memᴰ g (r .entries) → length g ≡ gridSize (r .shape)
-  pub entries-small : (g : List ℕ) → List·Memᴰ g (r .entries) → (k : ℕ) → k < length g → getD g k 0 < 1000
+  pub entries-sized : Sized (gridSize (r .shape)) (r .entries)
+  pub cells-small : (e : Entry) → List·Memᴰ e (r .entries) → (k : ℕ) → k < gridSize (r .shape) → getD (e .grid) k 0 < 1000
+  pub held-small : (e : Entry) → List·Memᴰ e (r .entries) → (k : ℕ) → k < clients → getD (e .holdings) k 0 < 1000
 
 -- the number at place i of line 1
 head-read : (s : Shape) (n : ℕ) (t : List ℕ) (i : ℕ) → i < 5 → getD (s .rows ∷ s .columns ∷ s .top ∷ s .capacity ∷ n ∷ []) i 0 < 1000000 →
@@ -118,24 +151,22 @@ unfolding numberAt headLine
 head-read s n t i h small = rw append-assoc (fields-read 5 (s .rows ∷ s .columns ∷ s .top ∷ s .capacity ∷ n ∷ []) ((10 ∷ []) ++ t) i h small)
 
 -- entry e of the body is read back
-entry-read : (size : ℕ) (es : List (List ℕ)) (b blanks : List ℕ) → drop headLength b ≡ flatten (map entryLine es) ++ blanks →
-    ((g : List ℕ) → List·Memᴰ g es → length g ≡ size) → ((g : List ℕ) → List·Memᴰ g es → (k : ℕ) → k < length g → getD g k 0 < 1000) →
-    (e : ℕ) → e < length es → entryAt size b e ≡ getD es e []
-unfolding entryAt numberAt
-entry-read size es b blanks p sized small e h =
-    tabulate-is 0 (getD es e []) size _ (sized (getD es e []) (mem-at es [] e h)) λ k c. sym (one k c)
+entry-read : (size : ℕ) (es : List Entry) (b blanks : List ℕ) → drop headLength b ≡ flatten (map entryLine es) ++ blanks → Sized size es →
+    ((e : Entry) → List·Memᴰ e es → (k : ℕ) → k < size → getD (e .grid) k 0 < 1000) → ((e : Entry) → List·Memᴰ e es → (k : ℕ) → k < clients → getD (e .holdings) k 0 < 1000) →
+    (e : ℕ) → e < length es → entryAt size b e ≡ getD es e noEntry
+unfolding entryAt
+entry-read size es b blanks p sized small held e h =
+    rw (← (drop-drop (e * lineLength size) headLength b), p, q .1, at-map entryLine es e noEntry [] h, take-at (entryLine x) (q .0) (lineLength size) (length-entry size x (sized x at)))
+    (rw (append-nil (entryLine x)) at (entry-stated size x (sized x at) [] (small x at) (held x at)))
   where
-    line : ℕ
-    line = lineLength size
+    x : Entry
+    x = getD es e noEntry
 
-    q : (u : List ℕ) × (drop (e * line) (flatten (map entryLine es) ++ blanks) ≡ getD (map entryLine es) e [] ++ u)
-    q = piece line (map entryLine es) blanks (wide-map entryLine line es (λ g m. length-entry g ∙ ap lineLength (sized g m))) e (omega (arith, length-map es entryLine))
+    at : List·Memᴰ x es
+    at = mem-at es noEntry e h
 
-    one : (k : ℕ) → k < size → value (take 3 (drop (headLength + e * lineLength size + 3 * k) b)) ≡ getD (getD es e []) k 0
-    one k c =
-        let l = sized (getD es e []) (mem-at es [] e h) in
-        rw (← (drop-drop (3 * k) (headLength + e * lineLength size) b), ← (drop-drop (e * lineLength size) headLength b), p, q .1, at-map entryLine es e [] [] h)
-        (cell-read (getD es e []) (q .0) k (omega arith) (small (getD es e []) (mem-at es [] e h) k (omega arith)))
+    q : (u : List ℕ) × (drop (e * lineLength size) (flatten (map entryLine es) ++ blanks) ≡ getD (map entryLine es) e [] ++ u)
+    q = piece (lineLength size) (map entryLine es) blanks (wide-map entryLine (lineLength size) es (λ y m. length-entry size y (sized y m))) e (omega (arith, length-map es entryLine))
 
 module _ (r : Register) (p : Printable r) where
   body : List ℕ
@@ -162,16 +193,16 @@ module _ (r : Register) (p : Printable r) where
   unfolding body
   entries-read =
       rw (count-layout, shape-read)
-      (tabulate-is [] (r .entries) (length (r .entries)) _ refl (λ e h. sym (entry-read (gridSize (r .shape)) (r .entries) (layout r) _ past-head (p .entries-sized) (p .entries-small) e h)))
+      (tabulate-is noEntry (r .entries) (length (r .entries)) _ refl (λ e h. sym (entry-read (gridSize (r .shape)) (r .entries) (layout r) _ past-head (p .entries-sized) (p .cells-small) (p .held-small) e h)))
 
   pub decode-layout : decode (layout r) ≡ r
   unfolding decode
   decode-layout = λ i. record { shape = shape-read i; entries = entries-read i }
 
 -- the entries' lines, and blank lines
-pub length-entries : (size : ℕ) (es : List (List ℕ)) → ((g : List ℕ) → List·Memᴰ g es → length g ≡ size) → length (flatten (map entryLine es)) ≡ length es * lineLength size
+pub length-entries : (size : ℕ) (es : List Entry) → Sized size es → length (flatten (map entryLine es)) ≡ length es * lineLength size
 length-entries size es sized =
-    length-flatten (lineLength size) (map entryLine es) (wide-map entryLine (lineLength size) es (λ g m. length-entry g ∙ ap lineLength (sized g m)))
+    length-flatten (lineLength size) (map entryLine es) (wide-map entryLine (lineLength size) es (λ e m. length-entry size e (sized e m)))
     ∙ ap (λ (x : ℕ). x * lineLength size) (length-map es entryLine)
 
 pub length-blanks : (size k : ℕ) → length (flatten (replicate k (blankLine size))) ≡ k * lineLength size
@@ -180,7 +211,7 @@ length-blanks size k =
     ∙ ap (λ (x : ℕ). x * lineLength size) (length-replicate k (blankLine size))
 
 -- as many bytes as the shape says
-pub length-layout : (r : Register) → ((g : List ℕ) → List·Memᴰ g (r .entries) → length g ≡ gridSize (r .shape)) → length (r .entries) ≤ r .shape .capacity → length (layout r) ≡ layoutLength (r .shape)
+pub length-layout : (r : Register) → Sized (gridSize (r .shape)) (r .entries) → length (r .entries) ≤ r .shape .capacity → length (layout r) ≡ layoutLength (r .shape)
 unfolding layout layoutLength
 length-layout r sized fits =
     length-append (headLine (r .shape) n) (flatten (map entryLine (r .entries)) ++ blanks)

@@ -6,7 +6,9 @@
 --   length-line                 ==  how many bytes a line has, where there are bytes enough
 --   cells-inside, line-short    ==  they are more than those of its cells, and not many
 --   length-cells, cell-at       ==  the cells that a line states, by their places
---   entry-cells                 ==  an entry is what its line states
+--   length-holdings, holding-at ==  the holdings that it states, by their places
+--   holdings-first              ==  they are read from the line alone
+--   entry-line                  ==  an entry is what its line states
 --   from-lines                  ==  a byte string is line 1 and then its lines
 --   linesOf r                   ==  the lines after line 1: those of the entries, and blank lines up to the capacity
 --   length-lines, wide-lines    ==  how many they are, and that they are of one length
@@ -14,8 +16,9 @@
 --   line-layout, blank-layout   ==  a layout's line of an entry, and a blank one
 --   ascends-next, next-ascends  ==  each entry comes before all later ones exactly if each comes before the next
 --   entries-counted             ==  the entries that the bytes state are as many as the count that they state
+--   line-entry, line-grid       ==  the entries that the bytes state are what the lines state, and so are their grids
+--   grids-counted               ==  the grids are as many
 --   laid-lines                  ==  question 5 gets a yes exactly if line 1, the lines of the entries and the blank lines are laid out
---   line-entry                  ==  the entries of a register are what its lines state
 use mathlib.Core.Path.{_≡_, refl, sym, ap, ap₂, _∙_}
 use mathlib.Core.List.{List, [], _∷_, _++_, map, flatten, append-assoc, List·Memᴰ, List·Memᴰ·append-cases}
 use mathlib.Core.Bool.{true}
@@ -34,10 +37,10 @@ use Rattle.grids.specs.Grids.{capped}
 use Rattle.grids.proofs.OrderLaws.{less-decides, equal-eq, eq-equal}
 use Rattle.grids.proofs.QuestionLaws.{grid-of, grid-capped}
 use Rattle.layout.specs.Decimal.{value}
-use Rattle.layout.specs.Layout.{Shape, Register, gridSize, headLength, entryWidth, lineLength, entryLine, blankLine, headLine, layout, layoutLength, numberAt, count, entryAt, decodeShape, decode, Ascends, IsRegister, ascending, isRegister, laidOut, cellsOf}
-use Rattle.layout.specs.Lines.{lineStart, lineAt, EntriesLaid, BlanksLaid, HeadLaid}
-use Rattle.layout.proofs.LayoutLaws.{Wide, wide-map, of-replicate, piece, length-entry, length-blank, length-head, length-layout}
-use Rattle.layout.proofs.RegisterLaws.{ascending-decides, register-decides}
+use Rattle.layout.specs.Layout.{Shape, Entry, Register, clients, gridsOf, gridSize, headLength, entryWidth, lineLength, entryLine, blankLine, headLine, layout, layoutLength, numberAt, cellsOf, holdingsOf, entryOf, count, entryAt, decodeShape, decode, Ascends, IsRegister, isHoldings, ascending, isRegister, laidOut}
+use Rattle.layout.specs.Lines.{noEntry, lineStart, lineAt, EntriesLaid, BlanksLaid, HeadLaid}
+use Rattle.layout.proofs.LayoutLaws.{Sized, Wide, wide-map, of-replicate, piece, length-entry, length-blank, length-head, length-layout}
+use Rattle.layout.proofs.RegisterLaws.{holdings-decides, ascending-decides, register-decides, register-sized}
 
 -- ---- parts of one length
 
@@ -109,12 +112,9 @@ pub cells-inside : (size : ℕ) → 3 * size < lineLength size
 unfolding lineLength entryWidth
 cells-inside size = omega arith
 
-pub line-short : (size : ℕ) → size ≤ 128 → lineLength size ≤ 385
+pub line-short : (size : ℕ) → size ≤ 128 → lineLength size ≤ 409
 unfolding lineLength entryWidth
 line-short size h = omega arith
-
-field-inside : (size k : ℕ) → k < size → 3 ≤ lineLength size - 3 * k
-field-inside size k h = omega (arith, cells-inside size)
 
 pub length-cells : (size : ℕ) (l : List ℕ) → length (cellsOf size l) ≡ size
 unfolding cellsOf
@@ -124,13 +124,23 @@ pub cell-at : (size : ℕ) (l : List ℕ) (k : ℕ) → k < size → getD (cells
 unfolding cellsOf
 cell-at size l k h = at-tabulate size (λ k. numberAt 3 (3 * k) l) k 0 h
 
-pub entry-cells : (size : ℕ) (b : List ℕ) (e : ℕ) → entryAt size b e ≡ cellsOf size (lineAt size b e)
-unfolding entryAt cellsOf numberAt lineAt lineStart
-entry-cells size b e = tabulate-ext 0 size _ _ λ k h. ap value (one k h)
-  where
-    one : (k : ℕ) → k < size → take 3 (drop (headLength + e * lineLength size + 3 * k) b) ≡ take 3 (drop (3 * k) (take (lineLength size) (drop (headLength + e * lineLength size) b)))
-    one k h =
-        rw (drop-take (3 * k) (lineLength size) (drop (headLength + e * lineLength size) b), take-take 3 (lineLength size - 3 * k) (drop (3 * k) (drop (headLength + e * lineLength size) b)) (field-inside size k h), drop-drop (3 * k) (headLength + e * lineLength size) b)
+pub length-holdings : (size : ℕ) (l : List ℕ) → length (holdingsOf size l) ≡ clients
+unfolding holdingsOf
+length-holdings size l = length-tabulate 0 clients (λ k. numberAt 3 (3 * (size + k)) l)
+
+pub holding-at : (size : ℕ) (l : List ℕ) (k : ℕ) → k < clients → getD (holdingsOf size l) k 0 ≡ numberAt 3 (3 * (size + k)) l
+unfolding holdingsOf
+holding-at size l k h = at-tabulate clients (λ k. numberAt 3 (3 * (size + k)) l) k 0 h
+
+-- they are read from the line's bytes, and from more of them as well
+pub holdings-first : (size : ℕ) (l : List ℕ) → holdingsOf size (take (lineLength size) l) ≡ holdingsOf size l
+unfolding holdingsOf numberAt lineLength entryWidth
+holdings-first size l =
+    tabulate-ext 0 clients _ _ (λ i h. ap value (ap (λ (r : List ℕ). take 3 r) (drop-take (3 * (size + i)) (lineLength size) l) ∙ take-take 3 (lineLength size - 3 * (size + i)) (drop (3 * (size + i)) l) (omega arith)))
+
+pub entry-line : (size : ℕ) (b : List ℕ) (e : ℕ) → entryAt size b e ≡ entryOf size (lineAt size b e)
+unfolding entryAt lineAt lineStart
+entry-line size b e = refl
 
 pub from-lines : (s : Shape) (n : ℕ) (b : List ℕ) (ls : List (List ℕ)) → length b ≡ layoutLength s → take headLength b ≡ headLine s n → length ls ≡ s .capacity →
     ((e : ℕ) → e < s .capacity → lineAt (gridSize s) b e ≡ getD ls e []) → b ≡ headLine s n ++ flatten ls
@@ -159,17 +169,17 @@ length-lines r fits =
     length-append (map entryLine (r .entries)) _
     ∙ omega (arith, length-map (r .entries) entryLine, length-replicate (r .shape .capacity - length (r .entries)) (blankLine (gridSize (r .shape))))
 
-pub wide-lines : (r : Register) → ((g : List ℕ) → List·Memᴰ g (r .entries) → length g ≡ gridSize (r .shape)) → Wide (lineLength (gridSize (r .shape))) (linesOf r)
+pub wide-lines : (r : Register) → Sized (gridSize (r .shape)) (r .entries) → Wide (lineLength (gridSize (r .shape))) (linesOf r)
 unfolding linesOf
 wide-lines r sized l m = go (List·Memᴰ·append-cases (map entryLine (r .entries)) m)
   where
     go : List·Memᴰ l (map entryLine (r .entries)) ⊎ List·Memᴰ l (replicate (r .shape .capacity - length (r .entries)) (blankLine (gridSize (r .shape)))) → length l ≡ lineLength (gridSize (r .shape))
-    go (inl k) = wide-map entryLine (lineLength (gridSize (r .shape))) (r .entries) (λ g i. length-entry g ∙ ap lineLength (sized g i)) l k
+    go (inl k) = wide-map entryLine (lineLength (gridSize (r .shape))) (r .entries) (λ e i. length-entry (gridSize (r .shape)) e (sized e i)) l k
     go (inr k) = ap length (of-replicate (r .shape .capacity - length (r .entries)) (blankLine (gridSize (r .shape))) l k) ∙ length-blank (gridSize (r .shape))
 
-entry-of : (r : Register) (e : ℕ) → e < length (r .entries) → getD (linesOf r) e [] ≡ entryLine (getD (r .entries) e [])
+entry-of : (r : Register) (e : ℕ) → e < length (r .entries) → getD (linesOf r) e [] ≡ entryLine (getD (r .entries) e noEntry)
 unfolding linesOf
-entry-of r e h = List·getD-append (map entryLine (r .entries)) _ [] e (omega (arith, length-map (r .entries) entryLine)) ∙ at-map entryLine (r .entries) e [] [] h
+entry-of r e h = List·getD-append (map entryLine (r .entries)) _ [] e (omega (arith, length-map (r .entries) entryLine)) ∙ at-map entryLine (r .entries) e noEntry [] h
 
 blank-of : (r : Register) (e : ℕ) → length (r .entries) ≤ e → e < r .shape .capacity → getD (linesOf r) e [] ≡ blankLine (gridSize (r .shape))
 unfolding linesOf
@@ -180,14 +190,14 @@ blank-of r e low high =
     rw (← i)
     (getD-append-add (map entryLine (r .entries)) _ (e - n) [] ∙ getD-replicate (r .shape .capacity - length (r .entries)) (e - n) (blankLine (gridSize (r .shape))) [] (omega arith))
 
-module _ (r : Register) (sized : (g : List ℕ) → List·Memᴰ g (r .entries) → length g ≡ gridSize (r .shape)) (fits : length (r .entries) ≤ r .shape .capacity) where
+module _ (r : Register) (sized : Sized (gridSize (r .shape)) (r .entries)) (fits : length (r .entries) ≤ r .shape .capacity) where
   pub line-of : (e : ℕ) → e < r .shape .capacity → lineAt (gridSize (r .shape)) (layout r) e ≡ getD (linesOf r) e []
   unfolding lineAt lineStart
   line-of e h =
       rw (layout-lines r, ← (drop-drop (e * lineLength (gridSize (r .shape))) headLength (headLine (r .shape) (length (r .entries)) ++ flatten (linesOf r))), drop-at (headLine (r .shape) (length (r .entries))) (flatten (linesOf r)) headLength (length-head (r .shape) (length (r .entries))))
       (at-parts (lineLength (gridSize (r .shape))) (linesOf r) (wide-lines r sized) e (omega (arith, length-lines r fits)))
 
-  pub line-layout : (e : ℕ) → e < length (r .entries) → lineAt (gridSize (r .shape)) (layout r) e ≡ entryLine (getD (r .entries) e [])
+  pub line-layout : (e : ℕ) → e < length (r .entries) → lineAt (gridSize (r .shape)) (layout r) e ≡ entryLine (getD (r .entries) e noEntry)
   line-layout e h = line-of e (omega arith) ∙ entry-of r e h
 
   pub blank-layout : (e : ℕ) → length (r .entries) ≤ e → e < r .shape .capacity → lineAt (gridSize (r .shape)) (layout r) e ≡ blankLine (gridSize (r .shape))
@@ -218,21 +228,25 @@ module _ (b : List ℕ) where
   unfolding decode
   entries-counted = length-tabulate 0 (count b) (entryAt (gridSize (decodeShape b)) b)
 
-  entry-stated : (e : ℕ) → e < count b → getD (decode b .entries) e [] ≡ cellsOf (gridSize (decodeShape b)) (lineAt (gridSize (decodeShape b)) b e)
+  pub line-entry : (e : ℕ) → e < count b → getD (decode b .entries) e noEntry ≡ entryOf (gridSize (decodeShape b)) (lineAt (gridSize (decodeShape b)) b e)
   unfolding decode
-  entry-stated e h = at-tabulate (count b) (entryAt (gridSize (decodeShape b)) b) e [] h ∙ entry-cells (gridSize (decodeShape b)) b e
+  line-entry e h = at-tabulate (count b) (entryAt (gridSize (decodeShape b)) b) e noEntry h ∙ entry-line (gridSize (decodeShape b)) b e
 
-  of-entries : (g : List ℕ) → List·Memᴰ g (decode b .entries) → (e : ℕ) × (e < count b) × (g ≡ cellsOf (gridSize (decodeShape b)) (lineAt (gridSize (decodeShape b)) b e))
-  of-entries g m = let r = of-mem (decode b .entries) [] g m in (r .0, omega (arith, r .1, entries-counted), r .2 ∙ entry-stated (r .0) (omega (arith, r .1, entries-counted)))
+  of-entries : (x : Entry) → List·Memᴰ x (decode b .entries) → (e : ℕ) × (e < count b) × (x ≡ entryOf (gridSize (decodeShape b)) (lineAt (gridSize (decodeShape b)) b e))
+  of-entries x m = let r = of-mem (decode b .entries) noEntry x m in (r .0, omega (arith, r .1, entries-counted), r .2 ∙ line-entry (r .0) (omega (arith, r .1, entries-counted)))
 
-pub line-entry : (b : List ℕ) → laidOut b ≡ true → (e : ℕ) → e < count b → getD (decode b .entries) e [] ≡ cellsOf (gridSize (decodeShape b)) (lineAt (gridSize (decodeShape b)) b e)
-line-entry b laid = entry-stated b
+  -- the grid of entry e
+  pub line-grid : (e : ℕ) → e < count b → getD (gridsOf (decode b .entries)) e [] ≡ cellsOf (gridSize (decodeShape b)) (lineAt (gridSize (decodeShape b)) b e)
+  line-grid e h = at-map (λ (x : Entry). x .grid) (decode b .entries) e noEntry [] (omega (arith, entries-counted)) ∙ ap (λ (x : Entry). x .grid) (line-entry e h)
+
+  pub grids-counted : length (gridsOf (decode b .entries)) ≡ count b
+  grids-counted = length-map (decode b .entries) (λ (x : Entry). x .grid) ∙ entries-counted
 
 -- the bytes of a register, line by line
 module _ (b : List ℕ) (o : IsRegister (decode b)) (whole : b ≡ layout (decode b)) where
-  entries-sized : (g : List ℕ) → List·Memᴰ g (decode b .entries) → length g ≡ gridSize (decodeShape b)
+  entries-sized : Sized (gridSize (decodeShape b)) (decode b .entries)
   unfolding decode
-  entries-sized g m = o .entry-grids g m .sized
+  entries-sized = register-sized (decode b) o
 
   head-laid : HeadLaid b
   unfolding decode
@@ -246,11 +260,12 @@ module _ (b : List ℕ) (o : IsRegister (decode b)) (whole : b ≡ layout (decod
   entries-laid : EntriesLaid (gridSize (decodeShape b)) (decodeShape b .top) (count b) b
   unfolding decode
   entries-laid = record {
-    lines = λ e h. record {
-      bytes = ap (λ (l : List ℕ). lineAt (gridSize (decodeShape b)) l e) whole ∙ line-layout (decode b) entries-sized (o .count-fits) e (omega (arith, entries-counted b)) ∙ ap entryLine (entry-stated b e h);
-      at-most = rw (entry-stated b e h) at (grid-capped (decodeShape b .rows) (decodeShape b .columns) (decodeShape b .top) (getD (decode b .entries) e []) (o .entry-grids _ (mem-at (decode b .entries) [] e (omega (arith, entries-counted b)))));
+    lines = λ e h. let m = mem-at (decode b .entries) noEntry e (omega (arith, entries-counted b)) in record {
+      bytes = ap (λ (l : List ℕ). lineAt (gridSize (decodeShape b)) l e) whole ∙ line-layout (decode b) entries-sized (o .count-fits) e (omega (arith, entries-counted b)) ∙ ap entryLine (line-entry b e h);
+      at-most = ap (λ (x : Entry). capped (decodeShape b .top) (x .grid)) (sym (line-entry b e h)) ∙ grid-capped (decodeShape b .rows) (decodeShape b .columns) (decodeShape b .top) _ (o .entry-grids _ m);
+      held = ap (λ (x : Entry). isHoldings (x .holdings)) (sym (line-entry b e h)) ∙ holdings-decides _ .1 (o .entry-holdings _ m);
     };
-    ascend = λ e h. rw (entry-stated b e (omega arith), entry-stated b (e + 1) h) at (ascends-next (decode b .entries) (o .entries-ascend) e (omega (arith, entries-counted b)));
+    ascend = λ e h. rw (line-grid b e (omega arith), line-grid b (e + 1) h) at (ascends-next (gridsOf (decode b .entries)) (o .entries-ascend) e (omega (arith, grids-counted b)));
   }
 
   blanks-laid : BlanksLaid (gridSize (decodeShape b)) (count b) (decodeShape b .capacity) b
@@ -262,19 +277,21 @@ module _ (b : List ℕ) (o : IsRegister (decode b)) (whole : b ≡ layout (decod
 -- bytes that are laid out line by line are those of a register
 module _ (b : List ℕ) (h : HeadLaid b) (l : EntriesLaid (gridSize (decodeShape b)) (decodeShape b .top) (count b) b) (k : BlanksLaid (gridSize (decodeShape b)) (count b) (decodeShape b .capacity) b) where
   laid-register : IsRegister (decode b)
-  unfolding decode cellsOf
+  unfolding decode
   laid-register = record {
     limits = h .limits;
     count-fits = rw (entries-counted b) (h .count-fits);
-    entry-grids = λ g m.
-        let r = of-entries b g m in
-        grid-of (decodeShape b .rows) (decodeShape b .columns) (decodeShape b .top) g (ap length (r .2) ∙ length-tabulate 0 (gridSize (decodeShape b)) _) (ap (capped (decodeShape b .top)) (r .2) ∙ l .lines (r .0) (r .1) .at-most);
-    entries-ascend = next-ascends (decode b .entries) (λ e m. let z = entries-counted b in rw (entry-stated b e (omega arith), entry-stated b (e + 1) (omega arith)) (l .ascend e (omega arith)));
+    entry-grids = λ x m.
+        let r = of-entries b x m in
+        let size = gridSize (decodeShape b) in
+        grid-of (decodeShape b .rows) (decodeShape b .columns) (decodeShape b .top) (x .grid) (ap (λ (y : Entry). length (y .grid)) (r .2) ∙ length-cells size _) (ap (λ (y : Entry). capped (decodeShape b .top) (y .grid)) (r .2) ∙ l .lines (r .0) (r .1) .at-most);
+    entry-holdings = λ x m. let r = of-entries b x m in holdings-decides (x .holdings) .0 (ap (λ (y : Entry). isHoldings (y .holdings)) (r .2) ∙ l .lines (r .0) (r .1) .held);
+    entries-ascend = next-ascends (gridsOf (decode b .entries)) (λ e m. let z = grids-counted b in rw (line-grid b e (omega arith), line-grid b (e + 1) (omega arith)) (l .ascend e (omega arith)));
   }
 
   laid-line : (e : ℕ) → Dec (e < count b) → e < decodeShape b .capacity → lineAt (gridSize (decodeShape b)) b e ≡ getD (linesOf (decode b)) e []
   unfolding decode
-  laid-line e (yes m) i = let z = entries-counted b in l .lines e m .bytes ∙ sym (ap entryLine (entry-stated b e m)) ∙ sym (entry-of (decode b) e (omega arith))
+  laid-line e (yes m) i = let z = entries-counted b in l .lines e m .bytes ∙ sym (ap entryLine (line-entry b e m)) ∙ sym (entry-of (decode b) e (omega arith))
   laid-line e (no m) i = let z = entries-counted b in k .lines e (omega arith) i ∙ sym (blank-of (decode b) e (omega arith) i)
 
   laid-layout : b ≡ layout (decode b)

@@ -1,31 +1,28 @@
 -- What a line put in, a line taken out and the writing of a new register do to the register's bytes.
 --
---   Sized size es     ==  every grid of es has so many cells
---   insert-layout     ==  the lines from p on moved one line further, the line of a grid put at p and the count one higher: the grid is put in at p
+--   insert-layout     ==  the lines from p on moved one line further, the line of an entry put at p and the count one higher: the entry is put in at p
 --   remove-layout     ==  the lines after p moved one line back, a blank line after them and the count one lower: entry p is taken out
+--   change-layout     ==  a number written over a client's holding in the line of entry p: that holding is changed
 --   Opened s k b      ==  b is as long as the shape says, and begins with line 1 of an empty register and k blank lines
 --   opened-head, opened-next, opened-all  ==  line 1 is written, then each blank line, and then all is the layout of an empty register
 --   opened-head-part  ==  the same of line 1 put back after it is written
 --   opened-inside     ==  the next blank line lies inside the bytes
 use mathlib.Core.Path.{_≡_, refl, sym, ap, ap₂, _∙_}
-use mathlib.Core.List.{List, [], _∷_, _++_, map, flatten, append-assoc, append-nil, map-append, List·Memᴰ, Memᴰ·append-left, Memᴰ·append-right}
+use mathlib.Core.List.{List, [], _∷_, _++_, map, flatten, append-assoc, append-nil, map-append, Memᴰ·append-left, Memᴰ·append-right}
 use Prim.Native.Nat.{ℕ, suc, _+_, _-_, _*_, _≤_, _<_}
 use native.Mathlib.Nat.{add-comm, add-mul, mul-le-mul-right}
 use native.Mathlib.Omega.{arith}
 use lib.ListN.{length, getD, take, drop, replicate, length-append, length-drop, take-append-drop, replicate-append-replicate}
-use lib.Seq.{take-at, drop-at, drop-drop, split-at, length-take-le}
+use lib.Seq.{take-at, drop-at, drop-drop, split-at, set-split, length-take-le}
 use Rattle.permutations.proofs.ListLaws.{mem-at}
 use Rattle.layout.specs.Decimal.{field}
-use Rattle.layout.specs.Layout.{Shape, Register, gridSize, fields, lineLength, entryLine, blankLine, headLine, layout, layoutLength}
-use Rattle.layout.specs.Lines.{lineStart}
+use Rattle.layout.specs.Layout.{Shape, Entry, Register, clients, gridSize, changed, fields, lineLength, entryLine, blankLine, headLine, layout, layoutLength}
+use Rattle.layout.specs.Lines.{noEntry, lineStart}
 use Rattle.layout.proofs.DecimalLaws.{length-field}
-use Rattle.layout.proofs.LayoutLaws.{length-fields, length-entry, length-blank, length-head, length-entries, length-blanks}
+use Rattle.layout.proofs.LayoutLaws.{Fitted, Sized, length-fields, length-entry, length-blank, length-head, length-entries, length-blanks}
 
-abbrev Grids : Type 0
-Grids = List (List ℕ)
-
-abbrev pub Sized : ℕ → List (List ℕ) → Type 0
-Sized size es = (g : List ℕ) → List·Memᴰ g es → length g ≡ size
+abbrev Entries : Type 0
+Entries = List Entry
 
 -- ---- parts of a list that are moved
 
@@ -92,31 +89,31 @@ recount s n m u b e =
 
 -- ---- the lines
 
-abbrev entryLines : Grids → List ℕ
+abbrev entryLines : Entries → List ℕ
 entryLines es = flatten (map entryLine es)
 
 abbrev blankLines : ℕ → ℕ → List ℕ
 blankLines size k = flatten (replicate k (blankLine size))
 
-flatten-append : (a b : Grids) → flatten (a ++ b) ≡ flatten a ++ flatten b
+flatten-append : (a b : List (List ℕ)) → flatten (a ++ b) ≡ flatten a ++ flatten b
 unfolding flatten
 flatten-append [] b = refl
 flatten-append (x ∷ a) b = rw (flatten-append a b) (sym (append-assoc x (flatten a) (flatten b)))
 
-entries-append : (a b : Grids) → entryLines (a ++ b) ≡ entryLines a ++ entryLines b
+entries-append : (a b : Entries) → entryLines (a ++ b) ≡ entryLines a ++ entryLines b
 entries-append a b = ap flatten (map-append entryLine a b) ∙ flatten-append (map entryLine a) (map entryLine b)
 
-layout-is : (s : Shape) (es : Grids) (n m : ℕ) → length es ≡ n → s .capacity - n ≡ m → layout (record { shape = s; entries = es }) ≡ headLine s n ++ (entryLines es ++ blankLines (gridSize s) m)
+layout-is : (s : Shape) (es : Entries) (n m : ℕ) → length es ≡ n → s .capacity - n ≡ m → layout (record { shape = s; entries = es }) ≡ headLine s n ++ (entryLines es ++ blankLines (gridSize s) m)
 unfolding layout
 layout-is s es n m e d = rw (e, d)
 
-layout-parts : (s : Shape) (xs ys : Grids) (n m : ℕ) → length (xs ++ ys) ≡ n → s .capacity - n ≡ m →
+layout-parts : (s : Shape) (xs ys : Entries) (n m : ℕ) → length (xs ++ ys) ≡ n → s .capacity - n ≡ m →
     layout (record { shape = s; entries = xs ++ ys }) ≡ headLine s n ++ (entryLines xs ++ (entryLines ys ++ blankLines (gridSize s) m))
 layout-parts s xs ys n m e d =
     layout-is s (xs ++ ys) n m e d
     ∙ ap (λ (l : List ℕ). headLine s n ++ l) (ap (λ (l : List ℕ). l ++ blankLines (gridSize s) m) (entries-append xs ys) ∙ append-assoc (entryLines xs) (entryLines ys) (blankLines (gridSize s) m))
 
-entries-cons : (g : List ℕ) (ys : Grids) (t : List ℕ) → entryLines (g ∷ ys) ++ t ≡ entryLine g ++ (entryLines ys ++ t)
+entries-cons : (g : Entry) (ys : Entries) (t : List ℕ) → entryLines (g ∷ ys) ++ t ≡ entryLine g ++ (entryLines ys ++ t)
 unfolding flatten
 entries-cons g ys t = append-assoc (entryLine g) (entryLines ys) t
 
@@ -124,24 +121,24 @@ blanks-cons : (size m : ℕ) → blankLines size (suc m) ≡ blankLine size ++ b
 unfolding flatten
 blanks-cons size m = refl
 
-sized-take : (size p : ℕ) (es : Grids) → Sized size es → Sized size (take p es)
+sized-take : (size p : ℕ) (es : Entries) → Sized size es → Sized size (take p es)
 sized-take size p es h g m = h g (rw (take-append-drop p es) at (Memᴰ·append-left (drop p es) m))
 
-sized-drop : (size p : ℕ) (es : Grids) → Sized size es → Sized size (drop p es)
+sized-drop : (size p : ℕ) (es : Entries) → Sized size es → Sized size (drop p es)
 sized-drop size p es h g m = h g (rw (take-append-drop p es) at (Memᴰ·append-right (take p es) m))
 
 -- the lines before p, with line 1
-start-is : (s : Shape) (n p : ℕ) (xs : Grids) → Sized (gridSize s) xs → length xs ≡ p → length (headLine s n) + length (entryLines xs) ≡ lineStart (gridSize s) p
+start-is : (s : Shape) (n p : ℕ) (xs : Entries) → Sized (gridSize s) xs → length xs ≡ p → length (headLine s n) + length (entryLines xs) ≡ lineStart (gridSize s) p
 unfolding lineStart
 start-is s n p xs sized e = ap₂ _+_ (length-head s n) (length-entries (gridSize s) xs sized ∙ ap (λ (k : ℕ). k * lineLength (gridSize s)) e)
 
 -- as many lines
-lines-are : (size k : ℕ) (ys : Grids) → Sized size ys → length ys ≡ k → length (entryLines ys) ≡ k * lineLength size
+lines-are : (size k : ℕ) (ys : Entries) → Sized size ys → length ys ≡ k → length (entryLines ys) ≡ k * lineLength size
 lines-are size k ys sized e = length-entries size ys sized ∙ ap (λ (k : ℕ). k * lineLength size) e
 
 -- ---- a line put in, a line taken out
 
-module _ (s : Shape) (xs ys : Grids) (g : List ℕ) (n p m : ℕ) (front : Sized (gridSize s) xs) (back : Sized (gridSize s) ys) where
+module _ (s : Shape) (xs ys : Entries) (g : Entry) (n p m : ℕ) (front : Sized (gridSize s) xs) (back : Sized (gridSize s) ys) where
   insert-parts : (b b₁ : List ℕ) → length xs ≡ p → p + length ys ≡ n → s .capacity - n ≡ suc m → b ≡ layout (record { shape = s; entries = xs ++ ys }) →
       b₁ ≡ take (lineStart (gridSize s) p) b ++ (entryLine g ++ (take ((n - p) * lineLength (gridSize s)) (drop (lineStart (gridSize s) p) b) ++ drop ((n - p) * lineLength (gridSize s) + lineLength (gridSize s)) (drop (lineStart (gridSize s) p) b))) →
       take 24 b₁ ++ (field 6 (n + 1) ++ drop 6 (drop 24 b₁)) ≡ layout (record { shape = s; entries = xs ++ (g ∷ ys) })
@@ -155,7 +152,7 @@ module _ (s : Shape) (xs ys : Grids) (g : List ℕ) (n p m : ℕ) (front : Sized
       (layout-parts s xs (g ∷ ys) (n + 1) m (length-append xs (g ∷ ys) ∙ omega arith) (omega arith)
       ∙ ap (λ (l : List ℕ). headLine s (n + 1) ++ (entryLines xs ++ l)) (entries-cons g ys (blankLines (gridSize s) m)))
 
-  remove-parts : (b b₁ : List ℕ) → length xs ≡ p → length g ≡ gridSize s → p + suc (length ys) ≡ n → n ≤ s .capacity → s .capacity - n ≡ m → b ≡ layout (record { shape = s; entries = xs ++ (g ∷ ys) }) →
+  remove-parts : (b b₁ : List ℕ) → length xs ≡ p → Fitted (gridSize s) g → p + suc (length ys) ≡ n → n ≤ s .capacity → s .capacity - n ≡ m → b ≡ layout (record { shape = s; entries = xs ++ (g ∷ ys) }) →
       b₁ ≡ take (lineStart (gridSize s) p) b ++ (take ((n - (p + 1)) * lineLength (gridSize s)) (drop (lineLength (gridSize s)) (drop (lineStart (gridSize s) p) b)) ++ (blankLine (gridSize s) ++ drop ((n - (p + 1)) * lineLength (gridSize s) + lineLength (gridSize s)) (drop (lineStart (gridSize s) p) b))) →
       take 24 b₁ ++ (field 6 (n - 1) ++ drop 6 (drop 24 b₁)) ≡ layout (record { shape = s; entries = xs ++ ys })
   remove-parts b b₁ lx lg ly fits room e d =
@@ -163,22 +160,22 @@ module _ (s : Shape) (xs ys : Grids) (g : List ℕ) (n p m : ℕ) (front : Sized
       (d ∙ take-out (headLine s n) (entryLines xs) (entryLine g) (entryLines ys) (blankLines (gridSize s) m) (blankLine (gridSize s)) b _ _ _
       (e ∙ layout-parts s xs (g ∷ ys) n m (length-append xs (g ∷ ys) ∙ omega arith) room
       ∙ ap (λ (l : List ℕ). headLine s n ++ (entryLines xs ++ l)) (entries-cons g ys (blankLines (gridSize s) m)))
-      (start-is s n p xs front lx) (length-entry g ∙ ap lineLength lg) (lines-are (gridSize s) (n - (p + 1)) ys back (omega arith)))
+      (start-is s n p xs front lx) (length-entry (gridSize s) g lg) (lines-are (gridSize s) (n - (p + 1)) ys back (omega arith)))
       ∙ sym
       (layout-parts s xs ys (n - 1) (suc m) (length-append xs ys ∙ omega arith) (omega arith)
       ∙ ap (λ (l : List ℕ). headLine s (n - 1) ++ (entryLines xs ++ (entryLines ys ++ l))) (blanks-cons (gridSize s) m))
 
 -- a register with its entries in two parts
-rejoined : (r : Register) (es : Grids) → es ≡ r .entries → layout r ≡ layout (record { shape = r .shape; entries = es })
+rejoined : (r : Register) (es : Entries) → es ≡ r .entries → layout r ≡ layout (record { shape = r .shape; entries = es })
 rejoined r es e = λ i. layout (record { shape = r .shape; entries = sym e i })
 
-pub insert-layout : (r : Register) (b b₁ g : List ℕ) (p : ℕ) → Sized (gridSize (r .shape)) (r .entries) → b ≡ layout r → length (r .entries) < r .shape .capacity → p ≤ length (r .entries) → length g ≡ gridSize (r .shape) →
+pub insert-layout : (r : Register) (b b₁ : List ℕ) (g : Entry) (p : ℕ) → Sized (gridSize (r .shape)) (r .entries) → b ≡ layout r → length (r .entries) < r .shape .capacity → p ≤ length (r .entries) →
     b₁ ≡ take (lineStart (gridSize (r .shape)) p) b
     ++ (entryLine g
     ++ (take ((length (r .entries) - p) * lineLength (gridSize (r .shape))) (drop (lineStart (gridSize (r .shape)) p) b)
     ++ drop ((length (r .entries) - p) * lineLength (gridSize (r .shape)) + lineLength (gridSize (r .shape))) (drop (lineStart (gridSize (r .shape)) p) b))) →
     take 24 b₁ ++ (field 6 (length (r .entries) + 1) ++ drop 6 (drop 24 b₁)) ≡ layout (record { shape = r .shape; entries = take p (r .entries) ++ (g ∷ drop p (r .entries)) })
-insert-layout r b b₁ g p sized e room inside width d =
+insert-layout r b b₁ g p sized e room inside d =
     insert-parts (r .shape) (take p (r .entries)) (drop p (r .entries)) g (length (r .entries)) p (r .shape .capacity - length (r .entries) - 1)
     (sized-take _ p (r .entries) sized) (sized-drop _ p (r .entries) sized) b b₁
     (length-take-le p (r .entries) inside) (omega (arith, length-drop p (r .entries))) (omega arith)
@@ -191,14 +188,116 @@ pub remove-layout : (r : Register) (b b₁ : List ℕ) (p : ℕ) → Sized (grid
     ++ drop ((length (r .entries) - (p + 1)) * lineLength (gridSize (r .shape)) + lineLength (gridSize (r .shape))) (drop (lineStart (gridSize (r .shape)) p) b))) →
     take 24 b₁ ++ (field 6 (length (r .entries) - 1) ++ drop 6 (drop 24 b₁)) ≡ layout (record { shape = r .shape; entries = take p (r .entries) ++ drop (suc p) (r .entries) })
 remove-layout r b b₁ p sized e fits inside d =
-    remove-parts (r .shape) (take p (r .entries)) (drop (suc p) (r .entries)) (getD (r .entries) p []) (length (r .entries)) p (r .shape .capacity - length (r .entries))
+    remove-parts (r .shape) (take p (r .entries)) (drop (suc p) (r .entries)) (getD (r .entries) p noEntry) (length (r .entries)) p (r .shape .capacity - length (r .entries))
     (sized-take _ p (r .entries) sized) (sized-drop _ (suc p) (r .entries) sized) b b₁
-    (length-take-le p (r .entries) (omega arith)) (sized (getD (r .entries) p []) (mem-at (r .entries) [] p inside)) (omega (arith, length-drop (suc p) (r .entries))) fits refl
-    (e ∙ rejoined r (take p (r .entries) ++ (getD (r .entries) p [] ∷ drop (suc p) (r .entries))) (sym (split-at (r .entries) p [] inside))) d
+    (length-take-le p (r .entries) (omega arith)) (sized (getD (r .entries) p noEntry) (mem-at (r .entries) noEntry p inside)) (omega (arith, length-drop (suc p) (r .entries))) fits refl
+    (e ∙ rejoined r (take p (r .entries) ++ (getD (r .entries) p noEntry ∷ drop (suc p) (r .entries))) (sym (split-at (r .entries) p noEntry inside))) d
 
--- ---- inside the bytes
+-- ---- a holding changed
 
--- k lines and one more from line p on, of c lines
+fields-append : (w : ℕ) (a b : List ℕ) → fields w (a ++ b) ≡ fields w a ++ fields w b
+unfolding fields
+fields-append w a b = ap flatten (map-append (field w) a b) ∙ flatten-append (map (field w) a) (map (field w) b)
+
+-- a line by one of its numbers
+line-parts : (pre post : List ℕ) (y : ℕ) (u : List ℕ) → (fields 3 (pre ++ (y ∷ post)) ++ (10 ∷ [])) ++ u ≡ fields 3 pre ++ (field 3 y ++ (fields 3 post ++ ((10 ∷ []) ++ u)))
+unfolding fields flatten
+line-parts pre post y u =
+    append-assoc (fields 3 (pre ++ (y ∷ post))) (10 ∷ []) u
+    ∙ ap (λ (l : List ℕ). l ++ ((10 ∷ []) ++ u)) (fields-append 3 pre (y ∷ post))
+    ∙ append-assoc (fields 3 pre) (field 3 y ++ fields 3 post) ((10 ∷ []) ++ u)
+    ∙ ap (λ (l : List ℕ). fields 3 pre ++ l) (append-assoc (field 3 y) (fields 3 post) ((10 ∷ []) ++ u))
+
+module _ (e : Entry) (c : ℕ) (inside : c - 1 < length (e .holdings)) where
+  before : List ℕ
+  before = e .grid ++ take (c - 1) (e .holdings)
+
+  behind : List ℕ
+  behind = drop (suc (c - 1)) (e .holdings)
+
+  length-before : length before ≡ length (e .grid) + (c - 1)
+  unfolding before
+  length-before = length-append (e .grid) (take (c - 1) (e .holdings)) ∙ ap (λ (k : ℕ). length (e .grid) + k) (length-take-le (c - 1) (e .holdings) (omega arith))
+
+  entry-parts : (u : List ℕ) → entryLine e ++ u ≡ fields 3 before ++ (field 3 (getD (e .holdings) (c - 1) 0) ++ (fields 3 behind ++ ((10 ∷ []) ++ u)))
+  unfolding entryLine before behind
+  entry-parts u =
+      ap (λ (l : List ℕ). (fields 3 l ++ (10 ∷ [])) ++ u)
+      (ap (λ (l : List ℕ). e .grid ++ l) (split-at (e .holdings) (c - 1) 0 inside) ∙ sym (append-assoc (e .grid) (take (c - 1) (e .holdings)) (getD (e .holdings) (c - 1) 0 ∷ drop (suc (c - 1)) (e .holdings))))
+      ∙ line-parts (e .grid ++ take (c - 1) (e .holdings)) (drop (suc (c - 1)) (e .holdings)) (getD (e .holdings) (c - 1) 0) u
+
+  changed-parts : (x : ℕ) (u : List ℕ) → entryLine (record { grid = e .grid; holdings = changed c x (e .holdings) }) ++ u ≡ fields 3 before ++ (field 3 x ++ (fields 3 behind ++ ((10 ∷ []) ++ u)))
+  unfolding entryLine before behind changed
+  changed-parts x u =
+      ap (λ (l : List ℕ). (fields 3 l ++ (10 ∷ [])) ++ u)
+      (ap (λ (l : List ℕ). e .grid ++ l) (set-split (e .holdings) (c - 1) x inside) ∙ sym (append-assoc (e .grid) (take (c - 1) (e .holdings)) (x ∷ drop (suc (c - 1)) (e .holdings))))
+      ∙ line-parts (e .grid ++ take (c - 1) (e .holdings)) (drop (suc (c - 1)) (e .holdings)) x u
+
+  -- the line with the number written over
+  written-over : (x k : ℕ) (u t : List ℕ) → k ≡ 3 * (length (e .grid) + (c - 1)) → t ≡ entryLine e ++ u →
+      take k t ++ (field 3 x ++ drop 3 (drop k t)) ≡ entryLine (record { grid = e .grid; holdings = changed c x (e .holdings) }) ++ u
+  written-over x k u t ke te =
+      rw (te ∙ entry-parts u, take-at (fields 3 before) _ k wide, drop-at (fields 3 before) (field 3 (getD (e .holdings) (c - 1) 0) ++ (fields 3 behind ++ ((10 ∷ []) ++ u))) k wide, drop-at (field 3 (getD (e .holdings) (c - 1) 0)) (fields 3 behind ++ ((10 ∷ []) ++ u)) 3 (length-field 3 (getD (e .holdings) (c - 1) 0)))
+      (sym (changed-parts x u))
+    where
+      wide : length (fields 3 before) ≡ k
+      wide = length-fields 3 before ∙ omega (arith, length-before, ke)
+
+pub change-layout : (r : Register) (b b₁ : List ℕ) (p c x k : ℕ) → Sized (gridSize (r .shape)) (r .entries) → b ≡ layout r → p < length (r .entries) → 1 ≤ c → c ≤ clients → k ≡ 3 * (gridSize (r .shape) + (c - 1)) →
+    b₁ ≡ take (lineStart (gridSize (r .shape)) p) b ++ (take k (drop (lineStart (gridSize (r .shape)) p) b) ++ (field 3 x ++ drop 3 (drop k (drop (lineStart (gridSize (r .shape)) p) b)))) →
+    b₁ ≡ layout (record { shape = r .shape; entries = take p (r .entries) ++ (record { grid = getD (r .entries) p noEntry .grid; holdings = changed c x (getD (r .entries) p noEntry .holdings) } ∷ drop (suc p) (r .entries)) })
+change-layout r b b₁ p c x k sized e inside low high at d =
+    d
+    ∙ ap₂ _++_ (before-start head xs (entryLine g ++ rest) b start parts starts)
+    (written-over g c held x k rest (drop start b) (at ∙ ap (λ (i : ℕ). 3 * (i + (c - 1))) (sym (fit .cells))) (from-start head xs (entryLine g ++ rest) b start parts starts))
+    ∙ append-assoc head xs (entryLine g′ ++ rest)
+    ∙ sym (layout-parts (r .shape) (take p (r .entries)) (g′ ∷ drop (suc p) (r .entries)) n m count′ refl ∙ ap (λ (l : List ℕ). head ++ (xs ++ l)) (entries-cons g′ (drop (suc p) (r .entries)) (blankLines (gridSize (r .shape)) m)))
+  where
+    n : ℕ
+    n = length (r .entries)
+
+    m : ℕ
+    m = r .shape .capacity - n
+
+    start : ℕ
+    start = lineStart (gridSize (r .shape)) p
+
+    g : Entry
+    g = getD (r .entries) p noEntry
+
+    g′ : Entry
+    g′ = record { grid = g .grid; holdings = changed c x (g .holdings) }
+
+    fit : Fitted (gridSize (r .shape)) g
+    fit = sized g (mem-at (r .entries) noEntry p inside)
+
+    held : c - 1 < length (g .holdings)
+    held = omega (arith, fit .held)
+
+    head : List ℕ
+    head = headLine (r .shape) n
+
+    xs : List ℕ
+    xs = entryLines (take p (r .entries))
+
+    rest : List ℕ
+    rest = entryLines (drop (suc p) (r .entries)) ++ blankLines (gridSize (r .shape)) m
+
+    starts : length head + length xs ≡ start
+    starts = start-is (r .shape) n p (take p (r .entries)) (sized-take _ p (r .entries) sized) (length-take-le p (r .entries) (omega arith))
+
+    count : length (take p (r .entries) ++ (g ∷ drop (suc p) (r .entries))) ≡ n
+    count = ap length (sym (split-at (r .entries) p noEntry inside))
+
+    count′ : length (take p (r .entries) ++ (g′ ∷ drop (suc p) (r .entries))) ≡ n
+    count′ = length-append (take p (r .entries)) (g′ ∷ drop (suc p) (r .entries)) ∙ sym (length-append (take p (r .entries)) (g ∷ drop (suc p) (r .entries))) ∙ count
+
+    parts : b ≡ head ++ (xs ++ (entryLine g ++ rest))
+    parts =
+        e ∙ rejoined r (take p (r .entries) ++ (g ∷ drop (suc p) (r .entries))) (sym (split-at (r .entries) p noEntry inside))
+        ∙ layout-parts (r .shape) (take p (r .entries)) (g ∷ drop (suc p) (r .entries)) n m count refl
+        ∙ ap (λ (l : List ℕ). head ++ (xs ++ l)) (entries-cons g (drop (suc p) (r .entries)) (blankLines (gridSize (r .shape)) m))
+
 -- ---- a new register
 
 -- b is as long as the shape says, and begins with line 1 of an empty register and k blank lines

@@ -2,28 +2,30 @@
 --
 --   limits-decides      ==  the test of the limits decides them
 --   ascending-decides   ==  comparing each entry with the next decides that all ascend
+--   holdings-decides, entry-decides  ==  the tests of holdings and of an entry decide them
 --   register-decides    ==  the test of a register decides it
---   register-printable  ==  a register's numbers and cells fit their fields
+--   register-sized      ==  a register's entries have as many cells as its shape says, and a holding for each client
+--   register-printable  ==  its numbers, cells and holdings fit their fields
 --   question5-layouts   ==  question 5 gets a yes exactly for the layouts of registers
-use mathlib.Core.Path.{_≡_, refl, sym}
+use mathlib.Core.Path.{_≡_, refl, sym, ap, _∙_}
 use mathlib.Core.List.{List, [], _∷_, List·Memᴰ, List·Memᴰ·head, List·Memᴰ·not-nil, List·Memᴰ·cases-cons}
 use mathlib.Core.Bool.{true}
 use mathlib.Core.Logic.{_⊎_, inl, inr, _↔_}
 use Prim.Native.Nat.{ℕ}
 use native.Mathlib.Omega.{arith}
-use lib.ListN.{length}
-use lib.Dec.{leb}
-use borrow.Author.Tests.{leb-true, le-leb}
-use Rattle.permutations.specs.Lists.{every}
+use lib.ListN.{length, getD}
+use lib.Dec.{leb, ltb, eqb}
+use borrow.Author.Tests.{leb-true, le-leb, ltb-true, lt-ltb, eqb-true}
+use Rattle.permutations.specs.Lists.{every, some}
 use Rattle.permutations.proofs.BoolLaws.{and-yes, yes-and}
-use Rattle.permutations.proofs.ListLaws.{every-at, at-every}
+use Rattle.permutations.proofs.ListLaws.{every-at, at-every, some-at, at-some, mem-at, of-mem}
 use Rattle.grids.specs.Order.{_≺_, less, equal}
-use Rattle.grids.specs.Grids.{isGrid}
+use Rattle.grids.specs.Grids.{IsGrid, isGrid, capped}
 use Rattle.grids.specs.Questions.{inRange}
 use Rattle.grids.proofs.OrderLaws.{≺-trans, less-decides, equal-eq, eq-equal}
-use Rattle.grids.proofs.QuestionLaws.{range-yes, yes-range, grid-decides}
-use Rattle.layout.specs.Layout.{Shape, Register, layout, decode, InLimits, Ascends, IsRegister, inLimits, ascending, isRegister, laidOut}
-use Rattle.layout.proofs.LayoutLaws.{Printable, decode-layout}
+use Rattle.grids.proofs.QuestionLaws.{range-yes, yes-range, grid-decides, grid-of, grid-capped}
+use Rattle.layout.specs.Layout.{Shape, Entry, Register, clients, mostHeld, gridsOf, gridSize, layout, decode, InLimits, IsHoldings, Ascends, IsRegister, inLimits, someHeld, isHoldings, isEntry, ascending, isRegister, laidOut}
+use Rattle.layout.proofs.LayoutLaws.{Sized, Printable, decode-layout}
 
 pub limits-decides : (s : Shape) → (inLimits s ≡ true) ↔ InLimits s
 unfolding inLimits
@@ -74,6 +76,36 @@ ascending-ascends (x ∷ y ∷ l) e = go (and-yes (less x y) (ascending (y ∷ l
 pub ascending-decides : (l : List (List ℕ)) → (ascending l ≡ true) ↔ Ascends l
 ascending-decides l = (ascending-ascends l, ascends-ascending l)
 
+pub holdings-decides : (h : List ℕ) → (isHoldings h ≡ true) ↔ IsHoldings h
+unfolding isHoldings someHeld
+holdings-decides h = (to, back)
+  where
+    to : isHoldings h ≡ true → IsHoldings h
+    to e =
+        let a = and-yes (eqb (length h) clients) _ e in
+        let b = and-yes (capped mostHeld h) (some (λ x. ltb 0 x) h) (a .1) in
+        let i = grid-of 1 clients mostHeld h (eqb-true (length h) clients (a .0)) (b .0) in
+        let s = some-at (λ x. ltb 0 x) h (b .1) in
+        let m = of-mem h 0 (s .0) (s .1) in
+        record {
+          sized = i .sized;
+          capped = i .capped;
+          held = (m .0, omega (arith, m .1, i .sized), ltb-true 0 (getD h (m .0) 0) (ap (ltb 0) (sym (m .2)) ∙ s .2));
+        }
+
+    back : IsHoldings h → isHoldings h ≡ true
+    back i =
+        let m = i .held in
+        rw (i .sized, grid-capped 1 clients mostHeld h (record { sized = i .sized; capped = i .capped }))
+        (at-some (λ x. ltb 0 x) h (getD h (m .0) 0) (mem-at h 0 (m .0) (omega (arith, m .1, i .sized))) (lt-ltb 0 (getD h (m .0) 0) (m .2)))
+
+pub entry-decides : (s : Shape) (e : Entry) → (isEntry s e ≡ true) ↔ (IsGrid (s .rows) (s .columns) (s .top) (e .grid) × IsHoldings (e .holdings))
+unfolding isEntry
+entry-decides s e = (
+  λ t. let p = and-yes (isGrid (s .rows) (s .columns) (s .top) (e .grid)) (isHoldings (e .holdings)) t in (grid-decides (s .rows) (s .columns) (s .top) (e .grid) .0 (p .0), holdings-decides (e .holdings) .0 (p .1)),
+  λ p. yes-and (isGrid (s .rows) (s .columns) (s .top) (e .grid)) (isHoldings (e .holdings)) (grid-decides (s .rows) (s .columns) (s .top) (e .grid) .1 (p .0)) (holdings-decides (e .holdings) .1 (p .1)),
+)
+
 pub register-decides : (r : Register) → (isRegister r ≡ true) ↔ IsRegister r
 unfolding isRegister
 register-decides r = (to, back)
@@ -82,21 +114,27 @@ register-decides r = (to, back)
     to e =
         let a = and-yes (inLimits (r .shape)) _ e in
         let b = and-yes (leb (length (r .entries)) (r .shape .capacity)) _ (a .1) in
-        let c = and-yes (every (isGrid (r .shape .rows) (r .shape .columns) (r .shape .top)) (r .entries)) (ascending (r .entries)) (b .1) in
+        let c = and-yes (every (isEntry (r .shape)) (r .entries)) (ascending (gridsOf (r .entries))) (b .1) in
+        let i : (e : Entry) → List·Memᴰ e (r .entries) → IsGrid (r .shape .rows) (r .shape .columns) (r .shape .top) (e .grid) × IsHoldings (e .holdings)
+        = λ e m. entry-decides (r .shape) e .0 (every-at (isEntry (r .shape)) (r .entries) (c .0) e m) in
         record {
           limits = limits-decides (r .shape) .0 (a .0);
           count-fits = leb-true (length (r .entries)) (r .shape .capacity) (b .0);
-          entry-grids = λ g m. grid-decides (r .shape .rows) (r .shape .columns) (r .shape .top) g .0 (every-at (isGrid (r .shape .rows) (r .shape .columns) (r .shape .top)) (r .entries) (c .0) g m);
-          entries-ascend = ascending-decides (r .entries) .0 (c .1);
+          entry-grids = λ e m. i e m .0;
+          entry-holdings = λ e m. i e m .1;
+          entries-ascend = ascending-decides (gridsOf (r .entries)) .0 (c .1);
         }
 
     back : IsRegister r → isRegister r ≡ true
     back o =
         yes-and (inLimits (r .shape)) _ (limits-decides (r .shape) .1 (o .limits))
         (yes-and (leb (length (r .entries)) (r .shape .capacity)) _ (le-leb (length (r .entries)) (r .shape .capacity) (o .count-fits))
-        (yes-and (every (isGrid (r .shape .rows) (r .shape .columns) (r .shape .top)) (r .entries)) (ascending (r .entries))
-        (at-every (isGrid (r .shape .rows) (r .shape .columns) (r .shape .top)) (r .entries) (λ g m. grid-decides (r .shape .rows) (r .shape .columns) (r .shape .top) g .1 (o .entry-grids g m)))
-        (ascending-decides (r .entries) .1 (o .entries-ascend))))
+        (yes-and (every (isEntry (r .shape)) (r .entries)) (ascending (gridsOf (r .entries)))
+        (at-every (isEntry (r .shape)) (r .entries) (λ e m. entry-decides (r .shape) e .1 (o .entry-grids e m, o .entry-holdings e m)))
+        (ascending-decides (gridsOf (r .entries)) .1 (o .entries-ascend))))
+
+pub register-sized : (r : Register) → IsRegister r → Sized (gridSize (r .shape)) (r .entries)
+register-sized r o e m = record { cells = o .entry-grids e m .sized; held = o .entry-holdings e m .sized }
 
 pub register-printable : (r : Register) → IsRegister r → Printable r
 register-printable r o =
@@ -109,8 +147,9 @@ register-printable r o =
       top-small = omega (arith, l .top-limit);
       capacity-small = omega arith;
       count-small = omega arith;
-      entries-sized = λ g m. o .entry-grids g m .sized;
-      entries-small = λ g m k h. let i = o .entry-grids g m in omega (arith, l .top-limit, i .capped k (omega (arith, i .sized)));
+      entries-sized = register-sized r o;
+      cells-small = λ e m k h. omega (arith, l .top-limit, o .entry-grids e m .capped k h);
+      held-small = λ e m k h. omega (arith, o .entry-holdings e m .capped k h);
     }
 
 pub question5-layouts : (b : List ℕ) → (laidOut b ≡ true) ↔ ((r : Register) × IsRegister r × (b ≡ layout r))

@@ -1,10 +1,11 @@
--- Lists filled from the front.
+-- Lists filled from the front, and a field written in its place.
 --
 --   Filled p l k o   ==  o is l with p written over its first k elements
 --   fill-none        ==  nothing is written yet
 --   fill             ==  one byte more
 --   fill-part        ==  a field more, written into the part up to place e
 --   filled, filled-whole  ==  what o is; where all of it is filled
+--   in-place         ==  a number written into the part of w bytes from a place on
 use mathlib.Core.Path.{_≡_, refl, sym, ap, _∙_}
 use mathlib.Core.List.{List, [], _∷_, _++_, append-assoc, append-nil}
 use Prim.Native.Nat.{ℕ, suc, _+_, _-_, _≤_, _<_}
@@ -53,3 +54,9 @@ filled q n f e h = rw (← e, ← h) (f .bytes)
 
 pub filled-whole : {p l : List ℕ} {k : ℕ} {o : List ℕ} (q : List ℕ) → Filled p l k o → p ≡ q → length l ≤ k → o ≡ q
 filled-whole {p} {l} {k} {o} q f e h = f .bytes ∙ rw (drop-of-length-le l {i = k} h) (append-nil p ∙ e)
+
+pub in-place : (w : ℕ) (b ys : List ℕ) (at x : ℕ) → at + w ≤ length b → ys ≡ field (length (take (at + w - at) (drop at b))) x →
+    take at b ++ (ys ++ drop (at + w - at) (drop at b)) ≡ take at b ++ (field w x ++ drop w (drop at b))
+in-place w b ys at x h e =
+    let z : at + w - at ≡ w = omega arith in
+    rw (e, z, length-take-le w (drop at b) (omega (arith, length-drop at b)))

@@ -15,7 +15,7 @@ use lib.Seq.{drop-at, length-take-le}
 use Rattle.layout.specs.Decimal.{field}
 use Rattle.layout.specs.Layout.{Shape, fields, headLine}
 use Rattle.lines.specs.Head.{withField}
-use Rattle.lines.proofs.FillLaws.{Filled, fill-none, fill, fill-part}
+use Rattle.lines.proofs.FillLaws.{Filled, fill-none, fill, fill-part, in-place}
 
 six : (at : ℕ) → at + 6 - at ≡ 6
 six at = omega arith
@@ -25,7 +25,7 @@ six-long b at h = length-take-le 6 (drop at b) (omega (arith, length-drop at b))
 
 pub field-written : (b ys : List ℕ) (at x : ℕ) → at + 6 ≤ length b → ys ≡ field (length (take (at + 6 - at) (drop at b))) x → take at b ++ (ys ++ drop (at + 6 - at) (drop at b)) ≡ withField at x b
 unfolding withField
-field-written b ys at x h e = rw (e, six at, six-long b at h) refl
+field-written b ys at x h e = in-place 6 b ys at x h e
 
 pub fill-field : {p l : List ℕ} {k : ℕ} {o : List ℕ} (x : ℕ) → Filled p l k o → k + 6 ≤ length l → Filled (p ++ field 6 x) l (k + 6) (withField k x o)
 unfolding withField

@@ -3,7 +3,7 @@
 --   length-line, cell-small  ==  how long an entry's line is; its cells are at most its top
 --   ReadTo k l c o       ==  o is c with the first k cells of the line l
 --   read-none, read-next, read-all
---   EntryTo k i g l o    ==  o is l with the fields of the first k cells of g, which take i bytes
+--   EntryTo k i g l o    ==  o is l with the fields of the first k numbers of g, which take i bytes
 --   entry-none, entry-next, entry-all
 --   BlankTo k l o        ==  o is l with k spaces
 --   blank-none, blank-next, blank-all
@@ -17,20 +17,20 @@ use mathlib.Core.List.{List, [], _∷_, _++_, flatten, append-assoc, append-nil}
 use Prim.Native.Nat.{ℕ, suc, _+_, _-_, _*_, _≤_, _<_}
 use native.Mathlib.Numerals.{add-one}
 use native.Mathlib.Omega.{arith}
-use lib.ListN.{length, take, drop, set, getD, replicate, length-take, length-drop, length-set, drop-of-length-le, replicate-append-replicate, List·getD-append, take-append-drop}
+use lib.ListN.{length, take, drop, set, getD, replicate, length-append, length-take, length-drop, length-set, drop-of-length-le, replicate-append-replicate, List·getD-append, take-append-drop}
 use lib.Seq.{take-suc, take-all, drop-cons, set-at, take-at, drop-at, getD-take, getD-drop, getD-append-add, length-take-le, append-snoc, drop-drop}
 use Rattle.grids.proofs.QuestionLaws.{capped-at}
 use Rattle.layout.specs.Decimal.{field}
-use Rattle.layout.specs.Layout.{fields, entryWidth, lineLength, entryLine, blankLine, numberAt, cellsOf}
+use Rattle.layout.specs.Layout.{Entry, clients, fields, entryWidth, lineLength, entryLine, blankLine, numberAt, cellsOf, entryOf}
 use Rattle.layout.specs.Lines.{EntryLine}
-use Rattle.layout.proofs.LayoutLaws.{length-entry}
-use Rattle.layout.proofs.LineLaws.{length-cells, cell-at}
+use Rattle.layout.proofs.LayoutLaws.{Fitted, length-entry}
+use Rattle.layout.proofs.LineLaws.{length-cells, cell-at, length-holdings}
 use Rattle.lines.proofs.FillLaws.{Filled, fill-none, fill, fill-part, filled, filled-whole}
 
 -- ---- a line is read
 
 pub length-line : {size top : ℕ} {l : List ℕ} → EntryLine size top l → length l ≡ lineLength size
-length-line {size} {top} {l} e = ap length (e .bytes) ∙ length-entry (cellsOf size l) ∙ ap lineLength (length-cells size l)
+length-line {size} {top} {l} e = ap length (e .bytes) ∙ length-entry size (entryOf size l) (record { cells = length-cells size l; held = length-holdings size l })
 
 pub cell-small : {size top : ℕ} {l : List ℕ} (k : ℕ) → EntryLine size top l → k < size → numberAt 3 (3 * k) l ≤ top
 cell-small {size} {top} {l} k e h = rw (cell-at size l k h) at (capped-at top (cellsOf size l) (e .at-most) k (omega (arith, length-cells size l)))
@@ -67,22 +67,24 @@ pub entry-none : (g l : List ℕ) → EntryTo 0 0 g l l
 unfolding fields flatten
 entry-none g l = record { place = refl; within = omega arith; so-far = fill-none l }
 
-pub entry-next : {k i : ℕ} {g l o : List ℕ} (ys : List ℕ) → EntryTo k i g l o → k < length g → i + 3 ≤ length l → ys ≡ field (length (take (i + 3 - i) (drop i o))) (getD g k 0) →
+pub entry-next : {k i x : ℕ} {g l o : List ℕ} (ys : List ℕ) → EntryTo k i g l o → k < length g → i + 3 ≤ length l → x ≡ getD g k 0 → ys ≡ field (length (take (i + 3 - i) (drop i o))) x →
     EntryTo (k + 1) (i + 3) g l (take i o ++ (ys ++ drop (i + 3 - i) (drop i o)))
-entry-next {k} {i} {g} {l} {o} ys t h b y = record {
+entry-next {k} {i} {x} {g} {l} {o} ys t h b e y = record {
   place = omega (arith, t .place);
   within = omega arith;
   so-far =
       let z : i + 3 - i ≡ 3 = omega arith in
-      fill-part _ (i + 3) (getD g k 0) ys (t .so-far) (omega arith) b y
-      (rw (add-one, z, take-suc g k 0 h) (fields-snoc 3 (take k g) (getD g k 0)));
+      fill-part _ (i + 3) x ys (t .so-far) (omega arith) b y
+      (rw (add-one, z, take-suc g k 0 h, e) (fields-snoc 3 (take k g) (getD g k 0)));
 }
 
-pub entry-all : {k i : ℕ} {g l o : List ℕ} → EntryTo k i g l o → length g ≤ k → lineLength (length g) ≤ length l → set o i 10 ≡ entryLine g ++ drop (lineLength (length g)) l
+pub entry-all : {k i : ℕ} {l o : List ℕ} (size : ℕ) (e : Entry) → Fitted size e → EntryTo k i (e .grid ++ e .holdings) l o → size + clients ≤ k → lineLength size ≤ length l →
+    set o i 10 ≡ entryLine e ++ drop (lineLength size) l
 unfolding entryLine lineLength entryWidth
-entry-all {k} {i} {g} {l} {o} t h b =
-    filled (fields 3 g ++ (10 ∷ [])) (lineLength (length g)) (fill _ 10 (t .so-far) (omega (arith, t .place, t .within)) refl)
-    (ap (λ (r : List ℕ). fields 3 r ++ (10 ∷ [])) (take-all k g h))
+entry-all {k} {i} {l} {o} size e f t h b =
+    let n : length (e .grid ++ e .holdings) ≡ size + clients = length-append (e .grid) (e .holdings) ∙ omega (arith, f .cells, f .held) in
+    filled (fields 3 (e .grid ++ e .holdings) ++ (10 ∷ [])) (lineLength size) (fill _ 10 (t .so-far) (omega (arith, t .place, t .within)) refl)
+    (ap (λ (r : List ℕ). fields 3 r ++ (10 ∷ [])) (take-all k (e .grid ++ e .holdings) (omega arith)))
     (omega (arith, t .place, t .within))
 
 pub record BlankTo (k : ℕ) (l o : List ℕ) : Type 0 where

@@ -4,22 +4,22 @@ use crate::numbers;
 ghost use mathlib.Core.Path.{_≡_};
 ghost use mathlib.Core.List.{_++_};
 ghost use Prim.Native.Nat.{_+_, _*_, _≤_};
-ghost use lib.ListN.{length, take, drop};
-ghost use Rattle.layout.specs.Layout.{headLength, lineLength, entryLine, blankLine, cellsOf};
-ghost use Rattle.layout.specs.Lines.{EntryLine};
+ghost use lib.ListN.{length, getD, take, drop};
+ghost use Rattle.layout.specs.Layout.{clients, noHoldings, changed, headLength, lineLength, entryLine, blankLine, cellsOf};
+ghost use Rattle.layout.specs.Lines.{firstEntry, EntryLine};
 
 // How many bytes the line of an entry with so many cells has, the line feed included.
 pub fn line_length(size: usize) -> usize
     requires { ⌜ size ≤ 128 ⌝ }
-    ensures { λ r. ⌜ (r ≡ lineLength size) × (r ≤ 385) ⌝ }
+    ensures { λ r. ⌜ (r ≡ lineLength size) × (r ≤ 409) ⌝ }
 {
-    3 * size + 1
+    3 * (size + 8) + 1
 }
 
 // How many bytes a register has whose entries have so many cells.
 pub fn register_length(size: usize, capacity: usize) -> usize
     requires { ⌜ (size ≤ 128) × (capacity ≤ 500) ⌝ }
-    ensures { λ r. ⌜ (r ≡ headLength + capacity * lineLength size) × (r ≤ 192531) ⌝ }
+    ensures { λ r. ⌜ (r ≡ headLength + capacity * lineLength size) × (r ≤ 204531) ⌝ }
 {
     31 + capacity * line_length(size)
 }
@@ -36,16 +36,32 @@ pub fn read_line(line: &[u8], cells: &mut [u8])
     }
 }
 
-// Writes an entry's line from its first byte onward.
-pub fn write_line(part: &mut [u8], grid: &[u8])
-    requires { ⌜ (length (now grid) ≤ 128) × (lineLength (length (now grid)) ≤ length (now part)) ⌝ }
-    ensures { λ _. ⌜ now (part .exit) ≡ entryLine (now (grid .entry)) ++ drop (lineLength (length (now (grid .entry)))) (now (part .entry)) ⌝ }
+// The number at a place of the line of a new entry, which this client alone holds, once.
+fn number(grid: &[u8], client: usize, k: usize) -> usize
+    requires { ⌜ (1 ≤ client) × (client ≤ clients) ⌝ }
+    ensures { λ r. ⌜ r ≡ getD (now (grid .entry) ++ changed client 1 noHoldings) k 0 ⌝ }
 {
+    if k < grid.len() {
+        return grid[k] as usize;
+    }
+    if k - grid.len() == client - 1 {
+        return 1;
+    }
+    0
+}
+
+// Writes the line of a new entry, which this client alone holds, once, from its first byte onward.
+pub fn write_line(part: &mut [u8], grid: &[u8], client: usize)
+    requires { ⌜ (length (now grid) ≤ 128) × (1 ≤ client) × (client ≤ clients) × (lineLength (length (now grid)) ≤ length (now part)) ⌝ }
+    ensures { λ _. ⌜ now (part .exit) ≡ entryLine (firstEntry client (now (grid .entry))) ++ drop (lineLength (length (now (grid .entry)))) (now (part .entry)) ⌝ }
+{
+    let count = grid.len() + 8;
     let mut k = 0;
     let mut at = 0;
-    while k < grid.len() {
+    while k < count {
         let end = at + 3;
-        numbers::write_number(&mut part[at..end], grid[k] as usize);
+        let x = number(grid, client, k);
+        numbers::write_number(&mut part[at..end], x);
         at = end;
         k += 1;
     }
@@ -66,14 +82,15 @@ pub fn write_blank(part: &mut [u8], size: usize)
     part[end] = 10;
 }
 
-// Puts an entry's line in at its first byte: so many bytes from there on move on by one line, over what stands behind them.
-pub fn insert_line(part: &mut [u8], moved: usize, grid: &[u8])
-    requires { ⌜ (length (now grid) ≤ 128) × (moved + lineLength (length (now grid)) ≤ length (now part)) ⌝ }
-    ensures { λ _. ⌜ now (part .exit) ≡ entryLine (now (grid .entry)) ++ (take moved (now (part .entry)) ++ drop (moved + lineLength (length (now (grid .entry)))) (now (part .entry))) ⌝ }
+// Puts the line of a new entry, which this client alone holds, once, in at its first byte: so many bytes from there on move on by one
+// line, over what stands behind them.
+pub fn insert_line(part: &mut [u8], moved: usize, grid: &[u8], client: usize)
+    requires { ⌜ (length (now grid) ≤ 128) × (1 ≤ client) × (client ≤ clients) × (moved + lineLength (length (now grid)) ≤ length (now part)) ⌝ }
+    ensures { λ _. ⌜ now (part .exit) ≡ entryLine (firstEntry client (now (grid .entry))) ++ (take moved (now (part .entry)) ++ drop (moved + lineLength (length (now (grid .entry)))) (now (part .entry))) ⌝ }
 {
     let by = line_length(grid.len());
     move_on(part, moved, by);
-    write_line(part, grid);
+    write_line(part, grid, client);
 }
 
 // Takes the line at the first byte out: so many bytes behind it move back by one line, and a blank line follows them.

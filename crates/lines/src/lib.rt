@@ -3,5 +3,6 @@ pub mod bytes;
 pub mod entries;
 pub mod equality;
 pub mod head;
+pub mod holdings;
 pub mod numbers;
 pub mod tables;

@@ -1,17 +1,17 @@
 -- What the register's calls ask, exactly: which arguments pass every question.
 --
---   grid-pass    ==  questions 6 and 7 of a grid: it is one
 --   numberQuestions s  ==  questions 1 to 4
 --   number-numbered, numbers-pass  ==  each has a number; they ask the limits
 --   open-pass    ==  open's: the limits, and a slice of the exact length
---   enter-pass   ==  enter's: a register, a grid, and its class held or room for it
---   strike-pass  ==  strike's: a register, a grid, and its class held
+--   client-numbered, client-pass  ==  questions 6, 7 and 15: a grid, and a client
+--   enter-pass   ==  enter's: a register, a grid, a client, its class held or room for it, and this client's holding below 999
+--   strike-pass  ==  strike's: a register, a grid, a client, and its class held by this client
 --   count-pass   ==  count's: a register, and bounds
 use mathlib.Core.Path.{_≡_, refl}
 use mathlib.Core.List.{List, [], _∷_, _++_, List·Memᴰ·head}
 use mathlib.Core.Bool.{true, _||_}
 use mathlib.Core.Logic.{_↔_}
-use Prim.Native.Nat.{ℕ, _<_}
+use Prim.Native.Nat.{ℕ, _≤_}
 use native.Mathlib.Omega.{arith}
 use lib.ListN.{length}
 use lib.Dec.{ltb}
@@ -20,8 +20,8 @@ use Rattle.grids.specs.Questions.{Question, firstNo, question1, question2, ques
 use Rattle.grids.proofs.QuestionLaws.{AllYes, Numbered, first-no-zero, range-yes, yes-range, grid-of, grid-capped, all-one, limits-asked, lengths-asked, cells-asked}
 use Rattle.bounds.specs.Bounds.{IsBounds}
 use Rattle.bounds.proofs.BoundsLaws.{bounds-asked, bounds-numbered}
-use Rattle.layout.specs.Layout.{Shape, Register, gridSize, layoutLength, InLimits, laidOut}
-use Rattle.machine.specs.Calls.{question4, question5, gridQuestions, holds, question9, question10, openQuestions, enterQuestions, strikeQuestions, countQuestions}
+use Rattle.layout.specs.Layout.{Shape, Register, clients, mostHeld, gridsOf, gridSize, layoutLength, InLimits, laidOut}
+use Rattle.machine.specs.Calls.{question4, question5, gridQuestions, clientQuestions, holds, heldBy, question9, question10, question15, question16, openQuestions, enterQuestions, strikeQuestions, countQuestions}
 use Rattle.machine.specs.Valid.{numbersNo}
 
 -- ---- a grid's questions
@@ -35,16 +35,6 @@ yes-length s g i = lengths-asked (gridSize s) (g ∷ []) .1 (all-one (λ x. leng
 
 yes-cells : (s : Shape) (g : List ℕ) → IsGrid (s .rows) (s .columns) (s .top) g → question7 (s .top) (g ∷ []) .answer ≡ true
 yes-cells s g i = cells-asked (s .top) (g ∷ []) .1 (all-one (λ x. capped (s .top) x ≡ true) g (grid-capped (s .rows) (s .columns) (s .top) g i))
-
-grid-numbered : (s : Shape) (g : List ℕ) → Numbered (gridQuestions s g)
-unfolding gridQuestions question6 question7
-grid-numbered s g = (omega arith, (omega arith, tt))
-
-pub grid-pass : (s : Shape) (g : List ℕ) → (firstNo (gridQuestions s g) ≡ 0) ↔ IsGrid (s .rows) (s .columns) (s .top) g
-unfolding gridQuestions
-grid-pass s g =
-    let z = first-no-zero (gridQuestions s g) (grid-numbered s g) in
-    (λ e. let h = z .0 e in grid-yes s g (h .0) (h .1 .0), λ i. z .1 (yes-length s g i, (yes-cells s g i, tt)))
 
 -- ---- the four numbers
 
@@ -95,30 +85,45 @@ open-pass s b = (to, back)
 
 -- ---- enter, strike and count
 
--- question 5, a grid's questions, and one more
-then-numbered : (b : List ℕ) (s : Shape) (g : List ℕ) (q : Question) → 0 < q .number → Numbered (question5 b ∷ (gridQuestions s g ++ (q ∷ [])))
-unfolding gridQuestions question5 question6 question7
-then-numbered b s g q h = (omega arith, (omega arith, (omega arith, (h, tt))))
+pub client-numbered : (s : Shape) (c : ℕ) (g : List ℕ) → Numbered (clientQuestions s c g)
+unfolding clientQuestions gridQuestions question6 question7 question15
+client-numbered s c g = (omega arith, (omega arith, (omega arith, tt)))
 
-then-pass : (b : List ℕ) (s : Shape) (g : List ℕ) (q : Question) → 0 < q .number →
-    (firstNo (question5 b ∷ (gridQuestions s g ++ (q ∷ []))) ≡ 0) ↔ ((laidOut b ≡ true) × IsGrid (s .rows) (s .columns) (s .top) g × (q .answer ≡ true))
-unfolding gridQuestions question5
-then-pass b s g q n =
-    let z = first-no-zero (question5 b ∷ (gridQuestions s g ++ (q ∷ []))) (then-numbered b s g q n) in (
-      λ e. let h = z .0 e in (h .0, grid-yes s g (h .1 .0) (h .1 .1 .0), h .1 .1 .1 .0),
-      λ h. z .1 (h .0, (yes-length s g (h .1), (yes-cells s g (h .1), (h .2, tt)))),
+pub client-pass : (s : Shape) (c : ℕ) (g : List ℕ) → (firstNo (clientQuestions s c g) ≡ 0) ↔ (IsGrid (s .rows) (s .columns) (s .top) g × (1 ≤ c) × (c ≤ clients))
+unfolding clientQuestions gridQuestions question15
+client-pass s c g =
+    let z = first-no-zero (clientQuestions s c g) (client-numbered s c g) in (
+      λ e. let h = z .0 e in let k = range-yes 1 clients c (h .1 .1 .0) in (grid-yes s g (h .0) (h .1 .0), k .0, k .1),
+      λ h. z .1 (yes-length s g (h .0), (yes-cells s g (h .0), (yes-range 1 clients c (h .1, h .2), tt))),
     )
 
-module _ (b : List ℕ) (x : Register) (g r : List ℕ) where
-  pub enter-pass : (firstNo (enterQuestions b x g r) ≡ 0)
-      ↔ ((laidOut b ≡ true) × IsGrid (x .shape .rows) (x .shape .columns) (x .shape .top) g × ((holds r (x .entries) || ltb (length (x .entries)) (x .shape .capacity)) ≡ true))
-  unfolding enterQuestions question9
-  enter-pass = then-pass b (x .shape) g (question9 x r) (omega arith)
+-- question 5, a grid's and a client's questions, and what is asked of the register
+then-pass : (b : List ℕ) (s : Shape) (c : ℕ) (g : List ℕ) (l : List Question) → Numbered l →
+    (firstNo (question5 b ∷ (clientQuestions s c g ++ l)) ≡ 0) ↔ ((laidOut b ≡ true) × (firstNo (clientQuestions s c g) ≡ 0) × AllYes l)
+unfolding clientQuestions gridQuestions question5 question6 question7 question15
+then-pass b s c g l n =
+    let z = first-no-zero (question5 b ∷ (clientQuestions s c g ++ l)) (omega arith, (omega arith, (omega arith, (omega arith, n)))) in
+    let y = first-no-zero (clientQuestions s c g) (client-numbered s c g) in (
+      λ e. let h = z .0 e in (h .0, y .1 (h .1 .0, (h .1 .1 .0, (h .1 .1 .1 .0, tt))), h .1 .1 .1 .1),
+      λ h. let q = y .0 (h .1) in z .1 (h .0, (q .0, (q .1 .0, (q .1 .1 .0, h .2)))),
+    )
 
-  pub strike-pass : (firstNo (strikeQuestions b x g r) ≡ 0)
-      ↔ ((laidOut b ≡ true) × IsGrid (x .shape .rows) (x .shape .columns) (x .shape .top) g × (holds r (x .entries) ≡ true))
+module _ (b : List ℕ) (x : Register) (c : ℕ) (g r : List ℕ) where
+  pub enter-pass : (firstNo (enterQuestions b x c g r) ≡ 0)
+      ↔ ((laidOut b ≡ true) × (firstNo (clientQuestions (x .shape) c g) ≡ 0) × ((holds r (gridsOf (x .entries)) || ltb (length (x .entries)) (x .shape .capacity)) ≡ true) × (ltb (heldBy c r (x .entries)) mostHeld ≡ true))
+  unfolding enterQuestions question9 question16
+  enter-pass =
+      let z = then-pass b (x .shape) c g (question9 x r ∷ question16 x c r ∷ []) (omega arith, (omega arith, tt)) in (
+        λ e. let h = z .0 e in (h .0, h .1, h .2 .0, h .2 .1 .0),
+        λ h. z .1 (h .0, h .1, (h .2, (h .3, tt))),
+      )
+
+  pub strike-pass : (firstNo (strikeQuestions b x c g r) ≡ 0)
+      ↔ ((laidOut b ≡ true) × (firstNo (clientQuestions (x .shape) c g) ≡ 0) × (ltb 0 (heldBy c r (x .entries)) ≡ true))
   unfolding strikeQuestions question10
-  strike-pass = then-pass b (x .shape) g (question10 x r) (omega arith)
+  strike-pass =
+      let z = then-pass b (x .shape) c g (question10 x c r ∷ []) (omega arith, tt) in
+      (λ e. let h = z .0 e in (h .0, h .1, h .2 .0), λ h. z .1 (h .0, h .1, (h .2, tt)))
 
 count-numbered : (b : List ℕ) (x : Register) (low high : List ℕ) → Numbered (countQuestions b x low high)
 unfolding countQuestions question5

@@ -10,13 +10,13 @@ use Rattle.machine.specs.Calls.{placed}
 use Rattle.machine.specs.CallLists.{Implementation, registerCalls, Meets, left}
 use Rattle.machine.specs.Machine.{shown}
 use Rattle.machine.specs.BothCounts.{CountsAlike, BothCounts}
-use Rattle.machine.proofs.SortedLaws.{Grids}
+use Rattle.machine.proofs.SortedLaws.{Entries}
 use Rattle.machine.proofs.MachineLaws.{Good, registerOf, reads, afterwards, afterwards-good}
 use Rattle.machine.proofs.CallListLaws.{meets-has}
 use Rattle.machine.proofs.CountLaws.{counted-bounds, sent-bounds, counted-pruned, none-inside}
 use Rattle.machine.proofs.Demand3Laws.{left-shown, opened-good, opened-shown}
 
-pub shown-alike : (s : Shape) (l : Grids) → Good s l → (low high : List ℕ) → CountsAlike registerCalls (shown s l) low high
+pub shown-alike : (s : Shape) (l : Entries) → Good s l → (low high : List ℕ) → CountsAlike registerCalls (shown s l) low high
 unfolding registerCalls decode registerOf
 shown-alike s l g low high = record {
   alike = rw states (λ z. counted-pruned s low high l g z ∙ sym (counted-bounds s l g low high (sent-bounds s low high z)));

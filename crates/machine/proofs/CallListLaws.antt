@@ -9,10 +9,10 @@ pub meets-same : (i : Implementation) → Meets i → i ≡ registerCalls
 unfolding registerCalls
 meets-same i h = λ k. record {
   opens = λ s b. h .opens s b k;
-  enters = λ b g. h .enters b g k;
-  strikes = λ b g. h .strikes b g k;
+  enters = λ b c g. h .enters b c g k;
+  strikes = λ b c g. h .strikes b c g k;
   counts = λ b low high. h .counts b low high k;
-  terminalEnters = λ b g. h .terminalEnters b g k;
+  terminalEnters = λ b c g. h .terminalEnters b c g k;
 }
 
 pub meets-has : (P : Implementation → Type 0) (i : Implementation) → Meets i → P registerCalls → P i

@@ -20,24 +20,24 @@ use Rattle.bounds.specs.Prune.{boundsQuestions}
 use Rattle.bounds.proofs.BoundsLaws.{bounds-pass}
 use Rattle.bounds.proofs.AllpermLaws.{least-allperm}
 use Rattle.bounds.proofs.PruneLaws.{prune-pass, pruned-some, says-some, says-none, pruned-is-bounds, least-same-bounds, none-in-bounds}
-use Rattle.layout.specs.Layout.{Shape, gridSize}
+use Rattle.layout.specs.Layout.{Shape, gridsOf, gridSize}
 use Rattle.machine.specs.Calls.{Outcome, counted, placed}
 use Rattle.machine.specs.CallLists.{accepted}
 use Rattle.machine.specs.Machine.{shown, stepUnless, countClasses, outcome}
 use Rattle.machine.specs.Demand3.{prunedFor}
-use Rattle.machine.proofs.SortedLaws.{Grids}
+use Rattle.machine.proofs.SortedLaws.{Entries, Grids}
 use Rattle.machine.proofs.MachineLaws.{Good, self-least, count-same}
 use Rattle.machine.proofs.LiveLaws.{bounds-refused}
 
 abbrev pub inside : Shape → Grids → List ℕ → List ℕ → ℕ
 inside s l low high = length (select (inBounds (gridSize s) (s .top) low high) l)
 
-module _ (s : Shape) (l : Grids) (g : Good s l) (low high : List ℕ) where
-  pub counted-bounds : IsBounds (gridSize s) (s .top) low high → counted (shown s l) low high ≡ placed 0 (inside s l low high) (shown s l)
+module _ (s : Shape) (l : Entries) (g : Good s l) (low high : List ℕ) where
+  pub counted-bounds : IsBounds (gridSize s) (s .top) low high → counted (shown s l) low high ≡ placed 0 (inside s (gridsOf l) low high) (shown s l)
   unfolding stepUnless countClasses outcome
   counted-bounds i = count-same s l g low high ∙ ap (λ (k : ℕ). outcome s (stepUnless k l (countClasses s l low high))) (bounds-pass (gridSize s) (s .top) low high .1 i)
 
-  pub counted-sent : accepted (counted (shown s l) low high .number) ≡ true → counted (shown s l) low high .place ≡ inside s l low high
+  pub counted-sent : accepted (counted (shown s l) low high .number) ≡ true → counted (shown s l) low high .place ≡ inside s (gridsOf l) low high
   unfolding stepUnless countClasses outcome
   counted-sent h = ap (λ (o : Outcome). o .place) same ∙ go k refl (sym (ap (λ (o : Outcome). accepted (o .number)) same) ∙ h)
     where
@@ -47,7 +47,7 @@ module _ (s : Shape) (l : Grids) (g : Good s l) (low high : List ℕ) where
       same : counted (shown s l) low high ≡ outcome s (stepUnless k l (countClasses s l low high))
       same = count-same s l g low high
 
-      go : (j : ℕ) → k ≡ j → accepted (stepUnless j l (countClasses s l low high) .number) ≡ true → stepUnless j l (countClasses s l low high) .place ≡ inside s l low high
+      go : (j : ℕ) → k ≡ j → accepted (stepUnless j l (countClasses s l low high) .number) ≡ true → stepUnless j l (countClasses s l low high) .place ≡ inside s (gridsOf l) low high
       go zero e a = refl
       go (suc j) e a = absurd (true≢false (sym a ∙ bounds-refused (gridSize s) (s .top) low high j e))
 
@@ -55,22 +55,22 @@ module _ (s : Shape) (low high : List ℕ) where
   pub sent-bounds : prunedFor s low high .number ≡ 0 → IsBounds (gridSize s) (s .top) low high
   sent-bounds z = prune-pass (s .rows) (s .columns) (s .top) low high .0 (says-some (s .rows) (s .columns) (s .top) low high z .0) .1
 
-  module _ (l : Grids) (g : Good s l) where
-    pub same-inside : prunedFor s low high .number ≡ 0 → inside s l (prunedFor s low high .low) (prunedFor s low high .high) ≡ inside s l low high
+  module _ (l : Entries) (g : Good s l) where
+    pub same-inside : prunedFor s low high .number ≡ 0 → inside s (gridsOf l) (prunedFor s low high .low) (prunedFor s low high .high) ≡ inside s (gridsOf l) low high
     same-inside z =
         let w = says-some (s .rows) (s .columns) (s .top) low high z in
         rw (pruned-some (s .rows) (s .columns) (s .top) low high (w .0) (w .1))
-        (ap length (select-ext _ _ l (λ r m. least-same-bounds (s .rows) (s .columns) (s .top) low high (w .1) r r (self-least s l g r m))))
+        (ap length (select-ext _ _ (gridsOf l) (λ r m. least-same-bounds (s .rows) (s .columns) (s .top) low high (w .1) r r (self-least s l g r m))))
 
     pub counted-pruned : prunedFor s low high .number ≡ 0 →
-        counted (shown s l) (prunedFor s low high .low) (prunedFor s low high .high) ≡ placed 0 (inside s l low high) (shown s l)
+        counted (shown s l) (prunedFor s low high .low) (prunedFor s low high .high) ≡ placed 0 (inside s (gridsOf l) low high) (shown s l)
     counted-pruned z =
         counted-bounds s l g (prunedFor s low high .low) (prunedFor s low high .high) (pruned-is-bounds (s .rows) (s .columns) (s .top) low high z)
         ∙ ap (λ (n : ℕ). placed 0 n (shown s l)) (same-inside z)
 
-    pub none-inside : prunedFor s low high .number ≡ 102 → IsBounds (gridSize s) (s .top) low high × (inside s l low high ≡ 0)
+    pub none-inside : prunedFor s low high .number ≡ 102 → IsBounds (gridSize s) (s .top) low high × (inside s (gridsOf l) low high ≡ 0)
     none-inside z =
         let w = says-none (s .rows) (s .columns) (s .top) low high z in (
           prune-pass (s .rows) (s .columns) (s .top) low high .0 (w .0) .1,
-          ap length (select-none _ l (λ r m t. none-in-bounds (s .rows) (s .columns) (s .top) low high (w .1) r (least-allperm (s .rows) (s .columns) r r (self-least s l g r m)) t)),
+          ap length (select-none _ (gridsOf l) (λ r m t. none-in-bounds (s .rows) (s .columns) (s .top) low high (w .1) r (least-allperm (s .rows) (s .columns) r r (self-least s l g r m)) t)),
         )

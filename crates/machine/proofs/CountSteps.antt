@@ -15,7 +15,7 @@ use Rattle.grids.proofs.QuestionLaws.{firstNo-pass, firstNo-stop}
 use Rattle.bounds.specs.Bounds.{IsBounds, inBounds}
 use Rattle.bounds.specs.Prune.{boundsQuestions}
 use Rattle.bounds.proofs.BoundsLaws.{bounds-pass}
-use Rattle.layout.specs.Layout.{Shape, gridSize, decodeShape, decode, laidOut}
+use Rattle.layout.specs.Layout.{Shape, gridsOf, gridSize, decodeShape, decode, laidOut}
 use Rattle.machine.specs.Calls.{answered, question5, countQuestions, entriesIn, countRegister, counted, placed}
 use Rattle.machine.proofs.RefusalLaws.{counted-refused}
 
@@ -45,6 +45,6 @@ module _ (b low high : List ℕ) (laid : laidOut b ≡ true) {s : Shape} (e : s 
     pub count-bounds : IsBounds (length low) (decodeShape b .top) low high
     count-bounds = rw (bounds .low-size, ap (λ (t : Shape). t .top) (sym e)) bounds
 
-    pub count-made : {r : ℕ} → r ≡ length (select (inBounds (length low) (decodeShape b .top) low high) (decode b .entries)) → placed 0 r b ≡ counted b low high
+    pub count-made : {r : ℕ} → r ≡ length (select (inBounds (length low) (decodeShape b .top) low high) (gridsOf (decode b .entries))) → placed 0 r b ≡ counted b low high
     unfolding counted countRegister entriesIn answered decode
     count-made q = ap (λ (n : ℕ). placed 0 n b) (rw (bounds .low-size ∙ ap gridSize e) at q) ∙ sym (rw (asked ∙ z) refl)

@@ -13,30 +13,30 @@ use lib.Dec.{eqb}
 use borrow.Author.Tests.{ne-eqb}
 use Rattle.grids.specs.Questions.{firstNo, question6, question7, question14, afterFirst}
 use Rattle.bounds.specs.Prune.{boundsQuestions, question8}
-use Rattle.layout.specs.Layout.{Shape, Register, decode}
-use Rattle.machine.specs.Calls.{Outcome, refusal, answered, question5, question9, question10, gridQuestions, holds, openQuestions, enterQuestions, strikeQuestions, countQuestions, terminalEnterQuestions, enterInto, strikeFrom, enterRegister, strikeRegister, countRegister, terminalEnterRegister, opened, entered, struck, counted, terminalEntered}
+use Rattle.layout.specs.Layout.{Shape, Register, gridsOf, decode}
+use Rattle.machine.specs.Calls.{Outcome, refusal, answered, question5, question9, question10, question15, question16, gridQuestions, clientQuestions, holds, openQuestions, enterQuestions, strikeQuestions, countQuestions, terminalEnterQuestions, enterInto, strikeFrom, enterRegister, strikeRegister, countRegister, terminalEnterRegister, opened, entered, struck, counted, terminalEntered}
 use Rattle.machine.specs.CallLists.{Call, enter, strike, countIn, terminalEnter, Implementation, registerCalls, Meets, called, questionsOf, accepted}
 use Rattle.machine.specs.Demand1.{Demand1}
-use Rattle.machine.proofs.RefusalLaws.{opened-refused, entered-refused, struck-refused, counted-refused, refused-number, answered-held, held-unchanged, count-unchanged}
+use Rattle.machine.proofs.RefusalLaws.{opened-refused, entered-refused, struck-refused, counted-refused, refused-number, count-unchanged}
 use Rattle.machine.proofs.CallLaws.{opened-length, entered-length, struck-length}
-use Rattle.machine.proofs.TerminalLaws.{terminal-entered-refused, terminal-held-unchanged, terminal-entered-length}
+use Rattle.machine.proofs.TerminalLaws.{terminal-entered-refused, terminal-entered-length}
 use Rattle.machine.proofs.CallListLaws.{meets-has}
 
 pub call-refused : (b : List ℕ) (c : Call) (k : ℕ) → firstNo (questionsOf b c) ≡ suc k → called registerCalls b c ≡ refusal (suc k) b
 unfolding called registerCalls questionsOf
-call-refused b (enter g) = entered-refused b g
-call-refused b (strike g) = struck-refused b g
+call-refused b (enter c g) = entered-refused b c g
+call-refused b (strike c g) = struck-refused b c g
 call-refused b (countIn low high) = counted-refused b low high
-call-refused b (terminalEnter g) = terminal-entered-refused b g
+call-refused b (terminalEnter c g) = terminal-entered-refused b c g
 
 -- ---- no question's number is accepted
 
 question-refused : (b : List ℕ) (c : Call) (k : ℕ) → firstNo (questionsOf b c) ≡ suc k → accepted (suc k) ≡ false
-unfolding questionsOf enterQuestions strikeQuestions countQuestions terminalEnterQuestions afterFirst gridQuestions boundsQuestions question5 question6 question7 question8 question9 question10 question14 accepted
-question-refused b (enter g) = refused-number (questionsOf b (enter g)) (refl, (refl, (refl, (refl, tt))))
-question-refused b (strike g) = refused-number (questionsOf b (strike g)) (refl, (refl, (refl, (refl, tt))))
+unfolding questionsOf enterQuestions strikeQuestions countQuestions terminalEnterQuestions afterFirst clientQuestions gridQuestions boundsQuestions question5 question6 question7 question8 question9 question10 question14 question15 question16 accepted
+question-refused b (enter c g) = refused-number (questionsOf b (enter c g)) (refl, (refl, (refl, (refl, (refl, (refl, tt))))))
+question-refused b (strike c g) = refused-number (questionsOf b (strike c g)) (refl, (refl, (refl, (refl, (refl, tt)))))
 question-refused b (countIn low high) = refused-number (questionsOf b (countIn low high)) (refl, (refl, (refl, (refl, tt))))
-question-refused b (terminalEnter g) = refused-number (questionsOf b (terminalEnter g)) (refl, (refl, (refl, (refl, (refl, tt)))))
+question-refused b (terminalEnter c g) = refused-number (questionsOf b (terminalEnter c g)) (refl, (refl, (refl, (refl, (refl, (refl, (refl, tt)))))))
 
 -- ---- what passes the questions is accepted
 
@@ -44,11 +44,11 @@ zero-accepted : accepted 0 ≡ true
 unfolding accepted
 zero-accepted = refl
 
-into-accepted : (b : List ℕ) (x : Register) (r : List ℕ) → accepted (enterInto b x r .number) ≡ true
+into-accepted : (x : Register) (c : ℕ) (r : List ℕ) → accepted (enterInto x c r .number) ≡ true
 unfolding enterInto accepted
-into-accepted b x r = go (holds r (x .entries)) refl
+into-accepted x c r = go (holds r (gridsOf (x .entries))) refl
   where
-    go : (h : Bool) → holds r (x .entries) ≡ h → accepted (enterInto b x r .number) ≡ true
+    go : (h : Bool) → holds r (gridsOf (x .entries)) ≡ h → accepted (enterInto x c r .number) ≡ true
     go true h = rw (h, enterInto)
     go false h = rw (h, enterInto)
 
@@ -59,10 +59,10 @@ answered-accepted (suc k) b o h f = f k refl ∙ sym (ne-eqb (suc k) 0 (omega ar
 
 pub accepted-asked : (b : List ℕ) (c : Call) → accepted (called registerCalls b c .number) ≡ eqb (firstNo (questionsOf b c)) 0
 unfolding called registerCalls entered struck counted terminalEntered enterRegister strikeRegister countRegister terminalEnterRegister questionsOf strikeFrom
-accepted-asked b (enter g) = answered-accepted _ b _ (λ e. into-accepted b (decode b) _) (question-refused b (enter g))
-accepted-asked b (strike g) = answered-accepted _ b _ (λ e. zero-accepted) (question-refused b (strike g))
+accepted-asked b (enter c g) = answered-accepted _ b _ (λ e. into-accepted (decode b) c _) (question-refused b (enter c g))
+accepted-asked b (strike c g) = answered-accepted _ b _ (λ e. zero-accepted) (question-refused b (strike c g))
 accepted-asked b (countIn low high) = answered-accepted _ b _ (λ e. zero-accepted) (question-refused b (countIn low high))
-accepted-asked b (terminalEnter g) = answered-accepted _ b _ (λ e. into-accepted b (decode b) _) (question-refused b (terminalEnter g))
+accepted-asked b (terminalEnter c g) = answered-accepted _ b _ (λ e. into-accepted (decode b) c _) (question-refused b (terminalEnter c g))
 
 answered-zero : (k : ℕ) (b : List ℕ) (o : Outcome) → o .number ≡ 0 → eqb (answered k b o .number) 0 ≡ eqb k 0
 unfolding answered
@@ -75,23 +75,16 @@ open-asked s b = answered-zero (firstNo (openQuestions s b)) b _ refl
 
 -- ---- what a call leaves
 
-held-kept : (b : List ℕ) (c : Call) → called registerCalls b c .number ≡ 101 → called registerCalls b c .bytes ≡ b
-unfolding called registerCalls struck strikeRegister strikeFrom
-held-kept b (enter g) e = held-unchanged b g e
-held-kept b (strike g) e = answered-held _ b _ (λ z. absurd (omega arith)) e
-held-kept b (countIn low high) e = count-unchanged b low high
-held-kept b (terminalEnter g) e = terminal-held-unchanged b g e
-
 count-kept : (b low high : List ℕ) → called registerCalls b (countIn low high) .bytes ≡ b
 unfolding called registerCalls
 count-kept b low high = count-unchanged b low high
 
 length-kept : (b : List ℕ) (c : Call) → length (called registerCalls b c .bytes) ≡ length b
 unfolding called registerCalls
-length-kept b (enter g) = entered-length b g
-length-kept b (strike g) = struck-length b g
+length-kept b (enter c g) = entered-length b c g
+length-kept b (strike c g) = struck-length b c g
 length-kept b (countIn low high) = ap length (count-unchanged b low high)
-length-kept b (terminalEnter g) = terminal-entered-length b g
+length-kept b (terminalEnter c g) = terminal-entered-length b c g
 
 pub demand1 : (i : Implementation) → Meets i → Demand1 i
 unfolding registerCalls
@@ -100,7 +93,6 @@ demand1 i h = meets-has Demand1 i h (record {
   refuses = call-refused;
   open-accepts = open-asked;
   accepts = accepted-asked;
-  held-unchanged = held-kept;
   count-unchanged = count-kept;
   open-length = opened-length;
   same-length = length-kept;

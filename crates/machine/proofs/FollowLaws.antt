@@ -10,16 +10,16 @@ use mathlib.Core.Path.{_≡_, sym, ap, subst, _∙_}
 use mathlib.Core.List.{List, [], _∷_}
 use Prim.Native.Nat.{ℕ}
 use lib.ListN.{replicate, length-replicate}
-use Rattle.layout.specs.Layout.{Shape, layoutLength, InLimits}
+use Rattle.layout.specs.Layout.{Shape, gridsOf, layoutLength, InLimits}
 use Rattle.machine.specs.Calls.{Outcome}
 use Rattle.machine.specs.CallLists.{Call, Implementation, called, run}
 use Rattle.machine.specs.Machine.{shown, step, outcome, outcomes}
 use Rattle.machine.specs.Demand3.{live, ListsLive, AfterOpen, Demand3}
-use Rattle.machine.proofs.SortedLaws.{Grids}
+use Rattle.machine.proofs.SortedLaws.{Entries}
 use Rattle.machine.proofs.MachineLaws.{empty-good, afterwards, afterwards-good}
 use Rattle.machine.proofs.LiveLaws.{live-machine, lists-held}
 
-abbrev pub Follows : Implementation → Shape → Grids → Type 0
+abbrev pub Follows : Implementation → Shape → Entries → Type 0
 Follows i s l = (calls : List Call) → run i (shown s l) calls ≡ outcomes s l calls
 
 module _ (i : Implementation) (d : Demand3 i) (s : Shape) (h : InLimits s) where
@@ -31,11 +31,11 @@ module _ (i : Implementation) (d : Demand3 i) (s : Shape) (h : InLimits s) where
   pub follows-open : Follows i s []
   follows-open calls = after-open calls .answers
 
-  pub lists-after : (calls : List Call) → ListsLive (s .rows) (s .columns) (live i s (shown s []) calls) (afterwards s [] calls)
+  pub lists-after : (calls : List Call) → ListsLive (s .rows) (s .columns) (live i s (shown s []) calls) (gridsOf (afterwards s [] calls))
   lists-after calls =
-      lists-held s (afterwards s [] calls) (afterwards-good s calls [] (empty-good s h)) (live i s (shown s []) calls) (live-machine i s (shown s []) calls (follows-open calls))
+      lists-held s (afterwards s [] calls) (afterwards-good s calls [] (empty-good s h)) (live i s (shown s []) calls) (λ a z. live-machine i s (shown s []) calls (follows-open calls) (empty-good s h) a z)
 
-module _ (i : Implementation) (s : Shape) (l : Grids) (f : Follows i s l) (c : Call) where
+module _ (i : Implementation) (s : Shape) (l : Entries) (f : Follows i s l) (c : Call) where
   pub follows-call : called i (shown s l) c ≡ outcome s (step s l c)
   unfolding run outcomes
   follows-call = let e = f (c ∷ []) in cc

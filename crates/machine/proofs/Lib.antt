@@ -1,6 +1,7 @@
 pub mod AskedLaws
 pub mod RefusalLaws
 pub mod SortedLaws
+pub mod HoldingLaws
 pub mod PlaceLaws
 pub mod ValidLaws
 pub mod LeastSteps
@@ -19,3 +20,4 @@ pub mod Demand3Laws
 pub mod LiveLists
 pub mod FollowLaws
 pub mod BothCountsLaws
+pub mod HeldLaws

@@ -1,13 +1,15 @@
 -- The place of a grid among grids, by index, and the steps of a binary search for it.
 --
---   place-lower, insert-lower  ==  the place of r, and where it is put in
+--   place-lower       ==  the place of r
 --   holds-lower, holds-not-end, holds-not-there  ==  r stands in l if it stands at p, and only then
---   without-lower     ==  taking r out of an ascending list takes out the grid at p
+--   kept-new, kept-there, kept-gone  ==  an ascending list with other holdings for r: r is new and put in at p; it stands at p; it stands there and all are 0
+--   asc-once          ==  in an ascending list no grid stands twice
+--   there-held        ==  the holdings of the grid at p are those of the entry at p
 --   asc-at            ==  grids of an ascending list are in order by their indices
 --   between-start, between-low, between-high, between-lower  ==  a binary search: its start, its two steps, its end
 use mathlib.Core.Path.{_≡_, refl, sym, ap, _∙_}
 use mathlib.Core.List.{List, [], _∷_, _++_, List·Memᴰ, List·Memᴰ·head, List·Memᴰ·tail, Memᴰ·cast}
-use mathlib.Core.Bool.{Bool, true, false, not}
+use mathlib.Core.Bool.{true, false, true≢false}
 use Prim.Native.Nat.{ℕ, zero, suc, _+_, _≤_, _<_}
 use native.Mathlib.Nat.{not-suc-le-zero}
 use native.Mathlib.Decide.{decLt}
@@ -15,14 +17,17 @@ use native.Mathlib.Omega.{arith}
 use lib.ListN.{length, getD, take, drop}
 use Rattle.permutations.specs.Lists.{select}
 use Rattle.permutations.proofs.BoolLaws.{refuted}
-use Rattle.permutations.proofs.ListLaws.{mem-at, of-mem}
+use Rattle.permutations.proofs.ListLaws.{mem-at, of-mem, at-map}
 use Rattle.permutations.proofs.SelectLaws.{select-yes, select-no}
 use Rattle.grids.specs.Order.{_≼_, _≺_, less, equal}
 use Rattle.grids.proofs.OrderLaws.{≼-refl, ≼-trans, ≺-≼, ≺-trans, less-decides, equal-eq, eq-equal}
-use Rattle.layout.specs.Layout.{Ascends}
-use Rattle.machine.specs.Calls.{holds, placeIn, insert, without}
+use Rattle.layout.specs.Layout.{Entry, gridsOf, someHeld, Ascends}
+use Rattle.layout.specs.Lines.{noEntry}
+use Rattle.machine.specs.Calls.{holds, placeIn, holdingsIn, insert, without, kept}
+use Rattle.machine.specs.Demand3.{Once}
 use Rattle.machine.specs.Places.{Lower, Between}
-use Rattle.machine.proofs.SortedLaws.{Grids, holds-in, in-holds, insert-front, insert-later}
+use Rattle.machine.proofs.SortedLaws.{Entries, Grids, holds-in, in-holds, grid-in, insert-front, insert-later}
+use Rattle.machine.proofs.HoldingLaws.{held-member, differs}
 
 -- without the first grid, which comes before r
 later : {x : List ℕ} {l : Grids} {r : List ℕ} {p : ℕ} → Lower (x ∷ l) r (suc p) → Lower l r p
@@ -48,15 +53,12 @@ pub place-lower : {l : Grids} {r : List ℕ} {p : ℕ} → Lower l r p → place
 unfolding placeIn
 place-lower {l} {r} {p} h = ap suc (count-lower l r p h)
 
-insert-at : (l : Grids) (r : List ℕ) (p : ℕ) → Lower l r p → insert r l ≡ take p l ++ (r ∷ drop p l)
+insert-at : (l : Entries) (e : Entry) (p : ℕ) → Lower (gridsOf l) (e .grid) p → insert e l ≡ take p l ++ (e ∷ drop p l)
 unfolding insert
-insert-at [] r zero h = refl
-insert-at [] r (suc p) h = absurd (not-suc-le-zero (h .within))
-insert-at (x ∷ l) r zero h = insert-front r x l (h .after 0 (omega arith) (omega arith))
-insert-at (x ∷ l) r (suc p) h = insert-later r x l (h .before 0 (omega arith)) ∙ ap (λ (y : Grids). x ∷ y) (insert-at l r p (later h))
-
-pub insert-lower : {l : Grids} {r : List ℕ} {p : ℕ} → Lower l r p → insert r l ≡ take p l ++ (r ∷ drop p l)
-insert-lower {l} {r} {p} h = insert-at l r p h
+insert-at [] e zero h = refl
+insert-at [] e (suc p) h = absurd (not-suc-le-zero (h .within))
+insert-at (x ∷ l) e zero h = insert-front e x l (h .after 0 (omega arith) (omega arith))
+insert-at (x ∷ l) e (suc p) h = insert-later e x l (h .before 0 (omega arith)) ∙ ap (λ (y : Entries). x ∷ y) (insert-at l e p (later h))
 
 -- ---- order by index
 
@@ -89,28 +91,71 @@ holds-not-there {l} {r} {p} a h ne = holds-no r l λ i b e. go i b e (decLt i p)
     go i b e (no k) (yes m) = asc-at l a p i m b (rw e (h .after p (omega arith) (omega arith)))
     go i b e (no k) (no m) = let q : p ≡ i = omega arith in ne (rw q e)
 
--- ---- taking it out
+-- ---- its holdings
 
-select-all : (t : List ℕ → Bool) (l : Grids) → ((x : List ℕ) → List·Memᴰ x l → t x ≡ true) → select t l ≡ l
+pub asc-once : (l : Grids) → Ascends l → Once l
+asc-once [] a = tt
+asc-once (x ∷ l) a = (λ m. a .0 x m (≼-refl x), asc-once l (a .1))
+
+pub there-held : (l : Entries) → Ascends (gridsOf l) → (r : List ℕ) (p : ℕ) → p < length l → getD (gridsOf l) p [] ≡ r → holdingsIn r l ≡ getD l p noEntry .holdings
+there-held l a r p inside e =
+    let g = at-map (λ (x : Entry). x .grid) l p noEntry [] inside in
+    ap (λ (x : List ℕ). holdingsIn x l) (sym e ∙ g) ∙ held-member l (asc-once (gridsOf l) a) (getD l p noEntry) (mem-at l noEntry p inside)
+
+-- ---- other holdings for it
+
+differ : (r : List ℕ) (x : Entry) → (x .grid ≡ r → ⊥) → differs r x ≡ true
+differ r x ne = rw (refuted (equal r (x .grid)) (equal-eq r (x .grid), eq-equal r (x .grid)) (λ e. ne (sym e)))
+
+select-all : (r : List ℕ) (l : Entries) → ((x : Entry) → List·Memᴰ x l → x .grid ≡ r → ⊥) → select (differs r) l ≡ l
 unfolding select
-select-all t [] h = refl
-select-all t (x ∷ l) h = select-yes t x l (h x (List·Memᴰ·head refl)) ∙ ap (λ (y : Grids). x ∷ y) (select-all t l (λ y m. h y (List·Memᴰ·tail m)))
+select-all r [] h = refl
+select-all r (x ∷ l) h = select-yes (differs r) x l (differ r x (h x (List·Memᴰ·head refl))) ∙ ap (λ (y : Entries). x ∷ y) (select-all r l (λ y m. h y (List·Memᴰ·tail m)))
 
-other : (r x : List ℕ) → (x ≡ r → ⊥) → not (equal r x) ≡ true
-other r x ne = rw (refuted (equal r x) (equal-eq r x, eq-equal r x) (λ e. ne (sym e)))
+-- the entries after the first of an ascending list have other grids
+others : (x : Entry) (l : Entries) (r : List ℕ) → Ascends (gridsOf (x ∷ l)) → x .grid ≡ r → select (differs r) l ≡ l
+others x l r a e = select-all r l (λ y m q. a .0 (y .grid) (grid-in l y m) (rw (q, e) (≼-refl r)))
 
-without-at : (l : Grids) (r : List ℕ) (p : ℕ) → Ascends l → Lower l r p → p < length l → getD l p [] ≡ r → select (λ x. not (equal r x)) l ≡ take p l ++ drop (suc p) l
+without-at : (l : Entries) (r : List ℕ) (p : ℕ) → Ascends (gridsOf l) → Lower (gridsOf l) r p → p < length l → getD (gridsOf l) p [] ≡ r → select (differs r) l ≡ take p l ++ drop (suc p) l
 without-at [] r p a h inside e = absurd (not-suc-le-zero inside)
-without-at (x ∷ l) r zero a h inside e =
-    select-no (λ y. not (equal r y)) x l (rw (eq-equal r x (sym e)))
-    ∙ select-all (λ y. not (equal r y)) l (λ y m. other r y (λ q. a .0 y m (rw (q, e) (≼-refl r))))
+without-at (x ∷ l) r zero a h inside e = select-no (differs r) x l (rw (eq-equal r (x .grid) (sym e))) ∙ others x l r a e
 without-at (x ∷ l) r (suc p) a h inside e =
-    select-yes (λ y. not (equal r y)) x l (other r x (not-before x r (h .before 0 (omega arith))))
-    ∙ ap (λ (y : Grids). x ∷ y) (without-at l r p (a .1) (later h) (omega arith) e)
+    select-yes (differs r) x l (differ r x (not-before (x .grid) r (h .before 0 (omega arith))))
+    ∙ ap (λ (y : Entries). x ∷ y) (without-at l r p (a .1) (later h) (omega arith) e)
 
-pub without-lower : {l : Grids} {r : List ℕ} {p : ℕ} → Ascends l → Lower l r p → p < length l → getD l p [] ≡ r → without r l ≡ take p l ++ drop (suc p) l
-unfolding without
-without-lower {l} {r} {p} a h inside e = without-at l r p a h inside e
+-- an entry before all of a list
+insert-first : (l : Entries) (x : Entry) → ((y : List ℕ) → List·Memᴰ y (gridsOf l) → x .grid ≺ y) → insert x l ≡ x ∷ l
+unfolding insert
+insert-first [] x h = refl
+insert-first (y ∷ l) x h = insert-front x y l (≺-≼ (x .grid) (y .grid) (h (y .grid) (List·Memᴰ·head refl)))
+
+replaced-at : (l : Entries) (x : Entry) (p : ℕ) → Ascends (gridsOf l) → Lower (gridsOf l) (x .grid) p → p < length l → getD (gridsOf l) p [] ≡ x .grid →
+    insert x (select (differs (x .grid)) l) ≡ take p l ++ (x ∷ drop (suc p) l)
+replaced-at [] x p a h inside e = absurd (not-suc-le-zero inside)
+replaced-at (y ∷ l) x zero a h inside e =
+    ap (insert x) (select-no (differs (x .grid)) y l (rw (eq-equal (x .grid) (y .grid) (sym e))) ∙ others y l (x .grid) a e)
+    ∙ insert-first l x (λ z m. rw e at (a .0 z m))
+replaced-at (y ∷ l) x (suc p) a h inside e =
+    ap (insert x) (select-yes (differs (x .grid)) y l (differ (x .grid) y (not-before (y .grid) (x .grid) (h .before 0 (omega arith)))))
+    ∙ insert-later x y (select (differs (x .grid)) l) (h .before 0 (omega arith))
+    ∙ ap (λ (z : Entries). y ∷ z) (replaced-at l x p (a .1) (later h) (omega arith) e)
+
+module _ (l : Entries) (r h : List ℕ) (p : ℕ) (w : Lower (gridsOf l) r p) where
+  pub kept-new : holds r (gridsOf l) ≡ false → someHeld h ≡ true → kept r h l ≡ take p l ++ (record { grid = r; holdings = h } ∷ drop p l)
+  unfolding kept without
+  kept-new new t =
+      rw (t, kept)
+      (ap (insert (record { grid = r; holdings = h })) (select-all r l (λ x m e. true≢false (sym (in-holds r (gridsOf l) (Memᴰ·cast (sym e) (grid-in l x m))) ∙ new)))
+      ∙ insert-at l (record { grid = r; holdings = h }) p w)
+
+  module _ (a : Ascends (gridsOf l)) (inside : p < length l) (e : getD (gridsOf l) p [] ≡ r) where
+    pub kept-there : someHeld h ≡ true → kept r h l ≡ take p l ++ (record { grid = r; holdings = h } ∷ drop (suc p) l)
+    unfolding kept without
+    kept-there t = rw (t, kept) (replaced-at l (record { grid = r; holdings = h }) p a w inside e)
+
+    pub kept-gone : someHeld h ≡ false → kept r h l ≡ take p l ++ drop (suc p) l
+    unfolding kept without
+    kept-gone t = rw (t, kept) (without-at l r p a w inside e)
 
 -- ---- a binary search
 

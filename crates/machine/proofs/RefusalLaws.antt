@@ -1,21 +1,20 @@
--- Where a question of a call gets a no, the call answers its number with place or count 0, and changes no byte; nor do 101 and any count.
+-- Where a question of a call gets a no, the call answers its number with place or count 0, and changes no byte; nor does any count.
 --
 --   answered-refused  ==  the refusal of a first no
 --   opened-refused, entered-refused, struck-refused, counted-refused  ==  where a question of the call gets a no
 --   Refusal k, refused-number  ==  k is 0 or not accepted; so is the first no where it is each question's number
---   answered-held, held-unchanged  ==  an enter that answers 101 changes nothing
 --   count-unchanged  ==  a count changes nothing
 --   count-numbers    ==  its number is at most 8: never 102, whatever the bytes are
 use mathlib.Core.Path.{_≡_, refl}
 use mathlib.Core.List.{List}
-use mathlib.Core.Bool.{Bool, true, false}
+use mathlib.Core.Bool.{false}
 use Prim.Native.Nat.{ℕ, zero, suc, _≤_}
 use native.Mathlib.Omega.{arith}
 use Rattle.grids.specs.Questions.{Question, firstNo, question6, question7}
 use Rattle.grids.proofs.QuestionLaws.{EachNumber, firstNo-has}
 use Rattle.bounds.specs.Prune.{boundsQuestions, question8}
-use Rattle.layout.specs.Layout.{Shape, Register, decode}
-use Rattle.machine.specs.Calls.{Outcome, refusal, answered, question5, holds, leastIn, openQuestions, enterQuestions, strikeQuestions, countQuestions, enterInto, enterRegister, strikeRegister, entriesIn, countRegister, opened, entered, struck, counted}
+use Rattle.layout.specs.Layout.{Shape, decode}
+use Rattle.machine.specs.Calls.{Outcome, refusal, answered, question5, leastIn, openQuestions, enterQuestions, strikeQuestions, countQuestions, enterRegister, strikeRegister, entriesIn, countRegister, opened, entered, struck, counted}
 use Rattle.machine.specs.CallLists.{accepted}
 
 abbrev pub Refusal : ℕ → Type 0
@@ -33,13 +32,13 @@ pub opened-refused : (s : Shape) (b : List ℕ) (k : ℕ) → firstNo (openQuest
 unfolding opened
 opened-refused s b k e = answered-refused _ k b _ e
 
-pub entered-refused : (b g : List ℕ) (k : ℕ) → firstNo (enterQuestions b (decode b) g (leastIn (decode b .shape) g)) ≡ suc k → entered b g ≡ refusal (suc k) b
+pub entered-refused : (b : List ℕ) (c : ℕ) (g : List ℕ) (k : ℕ) → firstNo (enterQuestions b (decode b) c g (leastIn (decode b .shape) g)) ≡ suc k → entered b c g ≡ refusal (suc k) b
 unfolding entered enterRegister
-entered-refused b g k e = answered-refused _ k b _ e
+entered-refused b c g k e = answered-refused _ k b _ e
 
-pub struck-refused : (b g : List ℕ) (k : ℕ) → firstNo (strikeQuestions b (decode b) g (leastIn (decode b .shape) g)) ≡ suc k → struck b g ≡ refusal (suc k) b
+pub struck-refused : (b : List ℕ) (c : ℕ) (g : List ℕ) (k : ℕ) → firstNo (strikeQuestions b (decode b) c g (leastIn (decode b .shape) g)) ≡ suc k → struck b c g ≡ refusal (suc k) b
 unfolding struck strikeRegister
-struck-refused b g k e = answered-refused _ k b _ e
+struck-refused b c g k e = answered-refused _ k b _ e
 
 pub counted-refused : (b low high : List ℕ) (k : ℕ) → firstNo (countQuestions b (decode b) low high) ≡ suc k → counted b low high ≡ refusal (suc k) b
 unfolding counted countRegister
@@ -62,20 +61,3 @@ count-numbers b low high = go (firstNo (countQuestions b (decode b) low high)) (
 pub count-unchanged : (b low high : List ℕ) → counted b low high .bytes ≡ b
 unfolding counted countRegister
 count-unchanged b low high = answered-bytes _ b _ refl
-
-into-bytes : (b : List ℕ) (x : Register) (r : List ℕ) → enterInto b x r .number ≡ 101 → enterInto b x r .bytes ≡ b
-unfolding enterInto
-into-bytes b x r = go (holds r (x .entries)) refl
-  where
-    go : (h : Bool) → holds r (x .entries) ≡ h → enterInto b x r .number ≡ 101 → enterInto b x r .bytes ≡ b
-    go true h = rw (h, enterInto) (λ e. refl)
-    go false h = rw (h, enterInto) (λ e. absurd (omega arith))
-
-pub answered-held : (k : ℕ) (b : List ℕ) (o : Outcome) → (o .number ≡ 101 → o .bytes ≡ b) → answered k b o .number ≡ 101 → answered k b o .bytes ≡ b
-unfolding answered
-answered-held zero b o h e = h e
-answered-held (suc k) b o h e = refl
-
-pub held-unchanged : (b g : List ℕ) → entered b g .number ≡ 101 → entered b g .bytes ≡ b
-unfolding entered enterRegister
-held-unchanged b g e = answered-held _ b _ (into-bytes b (decode b) (leastIn (decode b .shape) g)) e

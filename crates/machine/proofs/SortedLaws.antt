@@ -1,32 +1,37 @@
--- Sets of grids as lists: membership, ascending lists, insertion, sorting.
+-- Sets of entries as lists: membership by grid, ascending lists, insertion, sorting.
 --
---   Grids                             ==  lists of grids
+--   Entries, Grids                    ==  lists of entries, of grids
 --   holds-in, in-holds                ==  the test of membership decides it
---   insert-front, insert-later        ==  an insertion before the first grid, and one after it
+--   grid-in, of-grids                 ==  an entry's grid is among the grids, and each of these is an entry's
+--   insert-front, insert-later        ==  an insertion before the first entry, and one after it
 --   of-insert, length-insert          ==  what is in a list after an insertion, and its length
---   insert-asc                        ==  a new grid inserted into an ascending list leaves it ascending
---   of-sorted, in-sorted, sorted-asc  ==  a sorted list has the same members, and ascends if none stands twice
+--   insert-asc                        ==  an entry with a new grid inserted into an ascending list leaves it ascending
+--   of-sorted, in-sorted, sorted-asc  ==  a sorted list has the same members, and ascends if no grid stands twice
+--   same-entry                        ==  two entries of an ascending list with one grid are one
 --   asc-ext                           ==  ascending lists with the same members are equal
 --   select-asc, select-once, sorted-select  ==  selecting keeps a list ascending and free of repeats, and commutes with sorting
 --   held-line, new-line               ==  a place is the entry's line, the first being 1: of a held grid, and of one that is inserted
 --   length-sorted, count-sorted, holds-sorted  ==  sorting changes no length, no count and no membership
 use mathlib.Core.Path.{_≡_, refl, sym, ap, ap₂, _∙_}
-use mathlib.Core.List.{List, [], _∷_, List·Memᴰ, List·Memᴰ·head, List·Memᴰ·tail, List·Memᴰ·not-nil, List·Memᴰ·cases-cons, Memᴰ·cast}
+use mathlib.Core.List.{List, [], _∷_, List·Memᴰ, List·Memᴰ·head, List·Memᴰ·tail, List·Memᴰ·not-nil, List·Memᴰ·cases-cons, Memᴰ·cast, Memᴰ·map, Memᴰ·of-map}
 use mathlib.Core.Bool.{Bool, true, false}
 use mathlib.Core.Logic.{_⊎_, inl, inr}
 use Prim.Native.Nat.{ℕ, suc, _-_}
 use native.Mathlib.Omega.{arith}
-use lib.ListN.{length, getD}
+use lib.ListN.{length, getD, length-map}
 use Rattle.permutations.specs.Lists.{select}
 use Rattle.permutations.proofs.BoolLaws.{yes-or-no, bool-ext, refuted}
 use Rattle.permutations.proofs.ListLaws.{some-at, at-some}
 use Rattle.permutations.proofs.SelectLaws.{in-select, of-select, select-yes, select-no, select-none}
 use Rattle.grids.specs.Order.{_≼_, _≺_, leq, less, equal}
 use Rattle.grids.proofs.OrderLaws.{≼-refl, ≼-antisymm, ≼-dec, ≼-leq, leq-yes, ≺-≼, ≺-trans, ≼-≺, less-decides, equal-eq, eq-equal}
-use Rattle.layout.specs.Layout.{Ascends}
+use Rattle.layout.specs.Layout.{Entry, gridsOf, Ascends}
 use Rattle.machine.specs.Calls.{holds, placeIn, insert}
 use Rattle.machine.specs.Machine.{sorted}
 use Rattle.machine.specs.Demand3.{Once}
+
+abbrev pub Entries : Type 0
+Entries = List Entry
 
 abbrev pub Grids : Type 0
 Grids = List (List ℕ)
@@ -39,24 +44,30 @@ pub in-holds : (r : List ℕ) (l : Grids) → List·Memᴰ r l → holds r l ≡
 unfolding holds
 in-holds r l m = at-some (equal r) l r m (eq-equal r r refl)
 
+pub grid-in : (l : Entries) (e : Entry) → List·Memᴰ e l → List·Memᴰ (e .grid) (gridsOf l)
+grid-in l e m = Memᴰ·map (λ (x : Entry). x .grid) m
+
+pub of-grids : (l : Entries) (r : List ℕ) → List·Memᴰ r (gridsOf l) → (e : Entry) × List·Memᴰ e l × (e .grid ≡ r)
+of-grids l r m = Memᴰ·of-map (λ (x : Entry). x .grid) l m
+
 -- ---- insertion
 
-pub insert-front : (r x : List ℕ) (l : Grids) → r ≼ x → insert r (x ∷ l) ≡ r ∷ x ∷ l
+pub insert-front : (r x : Entry) (l : Entries) → r .grid ≼ x .grid → insert r (x ∷ l) ≡ r ∷ x ∷ l
 unfolding insert
-insert-front r x l h = rw (≼-leq r x h, insert)
+insert-front r x l h = rw (≼-leq (r .grid) (x .grid) h, insert)
 
-pub insert-later : (r x : List ℕ) (l : Grids) → (r ≼ x → ⊥) → insert r (x ∷ l) ≡ x ∷ insert r l
+pub insert-later : (r x : Entry) (l : Entries) → (r .grid ≼ x .grid → ⊥) → insert r (x ∷ l) ≡ x ∷ insert r l
 unfolding insert
-insert-later r x l h = go (yes-or-no (leq r x))
+insert-later r x l h = go (yes-or-no (leq (r .grid) (x .grid)))
   where
-    go : (leq r x ≡ true) ⊎ (leq r x ≡ false) → insert r (x ∷ l) ≡ x ∷ insert r l
-    go (inl e) = absurd (h (leq-yes r x e))
+    go : (leq (r .grid) (x .grid) ≡ true) ⊎ (leq (r .grid) (x .grid) ≡ false) → insert r (x ∷ l) ≡ x ∷ insert r l
+    go (inl e) = absurd (h (leq-yes (r .grid) (x .grid) e))
     go (inr e) = rw (e, insert)
 
-pub of-insert : (r : List ℕ) (l : Grids) (y : List ℕ) → List·Memᴰ y (insert r l) → (y ≡ r) ⊎ List·Memᴰ y l
+pub of-insert : (r : Entry) (l : Entries) (y : Entry) → List·Memᴰ y (insert r l) → (y ≡ r) ⊎ List·Memᴰ y l
 unfolding insert
 of-insert r [] y h = List·Memᴰ·cases-cons h
-of-insert r (x ∷ l) y h = go (of-insert r l y) (≼-dec r x)
+of-insert r (x ∷ l) y h = go (of-insert r l y) (≼-dec (r .grid) (x .grid))
   where
     lift : (y ≡ r) ⊎ List·Memᴰ y l → (y ≡ r) ⊎ List·Memᴰ y (x ∷ l)
     lift (inl e) = inl e
@@ -66,15 +77,15 @@ of-insert r (x ∷ l) y h = go (of-insert r l y) (≼-dec r x)
     later ih (inl e) = inr (List·Memᴰ·head e)
     later ih (inr k) = lift (ih k)
 
-    go : (List·Memᴰ y (insert r l) → (y ≡ r) ⊎ List·Memᴰ y l) → Dec (r ≼ x) → (y ≡ r) ⊎ List·Memᴰ y (x ∷ l)
+    go : (List·Memᴰ y (insert r l) → (y ≡ r) ⊎ List·Memᴰ y l) → Dec (r .grid ≼ x .grid) → (y ≡ r) ⊎ List·Memᴰ y (x ∷ l)
     go ih (yes p) = List·Memᴰ·cases-cons (rw (insert-front r x l p) at h)
     go ih (no p) = later ih (List·Memᴰ·cases-cons (rw (insert-later r x l p) at h))
 
-in-insert : (r : List ℕ) (l : Grids) (y : List ℕ) → (y ≡ r) ⊎ List·Memᴰ y l → List·Memᴰ y (insert r l)
+in-insert : (r : Entry) (l : Entries) (y : Entry) → (y ≡ r) ⊎ List·Memᴰ y l → List·Memᴰ y (insert r l)
 unfolding insert
 in-insert r [] y (inl e) = List·Memᴰ·head e
 in-insert r [] y (inr m) = absurd (List·Memᴰ·not-nil m)
-in-insert r (x ∷ l) y k = go (in-insert r l y) (≼-dec r x) k
+in-insert r (x ∷ l) y k = go (in-insert r l y) (≼-dec (r .grid) (x .grid)) k
   where
     cons : (y ≡ r) ⊎ List·Memᴰ y (x ∷ l) → List·Memᴰ y (r ∷ x ∷ l)
     cons (inl e) = List·Memᴰ·head e
@@ -88,39 +99,47 @@ in-insert r (x ∷ l) y k = go (in-insert r l y) (≼-dec r x) k
     later ih (inl e) = List·Memᴰ·tail (ih (inl e))
     later ih (inr m) = split (List·Memᴰ·cases-cons m) ih
 
-    go : ((y ≡ r) ⊎ List·Memᴰ y l → List·Memᴰ y (insert r l)) → Dec (r ≼ x) → (y ≡ r) ⊎ List·Memᴰ y (x ∷ l) → List·Memᴰ y (insert r (x ∷ l))
+    go : ((y ≡ r) ⊎ List·Memᴰ y l → List·Memᴰ y (insert r l)) → Dec (r .grid ≼ x .grid) → (y ≡ r) ⊎ List·Memᴰ y (x ∷ l) → List·Memᴰ y (insert r (x ∷ l))
     go ih (yes p) k = rw (insert-front r x l p) (cons k)
     go ih (no p) k = rw (insert-later r x l p) (later ih k)
 
-pub insert-asc : (r : List ℕ) (l : Grids) → Ascends l → (List·Memᴰ r l → ⊥) → Ascends (insert r l)
+-- the grids after an insertion
+of-insert-grids : (r : Entry) (l : Entries) (y : List ℕ) → List·Memᴰ y (gridsOf (insert r l)) → (y ≡ r .grid) ⊎ List·Memᴰ y (gridsOf l)
+of-insert-grids r l y m = let p = of-grids (insert r l) y m in go (p .0) (p .2) (of-insert r l (p .0) (p .1))
+  where
+    go : (e : Entry) → e .grid ≡ y → (e ≡ r) ⊎ List·Memᴰ e l → (y ≡ r .grid) ⊎ List·Memᴰ y (gridsOf l)
+    go e d (inl q) = inl (sym d ∙ ap (λ (x : Entry). x .grid) q)
+    go e d (inr k) = inr (Memᴰ·cast (sym d) (grid-in l e k))
+
+pub insert-asc : (r : Entry) (l : Entries) → Ascends (gridsOf l) → (List·Memᴰ (r .grid) (gridsOf l) → ⊥) → Ascends (gridsOf (insert r l))
 unfolding insert
 insert-asc r [] a nr = (λ y k. absurd (List·Memᴰ·not-nil k), tt)
-insert-asc r (x ∷ l) a nr = go (insert-asc r l (a .1) (λ k. nr (List·Memᴰ·tail k))) (≼-dec r x)
+insert-asc r (x ∷ l) a nr = go (insert-asc r l (a .1) (λ k. nr (List·Memᴰ·tail k))) (≼-dec (r .grid) (x .grid))
   where
-    first : r ≺ x → (y : List ℕ) → (y ≡ x) ⊎ List·Memᴰ y l → r ≺ y
+    first : r .grid ≺ x .grid → (y : List ℕ) → (y ≡ x .grid) ⊎ List·Memᴰ y (gridsOf l) → r .grid ≺ y
     first p y (inl e) = rw e p
-    first p y (inr k) = ≺-trans r x y p (a .0 y k)
+    first p y (inr k) = ≺-trans (r .grid) (x .grid) y p (a .0 y k)
 
-    rest : x ≺ r → (y : List ℕ) → (y ≡ r) ⊎ List·Memᴰ y l → x ≺ y
+    rest : x .grid ≺ r .grid → (y : List ℕ) → (y ≡ r .grid) ⊎ List·Memᴰ y (gridsOf l) → x .grid ≺ y
     rest p y (inl e) = rw e p
     rest p y (inr k) = a .0 y k
 
-    go : Ascends (insert r l) → Dec (r ≼ x) → Ascends (insert r (x ∷ l))
-    go ih (yes p) = rw (insert-front r x l p) (λ y k. first (≼-≺ r x p (λ e. nr (List·Memᴰ·head e))) y (List·Memᴰ·cases-cons k), a)
-    go ih (no p) = rw (insert-later r x l p) (λ y k. rest p y (of-insert r l y k), ih)
+    go : Ascends (gridsOf (insert r l)) → Dec (r .grid ≼ x .grid) → Ascends (gridsOf (insert r (x ∷ l)))
+    go ih (yes p) = rw (insert-front r x l p) (λ y k. first (≼-≺ (r .grid) (x .grid) p (λ e. nr (List·Memᴰ·head e))) y (List·Memᴰ·cases-cons k), a)
+    go ih (no p) = rw (insert-later r x l p) (λ y k. rest p y (of-insert-grids r l y k), ih)
 
-pub length-insert : (r : List ℕ) (l : Grids) → length (insert r l) ≡ suc (length l)
+pub length-insert : (r : Entry) (l : Entries) → length (insert r l) ≡ suc (length l)
 unfolding insert
 length-insert r [] = refl
-length-insert r (x ∷ l) = go (length-insert r l) (≼-dec r x)
+length-insert r (x ∷ l) = go (length-insert r l) (≼-dec (r .grid) (x .grid))
   where
-    go : length (insert r l) ≡ suc (length l) → Dec (r ≼ x) → length (insert r (x ∷ l)) ≡ suc (suc (length l))
+    go : length (insert r l) ≡ suc (length l) → Dec (r .grid ≼ x .grid) → length (insert r (x ∷ l)) ≡ suc (suc (length l))
     go ih (yes p) = rw (insert-front r x l p)
     go ih (no p) = rw (insert-later r x l p) (ap suc ih)
 
 -- ---- sorting
 
-pub of-sorted : (l : Grids) (y : List ℕ) → List·Memᴰ y (sorted l) → List·Memᴰ y l
+pub of-sorted : (l : Entries) (y : Entry) → List·Memᴰ y (sorted l) → List·Memᴰ y l
 unfolding sorted
 of-sorted [] y h = h
 of-sorted (x ∷ l) y h = go (of-sorted l y) (of-insert x (sorted l) y h)
@@ -129,7 +148,7 @@ of-sorted (x ∷ l) y h = go (of-sorted l y) (of-insert x (sorted l) y h)
     go ih (inl e) = List·Memᴰ·head e
     go ih (inr k) = List·Memᴰ·tail (ih k)
 
-pub in-sorted : (l : Grids) (y : List ℕ) → List·Memᴰ y l → List·Memᴰ y (sorted l)
+pub in-sorted : (l : Entries) (y : Entry) → List·Memᴰ y l → List·Memᴰ y (sorted l)
 unfolding sorted
 in-sorted [] y h = h
 in-sorted (x ∷ l) y h = go (in-sorted l y) (List·Memᴰ·cases-cons h)
@@ -138,12 +157,19 @@ in-sorted (x ∷ l) y h = go (in-sorted l y) (List·Memᴰ·cases-cons h)
     go ih (inl e) = in-insert x (sorted l) y (inl e)
     go ih (inr k) = in-insert x (sorted l) y (inr (ih k))
 
-pub sorted-asc : (l : Grids) → Once l → Ascends (sorted l)
+-- the same of the grids
+of-sorted-grids : (l : Entries) (r : List ℕ) → List·Memᴰ r (gridsOf (sorted l)) → List·Memᴰ r (gridsOf l)
+of-sorted-grids l r m = let p = of-grids (sorted l) r m in Memᴰ·cast (sym (p .2)) (grid-in l (p .0) (of-sorted l (p .0) (p .1)))
+
+in-sorted-grids : (l : Entries) (r : List ℕ) → List·Memᴰ r (gridsOf l) → List·Memᴰ r (gridsOf (sorted l))
+in-sorted-grids l r m = let p = of-grids l r m in Memᴰ·cast (sym (p .2)) (grid-in (sorted l) (p .0) (in-sorted l (p .0) (p .1)))
+
+pub sorted-asc : (l : Entries) → Once (gridsOf l) → Ascends (gridsOf (sorted l))
 unfolding sorted
 sorted-asc [] h = tt
-sorted-asc (x ∷ l) h = insert-asc x (sorted l) (sorted-asc l (h .1)) (λ k. h .0 (of-sorted l x k))
+sorted-asc (x ∷ l) h = insert-asc x (sorted l) (sorted-asc l (h .1)) (λ k. h .0 (of-sorted-grids l (x .grid) k))
 
-pub length-sorted : (l : Grids) → length (sorted l) ≡ length l
+pub length-sorted : (l : Entries) → length (sorted l) ≡ length l
 unfolding sorted
 length-sorted [] = refl
 length-sorted (x ∷ l) = length-insert x (sorted l) ∙ ap suc (length-sorted l)
@@ -153,63 +179,96 @@ first-no-later : (u : List ℕ) (l : Grids) → ((z : List ℕ) → List·Memᴰ
 first-no-later u l h z (inl e) = rw e (≼-refl u)
 first-no-later u l h z (inr k) = ≺-≼ u z (h z k)
 
--- a later member of the one list is no first of the other
-no-first : (u v : List ℕ) (l m : Grids) → u ≡ v → ((z : List ℕ) → List·Memᴰ z l → u ≺ z) → (z : List ℕ) → List·Memᴰ z l → (z ≡ v) ⊎ List·Memᴰ z m → List·Memᴰ z m
-no-first u v l m e h z k (inl d) = absurd (h z k (rw (d, e) (≼-refl v)))
-no-first u v l m e h z k (inr n) = n
+-- none of a list stands before all of it
+no-first : (u : Entry) (l : Entries) → ((z : List ℕ) → List·Memᴰ z (gridsOf l) → u .grid ≺ z) → (z : Entry) → List·Memᴰ z l → u .grid ≡ z .grid → ⊥
+no-first u l h z k e = h (z .grid) (grid-in l z k) (rw e (≼-refl (z .grid)))
 
-pub asc-ext : (a b : Grids) → Ascends a → Ascends b → ((y : List ℕ) → List·Memᴰ y a → List·Memᴰ y b) → ((y : List ℕ) → List·Memᴰ y b → List·Memᴰ y a) → a ≡ b
+pub same-entry : (l : Entries) → Ascends (gridsOf l) → (x y : Entry) → List·Memᴰ x l → List·Memᴰ y l → x .grid ≡ y .grid → x ≡ y
+same-entry [] a x y j k e = absurd (List·Memᴰ·not-nil j)
+same-entry (z ∷ l) a x y j k e = go (same-entry l (a .1) x y) (List·Memᴰ·cases-cons j) (List·Memᴰ·cases-cons k)
+  where
+    go : (List·Memᴰ x l → List·Memᴰ y l → x .grid ≡ y .grid → x ≡ y) → (x ≡ z) ⊎ List·Memᴰ x l → (y ≡ z) ⊎ List·Memᴰ y l → x ≡ y
+    go ih (inl p) (inl q) = p ∙ sym q
+    go ih (inl p) (inr q) = absurd (no-first z l (a .0) y q (ap (λ (u : Entry). u .grid) (sym p) ∙ e))
+    go ih (inr p) (inl q) = absurd (no-first z l (a .0) x p (ap (λ (u : Entry). u .grid) (sym q) ∙ sym e))
+    go ih (inr p) (inr q) = ih p q e
+
+-- a later member of the one list is no first of the other
+later-too : (u v : Entry) (l m : Entries) → u ≡ v → ((z : List ℕ) → List·Memᴰ z (gridsOf l) → u .grid ≺ z) → (z : Entry) → List·Memᴰ z l → (z ≡ v) ⊎ List·Memᴰ z m → List·Memᴰ z m
+later-too u v l m e h z k (inl d) = absurd (no-first u l h z k (ap (λ (x : Entry). x .grid) (e ∙ sym d)))
+later-too u v l m e h z k (inr n) = n
+
+pub asc-ext : (a b : Entries) → Ascends (gridsOf a) → Ascends (gridsOf b) → ((y : Entry) → List·Memᴰ y a → List·Memᴰ y b) → ((y : Entry) → List·Memᴰ y b → List·Memᴰ y a) → a ≡ b
 asc-ext [] [] p q f g = refl
 asc-ext [] (y ∷ b) p q f g = absurd (List·Memᴰ·not-nil (g y (List·Memᴰ·head refl)))
 asc-ext (x ∷ a) [] p q f g = absurd (List·Memᴰ·not-nil (f x (List·Memᴰ·head refl)))
-asc-ext (x ∷ a) (y ∷ b) p q f g = ap₂ (λ (u : List ℕ) (v : Grids). u ∷ v) same (asc-ext a b (p .1) (q .1) to back)
+asc-ext (x ∷ a) (y ∷ b) p q f g = ap₂ (λ (u : Entry) (v : Entries). u ∷ v) same (asc-ext a b (p .1) (q .1) to back)
   where
+    grids : x .grid ≡ y .grid
+    grids = ≼-antisymm (x .grid) (y .grid)
+        (first-no-later (x .grid) (gridsOf a) (p .0) (y .grid) (List·Memᴰ·cases-cons (grid-in (x ∷ a) y (g y (List·Memᴰ·head refl)))))
+        (first-no-later (y .grid) (gridsOf b) (q .0) (x .grid) (List·Memᴰ·cases-cons (grid-in (y ∷ b) x (f x (List·Memᴰ·head refl)))))
+
     same : x ≡ y
-    same = ≼-antisymm x y
-        (first-no-later x a (p .0) y (List·Memᴰ·cases-cons (g y (List·Memᴰ·head refl))))
-        (first-no-later y b (q .0) x (List·Memᴰ·cases-cons (f x (List·Memᴰ·head refl))))
+    same = same-entry (y ∷ b) q x y (f x (List·Memᴰ·head refl)) (List·Memᴰ·head refl) grids
 
-    to : (z : List ℕ) → List·Memᴰ z a → List·Memᴰ z b
-    to z k = no-first x y a b same (p .0) z k (List·Memᴰ·cases-cons (f z (List·Memᴰ·tail k)))
+    to : (z : Entry) → List·Memᴰ z a → List·Memᴰ z b
+    to z k = later-too x y a b same (p .0) z k (List·Memᴰ·cases-cons (f z (List·Memᴰ·tail k)))
 
-    back : (z : List ℕ) → List·Memᴰ z b → List·Memᴰ z a
-    back z k = no-first y x b a (sym same) (q .0) z k (List·Memᴰ·cases-cons (g z (List·Memᴰ·tail k)))
+    back : (z : Entry) → List·Memᴰ z b → List·Memᴰ z a
+    back z k = later-too y x b a (sym same) (q .0) z k (List·Memᴰ·cases-cons (g z (List·Memᴰ·tail k)))
 
 -- ---- what passes a test
 
--- what holds of every later member holds of those that are selected
-pub select-asc : (t : List ℕ → Bool) (l : Grids) → Ascends l → Ascends (select t l)
+-- the grids of those that are selected
+of-select-grids : (t : Entry → Bool) (l : Entries) (r : List ℕ) → List·Memᴰ r (gridsOf (select t l)) → List·Memᴰ r (gridsOf l)
+of-select-grids t l r m = let p = of-grids (select t l) r m in Memᴰ·cast (sym (p .2)) (grid-in l (p .0) (of-select t (p .0) l (p .1) .0))
+
+pub select-asc : (t : Entry → Bool) (l : Entries) → Ascends (gridsOf l) → Ascends (gridsOf (select t l))
 unfolding select
 select-asc t [] a = tt
 select-asc t (x ∷ l) a = go (select-asc t l (a .1)) (yes-or-no (t x))
   where
-    go : Ascends (select t l) → (t x ≡ true) ⊎ (t x ≡ false) → Ascends (select t (x ∷ l))
-    go ih (inl e) = rw (select-yes t x l e) (λ y k. a .0 y (of-select t y l k .0), ih)
+    go : Ascends (gridsOf (select t l)) → (t x ≡ true) ⊎ (t x ≡ false) → Ascends (gridsOf (select t (x ∷ l)))
+    go ih (inl e) = rw (select-yes t x l e) (λ y k. a .0 y (of-select-grids t l y k), ih)
     go ih (inr e) = rw (select-no t x l e) ih
 
-pub select-once : (t : List ℕ → Bool) (l : Grids) → Once l → Once (select t l)
+pub select-once : (t : Entry → Bool) (l : Entries) → Once (gridsOf l) → Once (gridsOf (select t l))
 unfolding select
 select-once t [] a = tt
 select-once t (x ∷ l) a = go (select-once t l (a .1)) (yes-or-no (t x))
   where
-    go : Once (select t l) → (t x ≡ true) ⊎ (t x ≡ false) → Once (select t (x ∷ l))
-    go ih (inl e) = rw (select-yes t x l e) (λ k. a .0 (of-select t x l k .0), ih)
+    go : Once (gridsOf (select t l)) → (t x ≡ true) ⊎ (t x ≡ false) → Once (gridsOf (select t (x ∷ l)))
+    go ih (inl e) = rw (select-yes t x l e) (λ k. a .0 (of-select-grids t l (x .grid) k), ih)
     go ih (inr e) = rw (select-no t x l e) ih
 
-pub sorted-select : (t : List ℕ → Bool) (l : Grids) → Once l → select t (sorted l) ≡ sorted (select t l)
+pub sorted-select : (t : Entry → Bool) (l : Entries) → Once (gridsOf l) → select t (sorted l) ≡ sorted (select t l)
 sorted-select t l o =
     asc-ext (select t (sorted l)) (sorted (select t l)) (select-asc t (sorted l) (sorted-asc l o)) (sorted-asc (select t l) (select-once t l o))
     (λ y k. let p = of-select t y (sorted l) k in in-sorted (select t l) y (in-select t y l (of-sorted l y (p .0)) (p .1)))
     (λ y k. let p = of-select t y l (of-sorted (select t l) y k) in in-select t y (sorted l) (in-sorted l y (p .0)) (p .1))
 
-pub count-sorted : (t : List ℕ → Bool) (l : Grids) → Once l → length (select t (sorted l)) ≡ length (select t l)
-count-sorted t l o = ap length (sorted-select t l o) ∙ length-sorted (select t l)
+-- a test of the grids
+grids-select : (t : List ℕ → Bool) (l : Entries) → select t (gridsOf l) ≡ gridsOf (select (λ e. t (e .grid)) l)
+unfolding select
+grids-select t [] = refl
+grids-select t (x ∷ l) = go (grids-select t l) (yes-or-no (t (x .grid)))
+  where
+    go : select t (gridsOf l) ≡ gridsOf (select (λ e. t (e .grid)) l) → (t (x .grid) ≡ true) ⊎ (t (x .grid) ≡ false) → select t (gridsOf (x ∷ l)) ≡ gridsOf (select (λ e. t (e .grid)) (x ∷ l))
+    go ih (inl e) = select-yes t (x .grid) (gridsOf l) e ∙ ap (λ (k : Grids). x .grid ∷ k) ih ∙ ap (λ (k : Entries). gridsOf k) (sym (select-yes (λ e. t (e .grid)) x l e))
+    go ih (inr e) = select-no t (x .grid) (gridsOf l) e ∙ ih ∙ ap (λ (k : Entries). gridsOf k) (sym (select-no (λ e. t (e .grid)) x l e))
 
-pub holds-sorted : (r : List ℕ) (l : Grids) → holds r (sorted l) ≡ holds r l
+pub count-sorted : (t : List ℕ → Bool) (l : Entries) → Once (gridsOf l) → length (select t (gridsOf (sorted l))) ≡ length (select t (gridsOf l))
+count-sorted t l o =
+    ap length (grids-select t (sorted l)) ∙ length-map (select (λ e. t (e .grid)) (sorted l)) _
+    ∙ ap length (sorted-select (λ e. t (e .grid)) l o) ∙ length-sorted (select (λ e. t (e .grid)) l)
+    ∙ sym (ap length (grids-select t l) ∙ length-map (select (λ e. t (e .grid)) l) _)
+
+pub holds-sorted : (r : List ℕ) (l : Entries) → holds r (gridsOf (sorted l)) ≡ holds r (gridsOf l)
 holds-sorted r l =
-    bool-ext (holds r (sorted l)) (holds r l)
-    (λ e. in-holds r l (of-sorted l r (holds-in r (sorted l) e)))
-    (λ e. in-holds r (sorted l) (in-sorted l r (holds-in r l e)))
+    bool-ext (holds r (gridsOf (sorted l))) (holds r (gridsOf l))
+    (λ e. in-holds r (gridsOf l) (of-sorted-grids l r (holds-in r (gridsOf (sorted l)) e)))
+    (λ e. in-holds r (gridsOf (sorted l)) (in-sorted-grids l r (holds-in r (gridsOf l) e)))
 
 -- ---- places
 
@@ -226,15 +285,15 @@ stands-at (x ∷ l) a r m = go (stands-at l (a .1) r) (List·Memᴰ·cases-cons 
     go ih (inl e) = rw (e, select-none (λ y. less y x) (x ∷ l) (none-before x l a))
     go ih (inr k) = rw (select-yes (λ y. less y r) x l (less-decides x r .1 (a .0 r k))) (ih k)
 
-select-insert : (t : List ℕ → Bool) (r : List ℕ) (l : Grids) → t r ≡ false → select t (insert r l) ≡ select t l
+select-insert : (t : List ℕ → Bool) (r : Entry) (l : Entries) → t (r .grid) ≡ false → select t (gridsOf (insert r l)) ≡ select t (gridsOf l)
 unfolding insert select
-select-insert t r [] e = select-no t r [] e
-select-insert t r (x ∷ l) e = go (select-insert t r l e) (≼-dec r x) (yes-or-no (t x))
+select-insert t r [] e = select-no t (r .grid) [] e
+select-insert t r (x ∷ l) e = go (select-insert t r l e) (≼-dec (r .grid) (x .grid)) (yes-or-no (t (x .grid)))
   where
-    go : select t (insert r l) ≡ select t l → Dec (r ≼ x) → (t x ≡ true) ⊎ (t x ≡ false) → select t (insert r (x ∷ l)) ≡ select t (x ∷ l)
-    go ih (yes p) d = ap (select t) (insert-front r x l p) ∙ select-no t r (x ∷ l) e
-    go ih (no p) (inl d) = ap (select t) (insert-later r x l p) ∙ select-yes t x (insert r l) d ∙ ap (λ (y : Grids). x ∷ y) ih ∙ sym (select-yes t x l d)
-    go ih (no p) (inr d) = ap (select t) (insert-later r x l p) ∙ select-no t x (insert r l) d ∙ ih ∙ sym (select-no t x l d)
+    go : select t (gridsOf (insert r l)) ≡ select t (gridsOf l) → Dec (r .grid ≼ x .grid) → (t (x .grid) ≡ true) ⊎ (t (x .grid) ≡ false) → select t (gridsOf (insert r (x ∷ l))) ≡ select t (gridsOf (x ∷ l))
+    go ih (yes p) d = ap (λ (k : Entries). select t (gridsOf k)) (insert-front r x l p) ∙ select-no t (r .grid) (gridsOf (x ∷ l)) e
+    go ih (no p) (inl d) = ap (λ (k : Entries). select t (gridsOf k)) (insert-later r x l p) ∙ select-yes t (x .grid) (gridsOf (insert r l)) d ∙ ap (λ (y : Grids). x .grid ∷ y) ih ∙ sym (select-yes t (x .grid) (gridsOf l) d)
+    go ih (no p) (inr d) = ap (λ (k : Entries). select t (gridsOf k)) (insert-later r x l p) ∙ select-no t (x .grid) (gridsOf (insert r l)) d ∙ ih ∙ sym (select-no t (x .grid) (gridsOf l) d)
 
 -- the place of a held grid is its line, the first being 1
 pub held-line : (l : Grids) → Ascends l → (r : List ℕ) → List·Memᴰ r l → getD l (placeIn l r - 1) [] ≡ r
@@ -242,9 +301,10 @@ unfolding placeIn
 held-line l a r m = let e : suc (length (select (λ x. less x r) l)) - 1 ≡ length (select (λ x. less x r) l) = omega arith in rw e (stands-at l a r m)
 
 -- the place of a new grid is its line once it is inserted
-pub new-line : (l : Grids) → Ascends l → (r : List ℕ) → (List·Memᴰ r l → ⊥) → getD (insert r l) (placeIn l r - 1) [] ≡ r
+pub new-line : (l : Entries) → Ascends (gridsOf l) → (r : Entry) → (List·Memᴰ (r .grid) (gridsOf l) → ⊥) → getD (gridsOf (insert r l)) (placeIn (gridsOf l) (r .grid) - 1) [] ≡ r .grid
 unfolding placeIn
 new-line l a r new =
-    let e : suc (length (select (λ x. less x r) l)) - 1 ≡ length (select (λ x. less x r) l) = omega arith in
-    rw (e, ← (select-insert (λ x. less x r) r l (refuted (less r r) (less-decides r r) (λ h. h (≼-refl r)))))
-    (stands-at (insert r l) (insert-asc r l a new) r (in-insert r l r (inl refl)))
+    let g = r .grid in
+    let e : suc (length (select (λ x. less x g) (gridsOf l))) - 1 ≡ length (select (λ x. less x g) (gridsOf l)) = omega arith in
+    rw (e, ← (select-insert (λ x. less x g) r l (refuted (less g g) (less-decides g g) (λ h. h (≼-refl g)))))
+    (stands-at (gridsOf (insert r l)) (insert-asc r l a new) g (grid-in (insert r l) r (in-insert r l r (inl refl))))

@@ -14,24 +14,26 @@ use Rattle.grids.specs.Questions.{firstNo, question6, question7, question14}
 use Rattle.grids.proofs.QuestionLaws.{firstNo-has}
 use Rattle.bounds.specs.Bounds.{inBounds}
 use Rattle.bounds.specs.Prune.{boundsQuestions, question8}
-use Rattle.layout.specs.Layout.{Shape, gridSize}
-use Rattle.machine.specs.Calls.{gridQuestions, leastIn, holds, placeIn}
+use Rattle.layout.specs.Layout.{Shape, mostHeld, gridsOf, gridSize}
+use Rattle.machine.specs.Calls.{gridQuestions, clientQuestions, question15, leastIn, holds, heldBy, placeIn}
 use Rattle.machine.specs.CallLists.{Call, enter, strike, countIn, terminalEnter}
 use Rattle.machine.specs.Machine.{Step, stepUnless, enterClass, strikeClass, countClasses, step}
-use Rattle.machine.proofs.SortedLaws.{Grids}
+use Rattle.machine.proofs.SortedLaws.{Entries}
 
-pub record Answerable (P : ℕ → ℕ → Type 0) (l : Grids) : Type 0 where
+pub record Answerable (P : ℕ → ℕ → Type 0) (l : Entries) : Type 0 where
   pub length-no : P 6 0
   pub cells-no : P 7 0
   pub order-no : P 8 0
   pub full : P 9 0
   pub not-held : P 10 0
   pub rows-no : P 14 0
-  pub done : (r : List ℕ) → P 0 (placeIn l r)
-  pub held : (r : List ℕ) → P 101 (placeIn l r)
-  pub counted : (t : List ℕ → Bool) → P 0 (length (select t l))
+  pub client-no : P 15 0
+  pub most : P 16 0
+  pub done : (r : List ℕ) → P 0 (placeIn (gridsOf l) r)
+  pub held : (r : List ℕ) → P 101 (placeIn (gridsOf l) r)
+  pub counted : (t : List ℕ → Bool) → P 0 (length (select t (gridsOf l)))
 
-module _ (P : ℕ → ℕ → Type 0) (s : Shape) (l : Grids) (a : Answerable P l) where
+module _ (P : ℕ → ℕ → Type 0) (s : Shape) (l : Entries) (a : Answerable P l) where
   abbrev Has : Step → Type 0
   Has t = P (t .number) (t .place)
 
@@ -44,33 +46,35 @@ module _ (P : ℕ → ℕ → Type 0) (s : Shape) (l : Grids) (a : Answerable P 
   abbrev Refuses : ℕ → Type 0
   Refuses k = (k ≡ 0 → ⊥) → P k 0
 
-  grid-refuses : (g : List ℕ) → Refuses (firstNo (gridQuestions s g))
-  unfolding gridQuestions question6 question7
-  grid-refuses g = firstNo-has Refuses (gridQuestions s g) (λ n. absurd (n refl)) (λ n. a .length-no, (λ n. a .cells-no, tt))
+  client-refuses : (c : ℕ) (g : List ℕ) → Refuses (firstNo (clientQuestions s c g))
+  unfolding clientQuestions gridQuestions question6 question7 question15
+  client-refuses c g = firstNo-has Refuses (clientQuestions s c g) (λ n. absurd (n refl)) (λ n. a .length-no, (λ n. a .cells-no, (λ n. a .client-no, tt)))
 
-  terminal-refuses : (g : List ℕ) → Refuses (firstNo (question14 (s .rows) ∷ gridQuestions s g))
-  unfolding gridQuestions question6 question7 question14
-  terminal-refuses g = firstNo-has Refuses (question14 (s .rows) ∷ gridQuestions s g) (λ n. absurd (n refl)) (λ n. a .rows-no, (λ n. a .length-no, (λ n. a .cells-no, tt)))
+  terminal-refuses : (c : ℕ) (g : List ℕ) → Refuses (firstNo (question14 (s .rows) ∷ clientQuestions s c g))
+  unfolding clientQuestions gridQuestions question6 question7 question14 question15
+  terminal-refuses c g =
+      firstNo-has Refuses (question14 (s .rows) ∷ clientQuestions s c g) (λ n. absurd (n refl)) (λ n. a .rows-no, (λ n. a .length-no, (λ n. a .cells-no, (λ n. a .client-no, tt))))
 
   bounds-refuse : (low high : List ℕ) → Refuses (firstNo (boundsQuestions (gridSize s) (s .top) low high))
   unfolding boundsQuestions question6 question7 question8
   bounds-refuse low high =
       firstNo-has Refuses (boundsQuestions (gridSize s) (s .top) low high) (λ n. absurd (n refl)) (λ n. a .length-no, (λ n. a .cells-no, (λ n. a .order-no, tt)))
 
-  enter-has : (r : List ℕ) → Has (enterClass s l r)
+  enter-has : (c : ℕ) (r : List ℕ) → Has (enterClass s l c r)
   unfolding enterClass
-  enter-has r = go (holds r l) refl (ltb (length l) (s .capacity)) refl
+  enter-has c r = go (holds r (gridsOf l)) refl (ltb (heldBy c r l) mostHeld) refl (ltb (length l) (s .capacity)) refl
     where
-      go : (h : Bool) → holds r l ≡ h → (f : Bool) → ltb (length l) (s .capacity) ≡ f → Has (enterClass s l r)
-      go true h f e = rw (h, enterClass) (a .held r)
-      go false h true e = rw (h, e, enterClass) (a .done r)
-      go false h false e = rw (h, e, enterClass) (a .full)
+      go : (h : Bool) → holds r (gridsOf l) ≡ h → (m : Bool) → ltb (heldBy c r l) mostHeld ≡ m → (f : Bool) → ltb (length l) (s .capacity) ≡ f → Has (enterClass s l c r)
+      go true h true m f e = rw (h, m, enterClass) (a .held r)
+      go true h false m f e = rw (h, m, enterClass) (a .most)
+      go false h t m true e = rw (h, e, enterClass) (a .done r)
+      go false h t m false e = rw (h, e, enterClass) (a .full)
 
-  strike-has : (r : List ℕ) → Has (strikeClass l r)
+  strike-has : (c : ℕ) (r : List ℕ) → Has (strikeClass l c r)
   unfolding strikeClass
-  strike-has r = go (holds r l) refl
+  strike-has c r = go (ltb 0 (heldBy c r l)) refl
     where
-      go : (h : Bool) → holds r l ≡ h → Has (strikeClass l r)
+      go : (h : Bool) → ltb 0 (heldBy c r l) ≡ h → Has (strikeClass l c r)
       go true h = rw (h, strikeClass) (a .done r)
       go false h = rw (h, strikeClass) (a .not-held)
 
@@ -80,7 +84,7 @@ module _ (P : ℕ → ℕ → Type 0) (s : Shape) (l : Grids) (a : Answerable P 
 
   pub step-answers : (c : Call) → P (step s l c .number) (step s l c .place)
   unfolding step
-  step-answers (enter g) = unless-has _ _ (grid-refuses g) (enter-has (leastIn s g))
-  step-answers (strike g) = unless-has _ _ (grid-refuses g) (strike-has (leastIn s g))
+  step-answers (enter c g) = unless-has _ _ (client-refuses c g) (enter-has c (leastIn s g))
+  step-answers (strike c g) = unless-has _ _ (client-refuses c g) (strike-has c (leastIn s g))
   step-answers (countIn low high) = unless-has _ _ (bounds-refuse low high) (count-has low high)
-  step-answers (terminalEnter g) = unless-has _ _ (terminal-refuses g) (enter-has (leastIn s g))
+  step-answers (terminalEnter c g) = unless-has _ _ (terminal-refuses c g) (enter-has c (leastIn s g))

@@ -1,7 +1,8 @@
 -- What is known of a register that question 5 has passed.
 --
 --   valid-register, valid-layout  ==  what the bytes state is a register, and they are its layout
---   valid-count, valid-ascends, valid-line  ==  how many entries it has, that they ascend, and that each is what its line states
+--   valid-count, valid-ascends, valid-line, valid-holdings  ==  how many entries it has, that they ascend, and that each is what its line states
+--   valid-sized                  ==  its entries have as many cells as it says and a holding for each client
 --   Sizes size n b              ==  the sizes, all of them small
 --   valid-sizes                  ==  a register has them
 --   line-fits, entry-fits       ==  a line ends within the bytes, and its place is a small number
@@ -18,15 +19,16 @@ use Rattle.grids.specs.Grids.{capped}
 use Rattle.grids.proofs.OrderLaws.{equal-eq}
 use Rattle.grids.proofs.QuestionLaws.{size-fits, capped-at, at-capped}
 use Rattle.permutations.proofs.BoolLaws.{and-yes}
-use Rattle.layout.specs.Layout.{lineLength, layout, layoutLength, decodeShape, decode, Ascends, IsRegister, isRegister, laidOut, cellsOf}
-use Rattle.layout.specs.Lines.{lineStart, lineAt, EntryLine}
-use Rattle.layout.proofs.RegisterLaws.{register-decides}
-use Rattle.layout.proofs.LineLaws.{laid-lines, line-entry, entries-counted, line-short}
+use Rattle.layout.specs.Layout.{Entry, gridsOf, gridSize, lineLength, layout, layoutLength, cellsOf, holdingsOf, decodeShape, decode, Ascends, IsRegister, isRegister, laidOut}
+use Rattle.layout.specs.Lines.{noEntry, lineStart, lineAt, EntryLine}
+use Rattle.layout.proofs.RegisterLaws.{register-decides, register-sized}
+use Rattle.layout.proofs.LayoutLaws.{Sized}
+use Rattle.layout.proofs.LineLaws.{laid-lines, line-entry, line-grid, entries-counted, line-short}
 use Rattle.machine.specs.Valid.{Valid}
 
 pub record Sizes (size n capacity : ℕ) (b : List ℕ) : Type 0 where
   pub cells-fit : size ≤ 128
-  pub width-fits : lineLength size ≤ 385
+  pub width-fits : lineLength size ≤ 409
   pub count-fits : n ≤ capacity
   pub capacity-fits : capacity ≤ 500
   pub length-is : length b ≡ 31 + capacity * lineLength size
@@ -47,16 +49,22 @@ module _ {size n : ℕ} {b : List ℕ} (k : Valid size n b) where
   pub valid-count : length (decode b .entries) ≡ n
   valid-count = entries-counted b ∙ sym (k .counts)
 
-  pub valid-ascends : Ascends (decode b .entries)
+  pub valid-ascends : Ascends (gridsOf (decode b .entries))
   valid-ascends = valid-register .entries-ascend
 
-  pub valid-line : (e : ℕ) → e < n → (EntryLine size 15 (lineAt size b e)) × (cellsOf size (lineAt size b e) ≡ getD (decode b .entries) e [])
+  pub valid-line : (e : ℕ) → e < n → (EntryLine size 15 (lineAt size b e)) × (cellsOf size (lineAt size b e) ≡ getD (gridsOf (decode b .entries)) e [])
   unfolding decodeShape decode
   valid-line e h =
       let p = laid-lines b .0 (k .laid) .1 in
       let l = laid-lines b .0 (k .laid) .0 .limits .grid-limits .top-limit in
       let x = p .lines e (omega (arith, k .counts)) in
-      rw (k .sized) (record { bytes = x .bytes; at-most = capped-more _ 15 (cellsOf _ (lineAt _ b e)) l (x .at-most) }, sym (line-entry b (k .laid) e (omega (arith, k .counts))))
+      rw (k .sized) (record { bytes = x .bytes; at-most = capped-more _ 15 (cellsOf _ (lineAt _ b e)) l (x .at-most); held = x .held }, sym (line-grid b e (omega (arith, k .counts))))
+
+  pub valid-holdings : (e : ℕ) → e < n → holdingsOf size (lineAt size b e) ≡ getD (decode b .entries) e noEntry .holdings
+  valid-holdings e h = rw (k .sized) (ap (λ (x : Entry). x .holdings) (sym (line-entry b e (omega (arith, k .counts)))))
+
+  pub valid-sized : Sized (gridSize (decode b .shape)) (decode b .entries)
+  valid-sized = register-sized (decode b) valid-register
 
   pub valid-sizes : Sizes size n (decodeShape b .capacity) b
   unfolding layoutLength decodeShape decode
@@ -72,16 +80,16 @@ module _ {size n : ℕ} {b : List ℕ} (k : Valid size n b) where
         length-is = p .sized ∙ ap (λ (x : ℕ). 31 + decodeShape b .capacity * lineLength x) (sym (k .sized));
       }
 
-  pub line-fits : (e w : ℕ) → e < decodeShape b .capacity → w ≡ lineLength size → (31 + e * w + w ≤ length b) × (31 + e * w + w ≤ 192531)
+  pub line-fits : (e w : ℕ) → e < decodeShape b .capacity → w ≡ lineLength size → (31 + e * w + w ≤ length b) × (31 + e * w + w ≤ 204531)
   line-fits e w h q = let z = valid-sizes in fits (decodeShape b .capacity) h (rw (← q) at (z .length-is)) (z .capacity-fits) (omega (arith, z .width-fits))
     where
-      fits : (c : ℕ) → e < c → length b ≡ 31 + c * w → c ≤ 500 → w ≤ 385 → (31 + e * w + w ≤ length b) × (31 + e * w + w ≤ 192531)
+      fits : (c : ℕ) → e < c → length b ≡ 31 + c * w → c ≤ 500 → w ≤ 409 → (31 + e * w + w ≤ length b) × (31 + e * w + w ≤ 204531)
       fits c h l a d =
           let x = mul-le-mul {n₁ = e + 1} {m₁ = w} {n₂ = c} {m₂ = w} (omega arith) (omega arith) in
-          let y = mul-le-mul {n₁ = e + 1} {m₁ = w} {n₂ = 500} {m₂ = 385} (omega arith) (omega arith) in
+          let y = mul-le-mul {n₁ = e + 1} {m₁ = w} {n₂ = 500} {m₂ = 409} (omega arith) (omega arith) in
           (omega (arith, l, x), omega (arith, y))
 
-  pub entry-fits : (e w : ℕ) → e < n → w ≡ lineLength size → (31 + e * w + w ≤ length b) × (31 + e * w + w ≤ 192531)
+  pub entry-fits : (e w : ℕ) → e < n → w ≡ lineLength size → (31 + e * w + w ≤ length b) × (31 + e * w + w ≤ 204531)
   entry-fits e w h q = line-fits e w (omega (arith, valid-sizes .count-fits)) q
 
   pub entry-part : (e w : ℕ) → w ≡ lineLength size → take (31 + e * w + w - (31 + e * w)) (drop (31 + e * w) b) ≡ lineAt size b e

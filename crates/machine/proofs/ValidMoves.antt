@@ -6,32 +6,33 @@
 --   room-part                ==  it is room in the part that is lent
 --   put-tail, tail-part      ==  a part up to the end
 --   put-fits, count-part     ==  the bytes are as many as before, and the count's field has 6 bytes
---   bytes-inserted, bytes-removed  ==  the bytes afterwards are the layout with the entry put in, or taken out
+--   bytes-inserted, bytes-removed, bytes-changed  ==  the bytes afterwards are the layout with the entry put in, taken out, or with another holding
 use mathlib.Core.Path.{_≡_, refl, ap, _∙_}
 use mathlib.Core.List.{List, _∷_, _++_, append-nil}
 use Prim.Native.Nat.{ℕ, suc, _+_, _-_, _*_, _≤_, _<_}
 use native.Mathlib.Nat.{mul-le-mul}
 use native.Mathlib.Omega.{arith}
-use lib.ListN.{length, take, drop, length-drop}
+use lib.ListN.{length, getD, take, drop, length-drop}
 use lib.Seq.{take-all, drop-drop, drop-length, length-take-le}
 use borrow.Rule.Slice.PartMut.{midOf, putMid, same-len-mid}
 use Rattle.layout.specs.Decimal.{field}
-use Rattle.layout.specs.Layout.{gridSize, lineLength, entryLine, blankLine, layout, decodeShape, decode}
-use Rattle.layout.specs.Lines.{lineStart}
-use Rattle.layout.proofs.MoveLaws.{insert-layout, remove-layout}
+use Rattle.layout.specs.Layout.{Entry, clients, gridSize, changed, lineLength, entryLine, blankLine, layout, decodeShape, decode}
+use Rattle.layout.specs.Lines.{noEntry, lineStart}
+use Rattle.layout.proofs.LayoutLaws.{Fitted}
+use Rattle.layout.proofs.MoveLaws.{insert-layout, remove-layout, change-layout}
 use Rattle.machine.specs.Valid.{Valid}
-use Rattle.machine.proofs.ValidLaws.{valid-register, valid-layout, valid-count, valid-sizes}
+use Rattle.machine.proofs.ValidLaws.{valid-register, valid-layout, valid-count, valid-sized, valid-sizes}
 
 pub record Room (b : List ℕ) (start moved w : ℕ) : Type 0 where
   pub past-head : 31 ≤ start
   pub start-inside : start ≤ length b
   pub end-inside : start + moved + w ≤ length b
-  pub small : start + moved + w ≤ 192531
+  pub small : start + moved + w ≤ 204531
 
-pub lines-fit : (b : List ℕ) (p d c w : ℕ) → p + d + 1 ≤ c → length b ≡ 31 + c * w → c ≤ 500 → w ≤ 385 → Room b (31 + p * w) (d * w) w
+pub lines-fit : (b : List ℕ) (p d c w : ℕ) → p + d + 1 ≤ c → length b ≡ 31 + c * w → c ≤ 500 → w ≤ 409 → Room b (31 + p * w) (d * w) w
 lines-fit b p d c w h l a e =
     let x = mul-le-mul {n₁ = p + d + 1} {m₁ = w} {n₂ = c} {m₂ = w} h (omega arith) in
-    let y = mul-le-mul {n₁ = p + d + 1} {m₁ = w} {n₂ = 500} {m₂ = 385} (omega arith) (omega arith) in
+    let y = mul-le-mul {n₁ = p + d + 1} {m₁ = w} {n₂ = 500} {m₂ = 409} (omega arith) (omega arith) in
     record { past-head = omega arith; start-inside = omega (arith, l, x); end-inside = omega (arith, l, x); small = omega (arith, y) }
 
 -- ---- a part up to the end
@@ -78,16 +79,16 @@ module _ {size n : ℕ} {b : List ℕ} (k : Valid size n b) (p w : ℕ) (q : w �
   unfolding decode
   capacity-is = refl
 
-  pub bytes-inserted : p ≤ n → n < decodeShape b .capacity → (g ys zs : List ℕ) {m : ℕ} → length g ≡ size →
-      ys ≡ entryLine g ++ (take ((n - p) * w) (midOf (31 + p * w) (length b - (31 + p * w)) b) ++ drop ((n - p) * w + lineLength (length g)) (midOf (31 + p * w) (length b - (31 + p * w)) b)) →
+  pub bytes-inserted : p ≤ n → n < decodeShape b .capacity → (g : Entry) (ys zs : List ℕ) {m : ℕ} → Fitted size g →
+      ys ≡ entryLine g ++ (take ((n - p) * w) (midOf (31 + p * w) (length b - (31 + p * w)) b) ++ drop ((n - p) * w + lineLength (length (g .grid))) (midOf (31 + p * w) (length b - (31 + p * w)) b)) →
       zs ≡ field m (n + 1) → m ≡ 6 →
       putMid 24 6 (putMid (31 + p * w) (length b - (31 + p * w)) b ys) zs ≡ layout (record { shape = decode b .shape; entries = take p (decode b .entries) ++ (g ∷ drop p (decode b .entries)) })
   unfolding lineStart
   bytes-inserted i h g ys zs gs e f six =
       rw (f, six)
       (rw (valid-count k) at
-      (insert-layout (decode b) b (putMid (31 + p * w) (length b - (31 + p * w)) b ys) g p (λ x m. valid-register k .entry-grids x m .sized) (valid-layout k) (omega (arith, valid-count k, capacity-is)) (omega (arith, valid-count k)) (gs ∙ cells-are)
-      (rw (← cells-are, valid-count k, ← q) (put-tail b (31 + p * w) (room-insert i h .start-inside) ys ∙ ap (λ (l : List ℕ). take (31 + p * w) b ++ l) (rw (tail-part b (31 + p * w) (room-insert i h .start-inside), gs, ← q) at e)))))
+      (insert-layout (decode b) b (putMid (31 + p * w) (length b - (31 + p * w)) b ys) g p (valid-sized k) (valid-layout k) (omega (arith, valid-count k, capacity-is)) (omega (arith, valid-count k))
+      (rw (← cells-are, valid-count k, ← q) (put-tail b (31 + p * w) (room-insert i h .start-inside) ys ∙ ap (λ (l : List ℕ). take (31 + p * w) b ++ l) (rw (tail-part b (31 + p * w) (room-insert i h .start-inside), gs .cells, ← q) at e)))))
 
   pub bytes-removed : p < n → (ys zs : List ℕ) {m : ℕ} →
       ys ≡ take ((n - (p + 1)) * w) (drop (lineLength size) (midOf (31 + p * w) (length b - (31 + p * w)) b)) ++ (blankLine size ++ drop ((n - (p + 1)) * w + lineLength size) (midOf (31 + p * w) (length b - (31 + p * w)) b)) →
@@ -97,5 +98,14 @@ module _ {size n : ℕ} {b : List ℕ} (k : Valid size n b) (p w : ℕ) (q : w �
   bytes-removed i ys zs e f six =
       rw (f, six)
       (rw (valid-count k) at
-      (remove-layout (decode b) b (putMid (31 + p * w) (length b - (31 + p * w)) b ys) p (λ x m. valid-register k .entry-grids x m .sized) (valid-layout k) (valid-register k .count-fits) (omega (arith, valid-count k))
+      (remove-layout (decode b) b (putMid (31 + p * w) (length b - (31 + p * w)) b ys) p (valid-sized k) (valid-layout k) (valid-register k .count-fits) (omega (arith, valid-count k))
       (rw (← cells-are, valid-count k, ← q) (put-tail b (31 + p * w) (room-remove i .start-inside) ys ∙ ap (λ (l : List ℕ). take (31 + p * w) b ++ l) (rw (tail-part b (31 + p * w) (room-remove i .start-inside), ← q) at e)))))
+
+  pub bytes-changed : p < n → (c x : ℕ) (ys : List ℕ) → 1 ≤ c → c ≤ clients →
+      ys ≡ take (3 * (size + (c - 1))) (midOf (31 + p * w) (length b - (31 + p * w)) b) ++ (field 3 x ++ drop 3 (drop (3 * (size + (c - 1))) (midOf (31 + p * w) (length b - (31 + p * w)) b))) →
+      putMid (31 + p * w) (length b - (31 + p * w)) b ys
+      ≡ layout (record { shape = decode b .shape; entries = take p (decode b .entries) ++ (record { grid = getD (decode b .entries) p noEntry .grid; holdings = changed c x (getD (decode b .entries) p noEntry .holdings) } ∷ drop (suc p) (decode b .entries)) })
+  unfolding lineStart
+  bytes-changed i c x ys low high e =
+      change-layout (decode b) b (putMid (31 + p * w) (length b - (31 + p * w)) b ys) p c x (3 * (size + (c - 1))) (valid-sized k) (valid-layout k) (omega (arith, valid-count k)) low high (ap (λ (j : ℕ). 3 * (j + (c - 1))) cells-are)
+      (rw (← cells-are, ← q) (put-tail b (31 + p * w) (room-remove i .start-inside) ys ∙ ap (λ (l : List ℕ). take (31 + p * w) b ++ l) (rw (tail-part b (31 + p * w) (room-remove i .start-inside)) at e)))

@@ -1,79 +1,138 @@
 -- Entering and striking a least grid, from what the code finds to the outcome.
 --
 --   place-small           ==  the place is a small number
---   held-found, place-stands  ==  what is found at the place says whether the grid is held, and that it stands there
---   enter-room, strike-room, strike-place  ==  there is room for the lines that are moved; a grid that is struck stands at its place
---   enter-held, enter-full, enter-new  ==  the ways out of enter
---   strike-none, strike-held           ==  the ways out of strike
-use mathlib.Core.Path.{_≡_, refl, sym, ap₂, _∙_}
-use mathlib.Core.List.{List, [], _++_}
-use mathlib.Core.Bool.{Bool, true, false, not, _&&_}
-use Prim.Native.Nat.{ℕ, _+_, _-_, _*_, _≤_, _<_}
+--   held-found, place-stands, stands  ==  what is found at the place says whether the grid is held, and that it stands there
+--   enter-room, stands-room  ==  there is room for the lines that are moved
+--   line-held             ==  its line states its holdings
+--   changed-is            ==  the bytes with another holding in its line, where someone holds it then
+--   gone-is, gone-kept    ==  the bytes without its line; they are those with another holding, where nobody holds it then
+--   enter-full, enter-new, enter-most, enter-held  ==  the ways out of enter
+--   strike-none, strike-zero, strike-held  ==  the ways out of strike
+use mathlib.Core.Path.{_≡_, refl, sym, ap, ap₂, _∙_}
+use mathlib.Core.List.{List, [], _∷_, _++_}
+use mathlib.Core.Bool.{Bool, true, false, _&&_}
+use Prim.Native.Nat.{ℕ, suc, _+_, _-_, _*_, _≤_, _<_}
 use native.Mathlib.Numerals.{add-one}
 use native.Mathlib.Omega.{arith}
-use lib.ListN.{length, getD, take, drop}
+use lib.ListN.{length, getD, take, drop, length-map}
 use lib.Dec.{ltb}
-use borrow.Author.Tests.{ltb-true, not-false}
+use borrow.Author.Tests.{ltb-true}
 use borrow.Rule.Slice.PartMut.{midOf, putMid}
 use Rattle.permutations.proofs.BoolLaws.{and-yes}
+use Rattle.permutations.proofs.ListLaws.{at-map}
 use Rattle.grids.specs.Order.{equal}
 use Rattle.grids.proofs.OrderLaws.{equal-eq}
 use Rattle.layout.specs.Decimal.{field}
-use Rattle.layout.specs.Layout.{lineLength, entryLine, blankLine, decodeShape, decode}
-use Rattle.machine.specs.Calls.{holds, placed}
+use Rattle.layout.specs.Layout.{Entry, clients, mostHeld, noHoldings, gridsOf, changed, someHeld, lineLength, entryLine, blankLine, holdingsOf, decodeShape, decode}
+use Rattle.layout.specs.Lines.{noEntry, firstEntry, lineAt}
+use Rattle.machine.specs.Calls.{placed, more, fewer, holds, holdingsIn, heldBy, kept}
 use Rattle.machine.specs.Places.{Lower}
 use Rattle.machine.specs.Valid.{Valid, enteredLeast, struckLeast}
-use Rattle.machine.proofs.ValidLaws.{valid-count, valid-ascends, valid-sizes}
-use Rattle.machine.proofs.LeastSteps.{held-there, entered-held, entered-full, entered-new, struck-none, struck-held}
-use Rattle.machine.proofs.ValidMoves.{Room, room-insert, room-remove, bytes-inserted, bytes-removed}
+use Rattle.machine.proofs.HoldingLaws.{length-none, length-changed, none-by}
+use Rattle.machine.proofs.PlaceLaws.{there-held, kept-there, kept-gone}
+use Rattle.machine.proofs.ValidLaws.{valid-count, valid-ascends, valid-sizes, valid-holdings}
+use Rattle.machine.proofs.LeastSteps.{held-there, registerWith, entered-held, entered-most, entered-full, entered-new, struck-none, struck-held}
+use Rattle.machine.proofs.ValidMoves.{Room, room-insert, room-remove, bytes-inserted, bytes-removed, bytes-changed}
 
-module _ {n p : ℕ} {b g : List ℕ} (k : Valid (length g) n b) (h : Lower (decode b .entries) g p) where
+module _ {n p : ℕ} {b g : List ℕ} (k : Valid (length g) n b) (h : Lower (gridsOf (decode b .entries)) g p) where
+  abbrev size : ℕ
+  size = length g
+
+  -- the bytes where client c holds x of g
+  abbrev heldAs : ℕ → ℕ → List ℕ
+  heldAs c x = registerWith b (kept g (changed c x (holdingsIn g (decode b .entries))) (decode b .entries))
+
+  abbrev part : ℕ → List ℕ
+  part w = midOf (31 + p * w) (length b - (31 + p * w)) b
+
   pub place-small : (p ≤ n) × (n ≤ 500)
-  place-small = let z = valid-sizes k in (omega (arith, h .within, valid-count k), omega (arith, z .count-fits, z .capacity-fits))
+  place-small = let z = valid-sizes k in (omega (arith, h .within, length-map (decode b .entries) (λ (x : Entry). x .grid), valid-count k), omega (arith, z .count-fits, z .capacity-fits))
 
-  pub enter-room : {capacity w : ℕ} → capacity ≡ decodeShape b .capacity → n < capacity → w ≡ lineLength (length g) → Room b (31 + p * w) ((n - p) * w) w
-  enter-room {capacity} {w} c r q = room-insert k p w q (place-small .0) (rw c at r)
+  pub enter-room : {capacity w : ℕ} → capacity ≡ decodeShape b .capacity → n < capacity → w ≡ lineLength size → Room b (31 + p * w) ((n - p) * w) w
+  enter-room {capacity} {w} e r q = room-insert k p w q (place-small .0) (rw e at r)
 
   shape-capacity : decodeShape b .capacity ≡ decode b .shape .capacity
   unfolding decode
   shape-capacity = refl
 
-  module _ {t : Bool} (found : t ≡ (ltb p n && equal (getD (decode b .entries) p []) g)) where
-    pub held-found : t ≡ holds g (decode b .entries)
-    held-found = found ∙ rw (valid-count k) at (held-there (valid-ascends k) h)
+  grids-count : length (gridsOf (decode b .entries)) ≡ n
+  grids-count = length-map (decode b .entries) (λ (x : Entry). x .grid) ∙ valid-count k
 
-    pub place-stands : t ≡ true → (p < n) × (getD (decode b .entries) p [] ≡ g)
-    place-stands y = let e = and-yes (ltb p n) (equal (getD (decode b .entries) p []) g) (sym found ∙ y) in (ltb-true p n (e .0), equal-eq (getD (decode b .entries) p []) g (e .1))
+  module _ {t : Bool} (found : t ≡ (ltb p n && equal (getD (gridsOf (decode b .entries)) p []) g)) where
+    pub held-found : t ≡ holds g (gridsOf (decode b .entries))
+    held-found = found ∙ rw grids-count at (held-there (valid-ascends k) h)
 
-    -- the same of a test that it does not stand there
-    pub strike-place : not t ≡ false → p < n
-    strike-place y = place-stands (not-false t y) .0
+    pub place-stands : t ≡ true → (p < n) × (getD (gridsOf (decode b .entries)) p [] ≡ g)
+    place-stands y = let e = and-yes (ltb p n) (equal (getD (gridsOf (decode b .entries)) p []) g) (sym found ∙ y) in (ltb-true p n (e .0), equal-eq (getD (gridsOf (decode b .entries)) p []) g (e .1))
 
-    pub strike-room : not t ≡ false → {w : ℕ} → w ≡ lineLength (length g) → Room b (31 + p * w) ((n - (p + 1)) * w) w
-    strike-room y {w} q = room-remove k p w q (strike-place y)
+    -- ---- it does not stand there
 
-    pub enter-held : t ≡ true → placed 101 (p + 1) b ≡ enteredLeast b g
-    enter-held y = rw add-one (sym (entered-held b (valid-ascends k) h (sym held-found ∙ y)))
+    pub enter-full : (c : ℕ) → t ≡ false → decodeShape b .capacity ≤ n → placed 9 0 b ≡ enteredLeast b c g
+    enter-full c y f = sym (entered-full b c h (sym held-found ∙ y) (omega (arith, valid-count k, shape-capacity)))
 
-    pub enter-full : t ≡ false → decodeShape b .capacity ≤ n → placed 9 0 b ≡ enteredLeast b g
-    enter-full y f = sym (entered-full b (valid-ascends k) h (sym held-found ∙ y) (omega (arith, valid-count k, shape-capacity)))
-
-    pub enter-new : t ≡ false → n < decodeShape b .capacity → (w : ℕ) → w ≡ lineLength (length g) → (ys zs : List ℕ) {m : ℕ} →
-        ys ≡ entryLine g ++ (take ((n - p) * w) (midOf (31 + p * w) (length b - (31 + p * w)) b) ++ drop ((n - p) * w + lineLength (length g)) (midOf (31 + p * w) (length b - (31 + p * w)) b)) →
+    pub enter-new : (c : ℕ) → t ≡ false → n < decodeShape b .capacity → 1 ≤ c → c ≤ clients → (w : ℕ) → w ≡ lineLength size → (ys zs : List ℕ) {m : ℕ} →
+        ys ≡ entryLine (firstEntry c g) ++ (take ((n - p) * w) (part w) ++ drop ((n - p) * w + lineLength size) (part w)) →
         zs ≡ field m (n + 1) → m ≡ 6 →
-        placed 0 (p + 1) (putMid 24 6 (putMid (31 + p * w) (length b - (31 + p * w)) b ys) zs) ≡ enteredLeast b g
-    enter-new y f w q ys zs e d six =
-        ap₂ (λ (i : ℕ) (l : List ℕ). placed 0 i l) (add-one p) (bytes-inserted k p w q (place-small .0) f g ys zs refl e d six)
-        ∙ sym (entered-new b (valid-ascends k) h (sym held-found ∙ y) (omega (arith, valid-count k, shape-capacity)))
+        placed 0 (p + 1) (putMid 24 6 (putMid (31 + p * w) (length b - (31 + p * w)) b ys) zs) ≡ enteredLeast b c g
+    enter-new c y f low high w q ys zs e d six =
+        ap₂ (λ (i : ℕ) (l : List ℕ). placed 0 i l) (add-one p) (bytes-inserted k p w q (place-small .0) f (firstEntry c g) ys zs (record { cells = refl; held = length-changed c 1 noHoldings ∙ length-none }) e d six)
+        ∙ sym (entered-new b c h (sym held-found ∙ y) (omega (arith, valid-count k, shape-capacity)) low high)
 
-    pub strike-none : t ≡ false → placed 10 0 b ≡ struckLeast b g
-    strike-none y = sym (struck-none b (valid-ascends k) h (sym held-found ∙ y))
+    pub strike-none : (c : ℕ) → t ≡ false → placed 10 0 b ≡ struckLeast b c g
+    strike-none c y = sym (struck-none b c h (none-by (decode b .entries) g c (sym held-found ∙ y)))
 
-    pub strike-held : t ≡ true → (w : ℕ) → w ≡ lineLength (length g) → (ys zs : List ℕ) {m : ℕ} →
-        ys ≡ take ((n - (p + 1)) * w) (drop (lineLength (length g)) (midOf (31 + p * w) (length b - (31 + p * w)) b)) ++ (blankLine (length g) ++ drop ((n - (p + 1)) * w + lineLength (length g)) (midOf (31 + p * w) (length b - (31 + p * w)) b)) →
-        zs ≡ field m (n - 1) → m ≡ 6 →
-        placed 0 (p + 1) (putMid 24 6 (putMid (31 + p * w) (length b - (31 + p * w)) b ys) zs) ≡ struckLeast b g
-    strike-held y w q ys zs e d six =
-        let s = place-stands y in
-        ap₂ (λ (i : ℕ) (l : List ℕ). placed 0 i l) (add-one p) (bytes-removed k p w q (s .0) ys zs e d six)
-        ∙ sym (struck-held b (valid-ascends k) h (sym held-found ∙ y) (omega (arith, valid-count k, s .0)) (s .1))
+    -- ---- it stands there
+
+    module _ (y : t ≡ true) where
+      pub stands : p < n
+      stands = place-stands y .0
+
+      -- its holdings are those that its line states
+      pub line-held : holdingsOf size (lineAt size b p) ≡ holdingsIn g (decode b .entries)
+      line-held =
+          valid-holdings k p stands
+          ∙ sym (there-held (decode b .entries) (valid-ascends k) g p (omega (arith, stands, valid-count k)) (place-stands y .1))
+
+      -- its line begins at a
+      module _ {a : ℕ} (q : a ≡ 31 + p * lineLength size) where
+        pub stands-room : {w : ℕ} → w ≡ lineLength size → Room b a ((n - (p + 1)) * w) w
+        stands-room v = rw (q, v) (room-remove k p (lineLength size) refl stands)
+
+        pub changed-is : (c x : ℕ) {u : Bool} → u ≡ someHeld (changed c x (holdingsIn g (decode b .entries))) → u ≡ true → 1 ≤ c → c ≤ clients → (ys : List ℕ) →
+            ys ≡ take (3 * (size + (c - 1))) (midOf a (length b - a) b) ++ (field 3 x ++ drop 3 (drop (3 * (size + (c - 1))) (midOf a (length b - a) b))) →
+            putMid a (length b - a) b ys ≡ heldAs c x
+        changed-is c x left z low high ys e =
+            rw q (bytes-changed k p (lineLength size) refl stands c x ys low high (rw q at e))
+            ∙ ap₂ (λ (r l : List ℕ). registerWith b (take p (decode b .entries) ++ (record { grid = r; holdings = changed c x l } ∷ drop (suc p) (decode b .entries))))
+            (sym (at-map (λ (z : Entry). z .grid) (decode b .entries) p noEntry [] (omega (arith, stands, valid-count k))) ∙ place-stands y .1)
+            (sym (there-held (decode b .entries) (valid-ascends k) g p (omega (arith, stands, valid-count k)) (place-stands y .1)))
+            ∙ ap (λ (l : List Entry). registerWith b l) (sym (kept-there (decode b .entries) g (changed c x (holdingsIn g (decode b .entries))) p h (valid-ascends k) (omega (arith, stands, valid-count k)) (place-stands y .1) (sym left ∙ z)))
+
+        pub gone-is : {w : ℕ} → w ≡ lineLength size → (ys zs : List ℕ) {m : ℕ} →
+            ys ≡ take ((n - (p + 1)) * w) (drop (lineLength size) (midOf a (length b - a) b)) ++ (blankLine size ++ drop ((n - (p + 1)) * w + lineLength size) (midOf a (length b - a) b)) →
+            zs ≡ field m (n - 1) → m ≡ 6 →
+            putMid 24 6 (putMid a (length b - a) b ys) zs ≡ registerWith b (take p (decode b .entries) ++ drop (suc p) (decode b .entries))
+        gone-is v ys zs e d six = rw q (bytes-removed k p (lineLength size) refl stands ys zs (rw (q, v) at e) d six)
+
+      pub gone-kept : (c x : ℕ) {u : Bool} → u ≡ someHeld (changed c x (holdingsIn g (decode b .entries))) → u ≡ false → {l : List ℕ} → l ≡ registerWith b (take p (decode b .entries) ++ drop (suc p) (decode b .entries)) →
+          l ≡ heldAs c x
+      gone-kept c x left z e = rw (kept-gone (decode b .entries) g (changed c x (holdingsIn g (decode b .entries))) p h (valid-ascends k) (omega (arith, stands, valid-count k)) (place-stands y .1) (sym left ∙ z)) e
+
+      module _ (c : ℕ) {v : ℕ} (read : v ≡ heldBy c g (decode b .entries)) where
+        pub enter-most : mostHeld ≤ v → placed 16 0 b ≡ enteredLeast b c g
+        enter-most f = sym (entered-most b c h (sym held-found ∙ y) (omega (arith, read, f)))
+
+        pub enter-held : v < mostHeld → {l : List ℕ} → l ≡ heldAs c (v + 1) → placed 101 (p + 1) l ≡ enteredLeast b c g
+        unfolding more heldBy
+        enter-held f e =
+            ap₂ (λ (i : ℕ) (l : List ℕ). placed 101 i l) (add-one p) (e ∙ ap (λ (x : ℕ). heldAs c (x + 1)) read)
+            ∙ sym (entered-held b c h (sym held-found ∙ y) (omega (arith, read, f)))
+
+        pub strike-zero : v ≡ 0 → placed 10 0 b ≡ struckLeast b c g
+        strike-zero z = sym (struck-none b c h (sym read ∙ z))
+
+        pub strike-held : 0 < v → {l : List ℕ} → l ≡ heldAs c (v - 1) → placed 0 (p + 1) l ≡ struckLeast b c g
+        unfolding fewer heldBy
+        strike-held f e =
+            ap₂ (λ (i : ℕ) (l : List ℕ). placed 0 i l) (add-one p) (e ∙ ap (λ (x : ℕ). heldAs c (x - 1)) read)
+            ∙ sym (struck-held b c h (omega (arith, read, f)))

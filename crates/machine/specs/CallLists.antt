@@ -1,6 +1,6 @@
 -- Lists of calls on a register, and what an implementation of the calls answers to them. A list may mix the calls of both sets.
 --
---   Call                 ==  enter of a grid, strike of a grid, count of the entries in bounds, a terminal's enter of a grid
+--   Call                 ==  a client's enter and strike of a grid, count of the entries in bounds, a client's enter of a grid at a terminal
 --   Implementation       ==  open, enter, strike, count and a terminal's enter, as functions of the numbers and slices that they are lent
 --   registerCalls        ==  the calls as specs/Calls has them
 --   Meets i              ==  the calls of i answer and leave what specs/Calls says, on all arguments
@@ -20,33 +20,33 @@ use Rattle.layout.specs.Layout.{Shape, decodeShape, decode}
 use Rattle.machine.specs.Calls.{Outcome, leastIn, enterQuestions, strikeQuestions, countQuestions, terminalEnterQuestions, opened, entered, struck, counted, terminalEntered}
 
 pub data Call : Type 0 where
-  enter : List ℕ → Call
-  strike : List ℕ → Call
+  enter : ℕ → List ℕ → Call
+  strike : ℕ → List ℕ → Call
   countIn : List ℕ → List ℕ → Call
-  terminalEnter : List ℕ → Call
+  terminalEnter : ℕ → List ℕ → Call
 
 pub record Implementation : Type 0 where
   pub opens : Shape → List ℕ → Outcome
-  pub enters : List ℕ → List ℕ → Outcome
-  pub strikes : List ℕ → List ℕ → Outcome
+  pub enters : List ℕ → ℕ → List ℕ → Outcome
+  pub strikes : List ℕ → ℕ → List ℕ → Outcome
   pub counts : List ℕ → List ℕ → List ℕ → Outcome
-  pub terminalEnters : List ℕ → List ℕ → Outcome
+  pub terminalEnters : List ℕ → ℕ → List ℕ → Outcome
 
 unfoldable pub registerCalls : Implementation
 registerCalls = record { opens = opened; enters = entered; strikes = struck; counts = counted; terminalEnters = terminalEntered }
 
 pub record Meets (i : Implementation) : Type 0 where
   pub opens : (s : Shape) (b : List ℕ) → i .opens s b ≡ opened s b
-  pub enters : (b g : List ℕ) → i .enters b g ≡ entered b g
-  pub strikes : (b g : List ℕ) → i .strikes b g ≡ struck b g
+  pub enters : (b : List ℕ) (c : ℕ) (g : List ℕ) → i .enters b c g ≡ entered b c g
+  pub strikes : (b : List ℕ) (c : ℕ) (g : List ℕ) → i .strikes b c g ≡ struck b c g
   pub counts : (b low high : List ℕ) → i .counts b low high ≡ counted b low high
-  pub terminalEnters : (b g : List ℕ) → i .terminalEnters b g ≡ terminalEntered b g
+  pub terminalEnters : (b : List ℕ) (c : ℕ) (g : List ℕ) → i .terminalEnters b c g ≡ terminalEntered b c g
 
 unfoldable pub called : Implementation → List ℕ → Call → Outcome
-called i b (enter g) = i .enters b g
-called i b (strike g) = i .strikes b g
+called i b (enter c g) = i .enters b c g
+called i b (strike c g) = i .strikes b c g
 called i b (countIn low high) = i .counts b low high
-called i b (terminalEnter g) = i .terminalEnters b g
+called i b (terminalEnter c g) = i .terminalEnters b c g
 
 unfoldable pub run : Implementation → List ℕ → List Call → List Outcome
 run i b [] = []
@@ -57,13 +57,13 @@ left i b [] = b
 left i b (c ∷ calls) = left i (called i b c .bytes) calls
 
 unfoldable pub questionsOf : List ℕ → Call → List Question
-questionsOf b (enter g) = enterQuestions b (decode b) g (leastIn (decode b .shape) g)
-questionsOf b (strike g) = strikeQuestions b (decode b) g (leastIn (decode b .shape) g)
+questionsOf b (enter c g) = enterQuestions b (decode b) c g (leastIn (decode b .shape) g)
+questionsOf b (strike c g) = strikeQuestions b (decode b) c g (leastIn (decode b .shape) g)
 questionsOf b (countIn low high) = countQuestions b (decode b) low high
-questionsOf b (terminalEnter g) = terminalEnterQuestions b (decode b) g (leastIn (decode b .shape) g)
+questionsOf b (terminalEnter c g) = terminalEnterQuestions b (decode b) c g (leastIn (decode b .shape) g)
 
 unfoldable pub accepted : ℕ → Bool
 accepted k = eqb k 0 || eqb k 101
 
 unfoldable pub EnterAlike : Implementation → Type 0
-EnterAlike i = (b g : List ℕ) → decodeShape b .rows ≤ 5 → i .terminalEnters b g ≡ i .enters b g
+EnterAlike i = (b : List ℕ) (c : ℕ) (g : List ℕ) → decodeShape b .rows ≤ 5 → i .terminalEnters b c g ≡ i .enters b c g

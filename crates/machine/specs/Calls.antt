@@ -5,26 +5,31 @@
 --   shape m n top capacity  ==  the numbers of an open
 --   refusal k b          ==  the number k, place or count 0, and the bytes as they were
 --   answered k b o       ==  the refusal k, unless k is 0: then o
---   question4, question5, question9, question10  ==  document 01's questions
+--   more c h, fewer c h  ==  holdings with one more for client c, with one fewer
+--   holds r l            ==  the grid r stands among the grids of l
+--   holdingsIn r l       ==  the holdings of the grid r among entries: eight 0 where it is none of them
+--   heldBy c r l         ==  client c's holding of it
+--   placeIn l r          ==  1 plus the number of grids of l that come before r
+--   insert e l           ==  an entry put where it belongs in an ascending list
+--   without r l          ==  the entries of l whose grid is not r
+--   kept r h l           ==  an ascending list with the holdings h for the grid r: where all are 0, without it
+--   question4, question5, question9, question10, question15, question16  ==  the questions of documents 01 and 02 with these numbers
 --   gridQuestions s g    ==  questions 6 and 7 of a grid
+--   clientQuestions s c g  ==  questions 6 and 7 of a grid, and 15 of a client
 --   openQuestions, enterQuestions, strikeQuestions, countQuestions  ==  the questions that each call asks, in order
 --   terminalEnterQuestions  ==  those of a terminal's enter: enter's, with 14 asked directly after question 5
 --   leastIn s g          ==  the least grid of the class of g, a grid of the shape
---   holds r l            ==  the grid r stands among the grids of l
---   placeIn l r          ==  1 plus the number of grids of l that come before r
---   insert r l           ==  r put where it belongs in an ascending list
---   without r l          ==  the grids of l other than r
---   enterInto b x r, strikeFrom x r  ==  the grid r, least of its class, put into the register x with the bytes b, and taken out of it
+--   enterInto x c r, strikeFrom x c r  ==  client c's enter and strike of the grid r, least of its class, where no question of the register x gets a no
 --   entriesIn x low high ==  how many entries of the register x lie in the bounds
 --   enterRegister, strikeRegister, countRegister, terminalEnterRegister  ==  the calls on bytes and the register that they state
 --   opened s b           ==  open with the numbers of s on the slice b
---   entered b g          ==  enter of the grid g into the register b
---   struck b g           ==  strike of the grid g from it
+--   entered b c g        ==  client c's enter of the grid g into the register b
+--   struck b c g         ==  its strike of the grid g from it
 --   counted b low high   ==  count of the entries in the bounds low, high
---   terminalEntered b g  ==  a terminal's enter of the grid g
+--   terminalEntered b c g  ==  its enter of the grid g at a terminal
 use mathlib.Core.List.{List, [], _∷_, _++_}
 use mathlib.Core.Bool.{Bool, true, false, not, _||_}
-use Prim.Native.Nat.{ℕ, zero, suc}
+use Prim.Native.Nat.{ℕ, zero, suc, _+_, _-_}
 use lib.ListN.{length}
 use lib.Dec.{ltb}
 use Rattle.permutations.specs.Lists.{select, some}
@@ -33,7 +38,7 @@ use Rattle.grids.specs.Least.{least}
 use Rattle.grids.specs.Questions.{Question, firstNo, inRange, question1, question2, question3, question6, question7, question14, afterFirst}
 use Rattle.bounds.specs.Bounds.{inBounds}
 use Rattle.bounds.specs.Prune.{boundsQuestions}
-use Rattle.layout.specs.Layout.{Shape, Register, gridSize, layout, layoutLength, decode, laidOut}
+use Rattle.layout.specs.Layout.{Shape, Entry, Register, clients, noHoldings, mostHeld, gridsOf, gridSize, layout, layoutLength, holding, changed, decode, someHeld, laidOut}
 
 pub record Outcome : Type 0 where
   pub number : ℕ
@@ -53,6 +58,42 @@ unfoldable pub answered : ℕ → List ℕ → Outcome → Outcome
 answered zero b o = o
 answered (suc k) b o = refusal (suc k) b
 
+-- ---- holdings
+
+unfoldable pub more : ℕ → List ℕ → List ℕ
+more c h = changed c (holding c h + 1) h
+
+unfoldable pub fewer : ℕ → List ℕ → List ℕ
+fewer c h = changed c (holding c h - 1) h
+
+-- ---- the entries
+
+abbrev pub leastIn : Shape → List ℕ → List ℕ
+leastIn s g = least (s .rows) (s .columns) g
+
+unfoldable pub holds : List ℕ → List (List ℕ) → Bool
+holds r l = some (equal r) l
+
+unfoldable pub holdingsIn : List ℕ → List Entry → List ℕ
+holdingsIn r [] = noHoldings
+holdingsIn r (e ∷ l) = elim (equal r (e .grid)) [ true ↦ e .holdings | false ↦ holdingsIn r l ]
+
+unfoldable pub heldBy : ℕ → List ℕ → List Entry → ℕ
+heldBy c r l = holding c (holdingsIn r l)
+
+unfoldable pub placeIn : List (List ℕ) → List ℕ → ℕ
+placeIn l r = suc (length (select (λ x. less x r) l))
+
+unfoldable pub insert : Entry → List Entry → List Entry
+insert e [] = e ∷ []
+insert e (x ∷ l) = elim (leq (e .grid) (x .grid)) [ true ↦ e ∷ x ∷ l | false ↦ x ∷ insert e l ]
+
+unfoldable pub without : List ℕ → List Entry → List Entry
+without r l = select (λ e. not (equal r (e .grid))) l
+
+unfoldable pub kept : List ℕ → List ℕ → List Entry → List Entry
+kept r h l = elim (someHeld h) [ true ↦ insert (record { grid = r; holdings = h }) (without r l) | false ↦ without r l ]
+
 -- ---- the questions
 
 unfoldable pub question4 : ℕ → Question
@@ -61,32 +102,27 @@ question4 capacity = record { number = 4; answer = inRange 1 500 capacity }
 unfoldable pub question5 : List ℕ → Question
 question5 b = record { number = 5; answer = laidOut b }
 
+-- is the class held by anyone, or the count below capacity?
+unfoldable pub question9 : Register → List ℕ → Question
+question9 x r = record { number = 9; answer = holds r (gridsOf (x .entries)) || ltb (length (x .entries)) (x .shape .capacity) }
+
+-- does this client hold the class?
+unfoldable pub question10 : Register → ℕ → List ℕ → Question
+question10 x c r = record { number = 10; answer = ltb 0 (heldBy c r (x .entries)) }
+
+-- is the client 1 to 8?
+unfoldable pub question15 : ℕ → Question
+question15 c = record { number = 15; answer = inRange 1 clients c }
+
+-- is this client's holding below 999?
+unfoldable pub question16 : Register → ℕ → List ℕ → Question
+question16 x c r = record { number = 16; answer = ltb (heldBy c r (x .entries)) mostHeld }
+
 unfoldable pub gridQuestions : Shape → List ℕ → List Question
 gridQuestions s g = question6 (gridSize s) (g ∷ []) ∷ question7 (s .top) (g ∷ []) ∷ []
 
-unfoldable pub holds : List ℕ → List (List ℕ) → Bool
-holds r l = some (equal r) l
-
-unfoldable pub question9 : Register → List ℕ → Question
-question9 b r = record { number = 9; answer = holds r (b .entries) || ltb (length (b .entries)) (b .shape .capacity) }
-
-unfoldable pub question10 : Register → List ℕ → Question
-question10 b r = record { number = 10; answer = holds r (b .entries) }
-
--- ---- the entries
-
-abbrev pub leastIn : Shape → List ℕ → List ℕ
-leastIn s g = least (s .rows) (s .columns) g
-
-unfoldable pub placeIn : List (List ℕ) → List ℕ → ℕ
-placeIn l r = suc (length (select (λ x. less x r) l))
-
-unfoldable pub insert : List ℕ → List (List ℕ) → List (List ℕ)
-insert r [] = r ∷ []
-insert r (x ∷ l) = elim (leq r x) [ true ↦ r ∷ x ∷ l | false ↦ x ∷ insert r l ]
-
-unfoldable pub without : List ℕ → List (List ℕ) → List (List ℕ)
-without r l = select (λ x. not (equal r x)) l
+unfoldable pub clientQuestions : Shape → ℕ → List ℕ → List Question
+clientQuestions s c g = gridQuestions s g ++ (question15 c ∷ [])
 
 -- ---- the calls
 
@@ -97,39 +133,43 @@ openQuestions s b =
 unfoldable pub opened : Shape → List ℕ → Outcome
 opened s b = answered (firstNo (openQuestions s b)) b (record { number = 0; place = 0; bytes = layout (record { shape = s; entries = [] }) })
 
-unfoldable pub enterInto : List ℕ → Register → List ℕ → Outcome
-enterInto b x r =
-    elim (holds r (x .entries)) [
-      | true ↦ record { number = 101; place = placeIn (x .entries) r; bytes = b }
-      | false ↦ record { number = 0; place = placeIn (x .entries) r; bytes = layout (record { shape = x .shape; entries = insert r (x .entries) }) }
-    ]
+unfoldable pub enterInto : Register → ℕ → List ℕ → Outcome
+enterInto x c r = record {
+  number = elim (holds r (gridsOf (x .entries))) [ true ↦ 101 | false ↦ 0 ];
+  place = placeIn (gridsOf (x .entries)) r;
+  bytes = layout (record { shape = x .shape; entries = kept r (more c (holdingsIn r (x .entries))) (x .entries) });
+}
 
-unfoldable pub strikeFrom : Register → List ℕ → Outcome
-strikeFrom x r = record { number = 0; place = placeIn (x .entries) r; bytes = layout (record { shape = x .shape; entries = without r (x .entries) }) }
+unfoldable pub strikeFrom : Register → ℕ → List ℕ → Outcome
+strikeFrom x c r = record {
+  number = 0;
+  place = placeIn (gridsOf (x .entries)) r;
+  bytes = layout (record { shape = x .shape; entries = kept r (fewer c (holdingsIn r (x .entries))) (x .entries) });
+}
 
-unfoldable pub enterQuestions : List ℕ → Register → List ℕ → List ℕ → List Question
-enterQuestions b x g r = question5 b ∷ (gridQuestions (x .shape) g ++ (question9 x r ∷ []))
+unfoldable pub enterQuestions : List ℕ → Register → ℕ → List ℕ → List ℕ → List Question
+enterQuestions b x c g r = question5 b ∷ (clientQuestions (x .shape) c g ++ (question9 x r ∷ question16 x c r ∷ []))
 
-unfoldable pub strikeQuestions : List ℕ → Register → List ℕ → List ℕ → List Question
-strikeQuestions b x g r = question5 b ∷ (gridQuestions (x .shape) g ++ (question10 x r ∷ []))
+unfoldable pub strikeQuestions : List ℕ → Register → ℕ → List ℕ → List ℕ → List Question
+strikeQuestions b x c g r = question5 b ∷ (clientQuestions (x .shape) c g ++ (question10 x c r ∷ []))
 
 unfoldable pub countQuestions : List ℕ → Register → List ℕ → List ℕ → List Question
 countQuestions b x low high = question5 b ∷ boundsQuestions (gridSize (x .shape)) (x .shape .top) low high
 
-unfoldable pub enterRegister : List ℕ → Register → List ℕ → List ℕ → Outcome
-enterRegister b x g r = answered (firstNo (enterQuestions b x g r)) b (enterInto b x r)
+unfoldable pub enterRegister : List ℕ → Register → ℕ → List ℕ → List ℕ → Outcome
+enterRegister b x c g r = answered (firstNo (enterQuestions b x c g r)) b (enterInto x c r)
 
-unfoldable pub strikeRegister : List ℕ → Register → List ℕ → List ℕ → Outcome
-strikeRegister b x g r = answered (firstNo (strikeQuestions b x g r)) b (strikeFrom x r)
+unfoldable pub strikeRegister : List ℕ → Register → ℕ → List ℕ → List ℕ → Outcome
+strikeRegister b x c g r = answered (firstNo (strikeQuestions b x c g r)) b (strikeFrom x c r)
 
-unfoldable pub entered : List ℕ → List ℕ → Outcome
-entered b g = enterRegister b (decode b) g (leastIn (decode b .shape) g)
+unfoldable pub entered : List ℕ → ℕ → List ℕ → Outcome
+entered b c g = enterRegister b (decode b) c g (leastIn (decode b .shape) g)
 
-unfoldable pub struck : List ℕ → List ℕ → Outcome
-struck b g = strikeRegister b (decode b) g (leastIn (decode b .shape) g)
+unfoldable pub struck : List ℕ → ℕ → List ℕ → Outcome
+struck b c g = strikeRegister b (decode b) c g (leastIn (decode b .shape) g)
 
 unfoldable pub entriesIn : Register → List ℕ → List ℕ → ℕ
-entriesIn x low high = length (select (inBounds (gridSize (x .shape)) (x .shape .top) low high) (x .entries))
+entriesIn x low high = length (select (inBounds (gridSize (x .shape)) (x .shape .top) low high) (gridsOf (x .entries)))
 
 unfoldable pub countRegister : List ℕ → Register → List ℕ → List ℕ → Outcome
 countRegister b x low high = answered (firstNo (countQuestions b x low high)) b (record { number = 0; place = entriesIn x low high; bytes = b })
@@ -139,11 +179,11 @@ counted b low high = countRegister b (decode b) low high
 
 -- ---- at a terminal
 
-unfoldable pub terminalEnterQuestions : List ℕ → Register → List ℕ → List ℕ → List Question
-terminalEnterQuestions b x g r = afterFirst (question14 (x .shape .rows)) (enterQuestions b x g r)
+unfoldable pub terminalEnterQuestions : List ℕ → Register → ℕ → List ℕ → List ℕ → List Question
+terminalEnterQuestions b x c g r = afterFirst (question14 (x .shape .rows)) (enterQuestions b x c g r)
 
-unfoldable pub terminalEnterRegister : List ℕ → Register → List ℕ → List ℕ → Outcome
-terminalEnterRegister b x g r = answered (firstNo (terminalEnterQuestions b x g r)) b (enterInto b x r)
+unfoldable pub terminalEnterRegister : List ℕ → Register → ℕ → List ℕ → List ℕ → Outcome
+terminalEnterRegister b x c g r = answered (firstNo (terminalEnterQuestions b x c g r)) b (enterInto x c r)
 
-unfoldable pub terminalEntered : List ℕ → List ℕ → Outcome
-terminalEntered b g = terminalEnterRegister b (decode b) g (leastIn (decode b .shape) g)
+unfoldable pub terminalEntered : List ℕ → ℕ → List ℕ → Outcome
+terminalEntered b c g = terminalEnterRegister b (decode b) c g (leastIn (decode b .shape) g)

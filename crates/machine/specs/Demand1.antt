@@ -19,8 +19,7 @@ pub record Demand1 (i : Implementation) : Type 0 where
   -- a call is accepted exactly where every question gets a yes
   pub open-accepts : (s : Shape) (b : List ℕ) → eqb (i .opens s b .number) 0 ≡ eqb (firstNo (openQuestions s b)) 0
   pub accepts : (b : List ℕ) (c : Call) → accepted (called i b c .number) ≡ eqb (firstNo (questionsOf b c)) 0
-  -- 101 and a count change no byte
-  pub held-unchanged : (b : List ℕ) (c : Call) → called i b c .number ≡ 101 → called i b c .bytes ≡ b
+  -- a count changes no byte
   pub count-unchanged : (b low high : List ℕ) → called i b (countIn low high) .bytes ≡ b
   -- no call changes the length of the slice
   pub open-length : (s : Shape) (b : List ℕ) → length (i .opens s b .bytes) ≡ length b

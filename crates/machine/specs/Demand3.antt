@@ -1,9 +1,11 @@
 -- Demand 3: one statement over whole lists of enter, strike, count and a terminal's enter after an open, refused ones included, about an
 -- implementation of the calls.
 --
---   liveNext m n a was c k  ==  whether the class of a is live after the call c with the number k, where `was` says whether it was before
---   liveAfter m n a was calls os  ==  the same after the calls with the outcomes os
---   live i s b calls a   ==  the same from an open that left the bytes b: the last accepted enter or strike of the class is an enter, a terminal's or not
+--   entersClass m n a k c, strikesClass m n a k c  ==  the call c is client k's enter, a terminal's or not, or its strike, of a grid of the class of a
+--   acceptedOf p calls os  ==  how many of the calls with the outcomes os are accepted ones of which p holds
+--   entersOf i s b calls k a, strikesOf i s b calls k a  ==  client k's accepted enters and strikes of the class of a, from an open that left the bytes b
+--   holdingOf i s b calls k a  ==  its holding: accepted enters less accepted strikes
+--   live i s b calls a   ==  the class of a is live: some client's accepted enters of it outnumber that client's accepted strikes
 --   Once l               ==  no grid stands twice in l
 --   ListsLive m n live l ==  l lists the least grid of each live class once
 --   prunedFor s low high ==  what prune answers and leaves of bounds, with the rows, columns and top of s
@@ -13,32 +15,47 @@ use mathlib.Core.Path.{_≡_}
 use mathlib.Core.List.{List, [], _∷_, List·Memᴰ}
 use mathlib.Core.Bool.{Bool, true, false, not, _&&_}
 use mathlib.Core.Logic.{_↔_}
-use Prim.Native.Nat.{ℕ, _*_}
+use Prim.Native.Nat.{ℕ, suc, _-_, _*_, _≤_}
 use lib.ListN.{length}
-use lib.Dec.{eqb}
-use Rattle.permutations.specs.Lists.{select, every}
+use lib.Dec.{ltb, eqb}
+use Rattle.permutations.specs.Lists.{tabulate, select, every, some}
 use Rattle.grids.specs.Grids.{oneClass}
 use Rattle.grids.specs.Least.{least}
 use Rattle.bounds.specs.Bounds.{inBounds}
 use Rattle.bounds.specs.Prune.{Pruned, pruned}
-use Rattle.layout.specs.Layout.{Shape, gridSize, layoutLength, count, InLimits}
-use Rattle.machine.specs.Calls.{Outcome}
+use Rattle.layout.specs.Layout.{Shape, clients, gridSize, layoutLength, count, decode, InLimits}
+use Rattle.machine.specs.Calls.{Outcome, leastIn, heldBy}
 use Rattle.machine.specs.CallLists.{Call, enter, strike, countIn, terminalEnter, Implementation, run, left, accepted}
 use Rattle.machine.specs.Machine.{shown, outcomes}
 
-unfoldable pub liveNext : ℕ → ℕ → List ℕ → Bool → Call → ℕ → Bool
-liveNext m n a was (enter g) k = elim (accepted k && oneClass m n g a) [ true ↦ true | false ↦ was ]
-liveNext m n a was (strike g) k = elim (accepted k && oneClass m n g a) [ true ↦ false | false ↦ was ]
-liveNext m n a was (countIn low high) k = was
-liveNext m n a was (terminalEnter g) k = elim (accepted k && oneClass m n g a) [ true ↦ true | false ↦ was ]
+unfoldable pub entersClass : ℕ → ℕ → List ℕ → ℕ → Call → Bool
+entersClass m n a k (enter c g) = eqb c k && oneClass m n g a
+entersClass m n a k (strike c g) = false
+entersClass m n a k (countIn low high) = false
+entersClass m n a k (terminalEnter c g) = eqb c k && oneClass m n g a
 
-unfoldable pub liveAfter : ℕ → ℕ → List ℕ → Bool → List Call → List Outcome → Bool
-liveAfter m n a was [] os = was
-liveAfter m n a was (c ∷ calls) [] = was
-liveAfter m n a was (c ∷ calls) (o ∷ os) = liveAfter m n a (liveNext m n a was c (o .number)) calls os
+unfoldable pub strikesClass : ℕ → ℕ → List ℕ → ℕ → Call → Bool
+strikesClass m n a k (enter c g) = false
+strikesClass m n a k (strike c g) = eqb c k && oneClass m n g a
+strikesClass m n a k (countIn low high) = false
+strikesClass m n a k (terminalEnter c g) = false
+
+unfoldable pub acceptedOf : (Call → Bool) → List Call → List Outcome → ℕ
+acceptedOf p [] os = 0
+acceptedOf p (c ∷ calls) [] = 0
+acceptedOf p (c ∷ calls) (o ∷ os) = elim (p c && accepted (o .number)) [ true ↦ suc (acceptedOf p calls os) | false ↦ acceptedOf p calls os ]
+
+unfoldable pub entersOf : Implementation → Shape → List ℕ → List Call → ℕ → List ℕ → ℕ
+entersOf i s b calls k a = acceptedOf (entersClass (s .rows) (s .columns) a k) calls (run i b calls)
+
+unfoldable pub strikesOf : Implementation → Shape → List ℕ → List Call → ℕ → List ℕ → ℕ
+strikesOf i s b calls k a = acceptedOf (strikesClass (s .rows) (s .columns) a k) calls (run i b calls)
+
+abbrev pub holdingOf : Implementation → Shape → List ℕ → List Call → ℕ → List ℕ → ℕ
+holdingOf i s b calls k a = entersOf i s b calls k a - strikesOf i s b calls k a
 
 unfoldable pub live : Implementation → Shape → List ℕ → List Call → List ℕ → Bool
-live i s b calls a = liveAfter (s .rows) (s .columns) a false calls (run i b calls)
+live i s b calls a = some (λ k. ltb (strikesOf i s b calls k a) (entersOf i s b calls k a)) (tabulate 1 clients (λ k. k))
 
 abbrev pub Once : List (List ℕ) → Type 0
 Once [] = Unit {0}
@@ -73,10 +90,13 @@ pub record AfterOpen (i : Implementation) (s : Shape) (b : List ℕ) (calls : Li
   pub counts-pruned : (low high : List ℕ) → prunedFor s low high .number ≡ 0 →
       i .counts (left i b calls) (prunedFor s low high .low) (prunedFor s low high .high)
       ≡ record { number = 0; place = length (select (inBounds (gridSize s) (s .top) low high) classes); bytes = left i b calls }
-  -- two lists leave equal bytes exactly when the same classes are live
-  pub bytes-live : (slice′ : List ℕ) → i .opens s slice′ .number ≡ 0 → (calls′ : List Call) →
+  -- no client's accepted strikes of a class outnumber its accepted enters, and the bytes state what it holds: the accepted enters less the accepted strikes
+  pub covered : (a : List ℕ) → length a ≡ gridSize s → (k : ℕ) → 1 ≤ k → k ≤ clients → strikesOf i s b calls k a ≤ entersOf i s b calls k a
+  pub holdings : (a : List ℕ) → length a ≡ gridSize s → (k : ℕ) → 1 ≤ k → k ≤ clients → heldBy k (leastIn s a) (decode (left i b calls) .entries) ≡ holdingOf i s b calls k a
+  -- two lists leave equal bytes exactly when every client's holding of every class is the same
+  pub bytes-holdings : (slice′ : List ℕ) → i .opens s slice′ .number ≡ 0 → (calls′ : List Call) →
       (left i b calls ≡ left i (i .opens s slice′ .bytes) calls′)
-      ↔ ((a : List ℕ) → length a ≡ gridSize s → live i s b calls a ≡ live i s (i .opens s slice′ .bytes) calls′ a)
+      ↔ ((a : List ℕ) → length a ≡ gridSize s → (k : ℕ) → 1 ≤ k → k ≤ clients → holdingOf i s b calls k a ≡ holdingOf i s (i .opens s slice′ .bytes) calls′ k a)
 
 pub record Demand3 (i : Implementation) : Type 0 where
   -- an open whose questions all get a yes answers 0 and place 0, and leaves the machine's bytes for the empty set

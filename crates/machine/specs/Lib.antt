@@ -7,3 +7,4 @@ pub mod Machine
 pub mod Demand1
 pub mod Demand3
 pub mod BothCounts
+pub mod Holdings

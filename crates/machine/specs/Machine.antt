@@ -1,12 +1,14 @@
 -- The plain machine of demand 3. It is fed the calls' arguments, the register excepted, and none of their answers.
--- Its four numbers are a parameter; its state is a set of classes: the least grid of each, once, in no particular order.
+-- Its four numbers are a parameter; its state is a set of classes with their holdings: the least grid of each, once, in no particular order.
 --
---   sorted l              ==  the grids of l, ascending
+--   sorted l              ==  the entries of l, their grids ascending
 --   shown s l             ==  the machine's bytes
 --   Step                  ==  the number, the place or count, and the set afterwards
 --   stepUnless k l t      ==  the first no, with which nothing changes, unless it is 0: then t
---   enterClass s l r      ==  enter of the class of the least grid r: held, 101; else capacity classes held, 9; else it is added
---   strikeClass l r       ==  strike of it: held, it is removed; else 10
+--   put r h l             ==  the set with the holdings h for the class of the least grid r; where all are 0, without it
+--   entering, striking    ==  the set after client c's enter of it, after its strike
+--   enterClass s l c r    ==  client c's enter of the class: in the set, 16 where this client holds 999, else 101; else capacity classes in it, 9; else 0
+--   strikeClass l c r     ==  client c's strike of it: 10 where this client holds none, else 0
 --   countClasses s l low high  ==  count: the classes whose least grid lies in the bounds
 --   step s l c            ==  one call; a terminal's enter is an enter with question 14 asked first
 --   outcome s t           ==  a step's answer, and the bytes that the machine then shows
@@ -20,55 +22,67 @@ use Rattle.permutations.specs.Lists.{select}
 use Rattle.grids.specs.Questions.{firstNo, question14}
 use Rattle.bounds.specs.Bounds.{inBounds}
 use Rattle.bounds.specs.Prune.{boundsQuestions}
-use Rattle.layout.specs.Layout.{Shape, gridSize, layout}
-use Rattle.machine.specs.Calls.{Outcome, gridQuestions, leastIn, holds, placeIn, insert, without}
+use Rattle.layout.specs.Layout.{Shape, Entry, mostHeld, gridsOf, gridSize, layout, someHeld}
+use Rattle.machine.specs.Calls.{Outcome, clientQuestions, leastIn, holds, holdingsIn, heldBy, more, fewer, placeIn, insert, without}
 use Rattle.machine.specs.CallLists.{Call, enter, strike, countIn, terminalEnter}
 
-unfoldable pub sorted : List (List ℕ) → List (List ℕ)
+unfoldable pub sorted : List Entry → List Entry
 sorted [] = []
-sorted (x ∷ l) = insert x (sorted l)
+sorted (e ∷ l) = insert e (sorted l)
 
-unfoldable pub shown : Shape → List (List ℕ) → List ℕ
+unfoldable pub shown : Shape → List Entry → List ℕ
 shown s l = layout (record { shape = s; entries = sorted l })
 
 pub record Step : Type 0 where
   pub number : ℕ
   pub place : ℕ
-  pub next : List (List ℕ)
+  pub next : List Entry
 
-unfoldable pub stepUnless : ℕ → List (List ℕ) → Step → Step
+unfoldable pub stepUnless : ℕ → List Entry → Step → Step
 stepUnless zero l t = t
 stepUnless (suc k) l t = record { number = suc k; place = 0; next = l }
 
-unfoldable pub enterClass : Shape → List (List ℕ) → List ℕ → Step
-enterClass s l r =
-    elim (holds r l) [
-      | true ↦ record { number = 101; place = placeIn l r; next = l }
+unfoldable pub put : List ℕ → List ℕ → List Entry → List Entry
+put r h l = elim (someHeld h) [ true ↦ record { grid = r; holdings = h } ∷ without r l | false ↦ without r l ]
+
+abbrev pub entering : List Entry → ℕ → List ℕ → List Entry
+entering l c r = put r (more c (holdingsIn r l)) l
+
+abbrev pub striking : List Entry → ℕ → List ℕ → List Entry
+striking l c r = put r (fewer c (holdingsIn r l)) l
+
+unfoldable pub enterClass : Shape → List Entry → ℕ → List ℕ → Step
+enterClass s l c r =
+    elim (holds r (gridsOf l)) [
+      | true ↦ elim (ltb (heldBy c r l) mostHeld) [
+        | true ↦ record { number = 101; place = placeIn (gridsOf l) r; next = entering l c r }
+        | false ↦ record { number = 16; place = 0; next = l }
+      ]
       | false ↦ elim (ltb (length l) (s .capacity)) [
-        | true ↦ record { number = 0; place = placeIn l r; next = r ∷ l }
+        | true ↦ record { number = 0; place = placeIn (gridsOf l) r; next = entering l c r }
         | false ↦ record { number = 9; place = 0; next = l }
       ]
     ]
 
-unfoldable pub strikeClass : List (List ℕ) → List ℕ → Step
-strikeClass l r =
-    elim (holds r l) [
-      | true ↦ record { number = 0; place = placeIn l r; next = without r l }
+unfoldable pub strikeClass : List Entry → ℕ → List ℕ → Step
+strikeClass l c r =
+    elim (ltb 0 (heldBy c r l)) [
+      | true ↦ record { number = 0; place = placeIn (gridsOf l) r; next = striking l c r }
       | false ↦ record { number = 10; place = 0; next = l }
     ]
 
-unfoldable pub countClasses : Shape → List (List ℕ) → List ℕ → List ℕ → Step
-countClasses s l low high = record { number = 0; place = length (select (inBounds (gridSize s) (s .top) low high) l); next = l }
+unfoldable pub countClasses : Shape → List Entry → List ℕ → List ℕ → Step
+countClasses s l low high = record { number = 0; place = length (select (inBounds (gridSize s) (s .top) low high) (gridsOf l)); next = l }
 
-unfoldable pub step : Shape → List (List ℕ) → Call → Step
-step s l (enter g) = stepUnless (firstNo (gridQuestions s g)) l (enterClass s l (leastIn s g))
-step s l (strike g) = stepUnless (firstNo (gridQuestions s g)) l (strikeClass l (leastIn s g))
+unfoldable pub step : Shape → List Entry → Call → Step
+step s l (enter c g) = stepUnless (firstNo (clientQuestions s c g)) l (enterClass s l c (leastIn s g))
+step s l (strike c g) = stepUnless (firstNo (clientQuestions s c g)) l (strikeClass l c (leastIn s g))
 step s l (countIn low high) = stepUnless (firstNo (boundsQuestions (gridSize s) (s .top) low high)) l (countClasses s l low high)
-step s l (terminalEnter g) = stepUnless (firstNo (question14 (s .rows) ∷ gridQuestions s g)) l (enterClass s l (leastIn s g))
+step s l (terminalEnter c g) = stepUnless (firstNo (question14 (s .rows) ∷ clientQuestions s c g)) l (enterClass s l c (leastIn s g))
 
 unfoldable pub outcome : Shape → Step → Outcome
 outcome s t = record { number = t .number; place = t .place; bytes = shown s (t .next) }
 
-unfoldable pub outcomes : Shape → List (List ℕ) → List Call → List Outcome
+unfoldable pub outcomes : Shape → List Entry → List Call → List Outcome
 outcomes s l [] = []
 outcomes s l (c ∷ calls) = outcome s (step s l c) ∷ outcomes s (step s l c .next) calls

@@ -3,10 +3,10 @@
 --   Valid size n b              ==  b is a valid register, with n entries of so many cells
 --   numbersNo s                 ==  the first no of questions 1 to 4
 --   openNo s length             ==  the first no of open's questions, of a slice of that length
---   asked b g                   ==  the first no of questions 5, 6 and 7 of enter and strike
---   terminalAsked b g           ==  the first no of questions 5, 14, 6 and 7 of a terminal's enter
---   enteredLeast b r            ==  the outcome of entering the grid r, least of its class, into the register b
---   struckLeast b r             ==  the outcome of striking it
+--   asked b c g                 ==  the first no of questions 5, 6, 7 and 15 of enter and strike
+--   terminalAsked b c g         ==  the first no of questions 5, 14, 6, 7 and 15 of a terminal's enter
+--   enteredLeast b c r          ==  the outcome of client c's entering the grid r, least of its class, into the register b
+--   struckLeast b c r           ==  the outcome of its striking it
 use mathlib.Core.Path.{_≡_}
 use mathlib.Core.List.{List, [], _∷_}
 use mathlib.Core.Bool.{true}
@@ -14,7 +14,7 @@ use Prim.Native.Nat.{ℕ}
 use lib.Dec.{eqb}
 use Rattle.grids.specs.Questions.{firstNo, question1, question2, question3, question14, afterFirst}
 use Rattle.layout.specs.Layout.{Shape, gridSize, layoutLength, count, decodeShape, decode, laidOut}
-use Rattle.machine.specs.Calls.{Outcome, answered, question4, question5, gridQuestions, question9, question10, enterInto, strikeFrom}
+use Rattle.machine.specs.Calls.{Outcome, answered, question4, question5, clientQuestions, question9, question10, question16, enterInto, strikeFrom}
 
 unfoldable pub numbersNo : Shape → ℕ
 numbersNo s = firstNo (question1 (s .rows) ∷ question2 (s .columns) ∷ question3 (s .top) ∷ question4 (s .capacity) ∷ [])
@@ -28,14 +28,14 @@ pub record Valid (size n : ℕ) (b : List ℕ) : Type 0 where
   pub sized : size ≡ gridSize (decodeShape b)
   pub counts : n ≡ count b
 
-unfoldable pub asked : List ℕ → List ℕ → ℕ
-asked b g = firstNo (question5 b ∷ gridQuestions (decode b .shape) g)
+unfoldable pub asked : List ℕ → ℕ → List ℕ → ℕ
+asked b c g = firstNo (question5 b ∷ clientQuestions (decode b .shape) c g)
 
-unfoldable pub terminalAsked : List ℕ → List ℕ → ℕ
-terminalAsked b g = firstNo (afterFirst (question14 (decode b .shape .rows)) (question5 b ∷ gridQuestions (decode b .shape) g))
+unfoldable pub terminalAsked : List ℕ → ℕ → List ℕ → ℕ
+terminalAsked b c g = firstNo (afterFirst (question14 (decode b .shape .rows)) (question5 b ∷ clientQuestions (decode b .shape) c g))
 
-unfoldable pub enteredLeast : List ℕ → List ℕ → Outcome
-enteredLeast b r = answered (firstNo (question9 (decode b) r ∷ [])) b (enterInto b (decode b) r)
+unfoldable pub enteredLeast : List ℕ → ℕ → List ℕ → Outcome
+enteredLeast b c r = answered (firstNo (question9 (decode b) r ∷ question16 (decode b) c r ∷ [])) b (enterInto (decode b) c r)
 
-unfoldable pub struckLeast : List ℕ → List ℕ → Outcome
-struckLeast b r = answered (firstNo (question10 (decode b) r ∷ [])) b (strikeFrom (decode b) r)
+unfoldable pub struckLeast : List ℕ → ℕ → List ℕ → Outcome
+struckLeast b c r = answered (firstNo (question10 (decode b) c r ∷ [])) b (strikeFrom (decode b) c r)

@@ -147,18 +147,23 @@ pub extern "C" fn plan_register_open(
     opening::open_register(m, n, top, capacity, register)
 }
 
+// Enters the class of a grid for a client. 0: its entry is new, and this client alone holds it, once. 101: its entry was there, and this
+// client's holding is written, 1 higher. 15: the client is not 1 to 8. 9: nobody holds the class, and the register is full. 16: this
+// client's holding is 999 already.
 #[no_mangle]
-pub extern "C" fn plan_register_enter(register: &mut [u8], grid: &[u8]) -> Placed
-    ensures { λ r. ⌜ placed (r .number) (r .place) (now (register .exit)) ≡ entered (now (register .entry)) (now (grid .entry)) ⌝ }
+pub extern "C" fn plan_register_enter(register: &mut [u8], client: usize, grid: &[u8]) -> Placed
+    ensures { λ r. ⌜ placed (r .number) (r .place) (now (register .exit)) ≡ entered (now (register .entry)) client (now (grid .entry)) ⌝ }
 {
-    entering::enter(register, grid)
+    entering::enter(register, client, grid)
 }
 
+// Strikes the class of a grid for a client. 0: this client's holding is written, 1 lower, or where nobody holds the class then its entry
+// is taken out. 15: the client is not 1 to 8. 10: this client holds none.
 #[no_mangle]
-pub extern "C" fn plan_register_strike(register: &mut [u8], grid: &[u8]) -> Placed
-    ensures { λ r. ⌜ placed (r .number) (r .place) (now (register .exit)) ≡ struck (now (register .entry)) (now (grid .entry)) ⌝ }
+pub extern "C" fn plan_register_strike(register: &mut [u8], client: usize, grid: &[u8]) -> Placed
+    ensures { λ r. ⌜ placed (r .number) (r .place) (now (register .exit)) ≡ struck (now (register .entry)) client (now (grid .entry)) ⌝ }
 {
-    striking::strike(register, grid)
+    striking::strike(register, client, grid)
 }
 
 #[no_mangle]
@@ -194,9 +199,14 @@ pub extern "C" fn plan_register_terminal_same(
     terminal_exported_match(terminal_same::same(m, n, top, a, b))
 }
 
+// The same as plan_register_enter at a terminal, and 14: the register has 6 to 8 rows.
 #[no_mangle]
-pub extern "C" fn plan_register_terminal_enter(register: &mut [u8], grid: &[u8]) -> Placed
-    ensures { λ r. ⌜ placed (r .number) (r .place) (now (register .exit)) ≡ terminalEntered (now (register .entry)) (now (grid .entry)) ⌝ }
+pub extern "C" fn plan_register_terminal_enter(
+    register: &mut [u8],
+    client: usize,
+    grid: &[u8],
+) -> Placed
+    ensures { λ r. ⌜ placed (r .number) (r .place) (now (register .exit)) ≡ terminalEntered (now (register .entry)) client (now (grid .entry)) ⌝ }
 {
-    terminal_entering::enter(register, grid)
+    terminal_entering::enter(register, client, grid)
 }

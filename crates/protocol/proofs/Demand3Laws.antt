@@ -8,7 +8,7 @@ use mathlib.Core.Path.{_≡_, refl, sym, ap, ap₂, _∙_}
 use mathlib.Core.List.{List, [], _∷_, _++_}
 use Prim.Native.Nat.{ℕ, zero, suc}
 use lib.ListN.{length, replicate, length-replicate}
-use Rattle.layout.specs.Layout.{Shape, layoutLength, count}
+use Rattle.layout.specs.Layout.{Shape, Entry, layoutLength, count}
 use Rattle.machine.specs.Calls.{Outcome, opened}
 use Rattle.machine.specs.CallLists.{Call, Implementation, registerCalls, run, left}
 use Rattle.machine.specs.Machine.{shown, step, outcome}
@@ -23,7 +23,7 @@ use Rattle.protocol.specs.Demand3.{replies, inputCalls, PrintsCalls, Pri
 use Rattle.protocol.proofs.StartLaws.{start-limits}
 use Rattle.protocol.proofs.RunLaws.{start-refused, register-shown, transcript-ends, set-calls, reports-replies}
 
-pub left-follows : (i : Implementation) (s : Shape) (calls : List Call) (l : List (List ℕ)) → Follows i s l → left i (shown s l) calls ≡ shown s (afterwards s l calls)
+pub left-follows : (i : Implementation) (s : Shape) (calls : List Call) (l : List Entry) → Follows i s l → left i (shown s l) calls ≡ shown s (afterwards s l calls)
 unfolding left afterwards outcome
 left-follows i s [] l f = refl
 left-follows i s (c ∷ calls) l f =
@@ -62,7 +62,7 @@ prints-demand3 p h = record { refuses = λ input k e. h input ∙ start-refused 
 -- the calls as specs/Calls has them meet demand 3
 own : Demand3 registerCalls
 unfolding registerCalls
-own = demand3 registerCalls (record { opens = λ s b. refl; enters = λ b g. refl; strikes = λ b g. refl; counts = λ b low high. refl; terminalEnters = λ b g. refl })
+own = demand3 registerCalls (record { opens = λ s b. refl; enters = λ b c g. refl; strikes = λ b c g. refl; counts = λ b low high. refl; terminalEnters = λ b c g. refl })
 
 pub demand3-prints : (p : Printing) → PrintsDemand3 p → Prints p
 unfolding Prints

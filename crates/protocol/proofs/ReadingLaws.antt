@@ -19,14 +19,14 @@ use Rattle.grids.specs.Questions.{firstNo}
 use Rattle.bounds.specs.Prune.{Pruned, pruneQuestions, pruned}
 use Rattle.bounds.proofs.BoundsLaws.{bounds-pass}
 use Rattle.bounds.proofs.PruneLaws.{PruneCase, refused, some, none, prune-case, prune-asked, some-decides, pruned-refused, pruned-some, pruned-none, pruned-is-bounds}
-use Rattle.layout.specs.Layout.{Shape, gridSize}
+use Rattle.layout.specs.Layout.{Shape, Entry, gridSize}
 use Rattle.machine.specs.CallLists.{enter, strike, countIn, registerCalls}
 use Rattle.machine.specs.Machine.{shown, Step, stepUnless, countClasses, step, outcome}
 use Rattle.machine.specs.Demand3.{prunedFor}
 use Rattle.machine.proofs.MachineLaws.{Good, step-good}
 use Rattle.machine.proofs.CountLaws.{same-inside}
 use Rattle.machine.proofs.Demand3Laws.{call-same}
-use Rattle.protocol.specs.Input.{commandIn, cellsIn, isLaid}
+use Rattle.protocol.specs.Input.{commandIn, clientIn, cellsIn, isLaid}
 use Rattle.protocol.specs.Commands.{countOf, boundsStep, commandStep, answerStep, malformed, answer}
 use Rattle.protocol.specs.Readings.{Reading, says, calls, afterPrune, readCommand, readBy, readLine, commandOf, answeredBy}
 use Rattle.protocol.proofs.CommandLaws.{CommandLaid, inTurn, laid-command, laid-exactly, parted-in-turn}
@@ -34,7 +34,7 @@ use Rattle.protocol.proofs.ReportLaws.{step-answer, malformed-answer}
 
 -- ---- the lines of commands
 
-pub by-command : (m n top : ℕ) (line : List ℕ) → isLaid (m * n) line ≡ true → readBy m n top line ≡ readCommand m n top (commandIn line) (cellsIn (m * n) line)
+pub by-command : (m n top : ℕ) (line : List ℕ) → isLaid (m * n) line ≡ true → readBy m n top line ≡ readCommand m n top (commandIn line) (clientIn line) (cellsIn (m * n) line)
 unfolding readBy
 by-command m n top line e = rw (e, readBy)
 
@@ -43,27 +43,27 @@ unfolding readBy
 by-none m n top line e = rw (e, readBy)
 
 module _ (s : Shape) {line : List ℕ} where
-  laid-read : {k : ℕ} {c : List ℕ} → CommandLaid (gridSize s) k c line → readLine s line ≡ readCommand (s .rows) (s .columns) (s .top) k c
-  laid-read {k} {c} o =
+  laid-read : {k client : ℕ} {c : List ℕ} → CommandLaid (gridSize s) k client c line → readLine s line ≡ readCommand (s .rows) (s .columns) (s .top) k client c
+  laid-read {k} {client} {c} o =
       let q = laid-command o in
-      by-command (s .rows) (s .columns) (s .top) line (laid-exactly (gridSize s) line .1 (k, c, o)) ∙ rw (q .0, q .1) refl
+      by-command (s .rows) (s .columns) (s .top) line (laid-exactly (gridSize s) line .1 (k, client, c, o)) ∙ rw (q .0, q .1, q .2) refl
 
-  pub enter-read : {g : List ℕ} → CommandLaid (gridSize s) 1 g line → readLine s line ≡ calls 1 (enter g)
+  pub enter-read : {c : ℕ} {g : List ℕ} → CommandLaid (gridSize s) 1 c g line → readLine s line ≡ calls 1 (enter c g)
   unfolding readCommand
   enter-read o = laid-read o
 
-  pub strike-read : {g : List ℕ} → CommandLaid (gridSize s) 2 g line → readLine s line ≡ calls 2 (strike g)
+  pub strike-read : {c : ℕ} {g : List ℕ} → CommandLaid (gridSize s) 2 c g line → readLine s line ≡ calls 2 (strike c g)
   unfolding readCommand
   strike-read o = laid-read o
 
-  pub bounds-read : (low high : List ℕ) → length low ≡ gridSize s → length high ≡ gridSize s → CommandLaid (gridSize s) 3 (inTurn low high) line →
+  pub bounds-read : (low high : List ℕ) → length low ≡ gridSize s → length high ≡ gridSize s → CommandLaid (gridSize s) 3 0 (inTurn low high) line →
       readLine s line ≡ afterPrune 3 (pruned (s .rows) (s .columns) (s .top) low high)
   unfolding readCommand
   bounds-read low high e f o = let q = parted-in-turn (gridSize s) low high e f in laid-read o ∙ rw (q .0, q .1) refl
 
 -- ---- the machine's steps
 
-unfoldable pub stepOf : Shape → List (List ℕ) → Reading → Step
+unfoldable pub stepOf : Shape → List Entry → Reading → Step
 stepOf s l (says k x) = record { number = x; place = 0; next = l }
 stepOf s l (calls k c) = step s l c
 
@@ -86,16 +86,16 @@ after-command k p = go (p .number) refl
     go zero e = rw (prune-calls k p e) refl
     go (suc j) e = rw (prune-says k j p e) refl
 
-pub command-of : (m n top k : ℕ) (c : List ℕ) → commandOf (readCommand m n top k c) ≡ k
+pub command-of : (m n top k client : ℕ) (c : List ℕ) → commandOf (readCommand m n top k client c) ≡ k
 unfolding readCommand commandOf
-command-of m n top k c = go (eqb k 1) refl (eqb k 2) refl
+command-of m n top k client c = go (eqb k 1) refl (eqb k 2) refl
   where
-    go : (t : Bool) → eqb k 1 ≡ t → (u : Bool) → eqb k 2 ≡ u → commandOf (readCommand m n top k c) ≡ k
+    go : (t : Bool) → eqb k 1 ≡ t → (u : Bool) → eqb k 2 ≡ u → commandOf (readCommand m n top k client c) ≡ k
     go true e u f = rw (e, readCommand) refl
     go false e true f = rw (e, f, readCommand) refl
     go false e false f = rw (e, f, readCommand) (after-command k _)
 
-module _ (s : Shape) (l : List (List ℕ)) (g : Good s l) where
+module _ (s : Shape) (l : List Entry) (g : Good s l) where
   pub step-of-good : (r : Reading) → Good s (stepOf s l r .next)
   unfolding stepOf
   step-of-good (says k x) = g
@@ -129,11 +129,11 @@ module _ (s : Shape) (l : List (List ℕ)) (g : Good s l) where
         go (none e h) =
             rw (prune-says k 101 (prunedFor s low high) (ap (λ (p : Pruned). p .number) (pruned-none (s .rows) (s .columns) (s .top) low high e h)), asked 0 e, refuted _ (some-decides (s .rows) (s .columns) (s .top) low high) h, countOf) refl
 
-  command-stepped : (k : ℕ) (c : List ℕ) → stepOf s l (readCommand (s .rows) (s .columns) (s .top) k c) ≡ commandStep s l k c
+  command-stepped : (k client : ℕ) (c : List ℕ) → stepOf s l (readCommand (s .rows) (s .columns) (s .top) k client c) ≡ commandStep s l k client c
   unfolding readCommand commandStep stepOf
-  command-stepped k c = go (eqb k 1) refl (eqb k 2) refl
+  command-stepped k client c = go (eqb k 1) refl (eqb k 2) refl
     where
-      go : (t : Bool) → eqb k 1 ≡ t → (u : Bool) → eqb k 2 ≡ u → stepOf s l (readCommand (s .rows) (s .columns) (s .top) k c) ≡ commandStep s l k c
+      go : (t : Bool) → eqb k 1 ≡ t → (u : Bool) → eqb k 2 ≡ u → stepOf s l (readCommand (s .rows) (s .columns) (s .top) k client c) ≡ commandStep s l k client c
       go true e u f = rw (e, readCommand, commandStep) refl
       go false e true f = rw (e, f, readCommand, commandStep) refl
       go false e false f = rw (e, f, readCommand, commandStep) (bounds-stepped k _ _)
@@ -145,5 +145,5 @@ module _ (s : Shape) (l : List (List ℕ)) (g : Good s l) where
       go : (t : Bool) → isLaid (gridSize s) line ≡ t → answer s l line ≡ answerStep (commandOf (readLine s line)) (stepOf s l (readLine s line))
       go true e =
           let c = cellsIn (gridSize s) line in
-          step-answer s l line e ∙ sym (rw (by-command (s .rows) (s .columns) (s .top) line e, command-of (s .rows) (s .columns) (s .top) (commandIn line) c, command-stepped (commandIn line) c) refl)
+          step-answer s l line e ∙ sym (rw (by-command (s .rows) (s .columns) (s .top) line e, command-of (s .rows) (s .columns) (s .top) (commandIn line) (clientIn line) c, command-stepped (commandIn line) (clientIn line) c) refl)
       go false e = malformed-answer s l line e ∙ sym (rw (by-none (s .rows) (s .columns) (s .top) line e) refl)

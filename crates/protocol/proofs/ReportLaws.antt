@@ -14,7 +14,7 @@ use mathlib.Core.List.{List, [], _∷_}
 use mathlib.Core.Bool.{Bool, true, false}
 use Prim.Native.Nat.{ℕ, zero, suc, _*_, _≤_, _<_}
 use native.Mathlib.Omega.{arith}
-use lib.ListN.{length, getD, length-append}
+use lib.ListN.{length, getD, length-append, length-map}
 use lib.Dec.{eqb}
 use Rattle.permutations.specs.Lists.{select}
 use Rattle.permutations.proofs.SelectLaws.{length-select}
@@ -25,14 +25,14 @@ use Rattle.bounds.specs.Kept.{obeyed}
 use Rattle.bounds.specs.Allperm.{allperm}
 use Rattle.bounds.specs.Prune.{boundsQuestions}
 use Rattle.bounds.proofs.PruneLaws.{prune-small, prune-asked}
-use Rattle.layout.specs.Layout.{Shape, gridSize, numberAt}
+use Rattle.layout.specs.Layout.{Shape, Entry, gridsOf, gridSize, numberAt}
 use Rattle.layout.proofs.LayoutLaws.{length-ended, fields-read}
 use Rattle.machine.specs.Calls.{placeIn}
 use Rattle.machine.specs.CallLists.{Call, enter, strike}
 use Rattle.machine.specs.Machine.{Step, stepUnless, countClasses, step}
 use Rattle.machine.proofs.MachineLaws.{Good}
 use Rattle.machine.proofs.StepLaws.{step-answers}
-use Rattle.protocol.specs.Input.{commandIn, cellsIn, isLaid}
+use Rattle.protocol.specs.Input.{commandIn, clientIn, cellsIn, isLaid}
 use Rattle.protocol.specs.Commands.{countOf, boundsStep, commandStep, report, answerStep, malformed, answer}
 use Rattle.protocol.specs.Transcript.{reports}
 use Rattle.protocol.proofs.CommandLaws.{CommandLaid, inTurn, laid-command, laid-exactly, parted-in-turn}
@@ -57,36 +57,36 @@ report-states k x p a b c = record { command = read 0 (omega arith) a; number = 
 
 -- ---- the answers
 
-pub step-answer : (s : Shape) (l : List (List ℕ)) (line : List ℕ) → isLaid (gridSize s) line ≡ true →
-    answer s l line ≡ answerStep (commandIn line) (commandStep s l (commandIn line) (cellsIn (gridSize s) line))
+pub step-answer : (s : Shape) (l : List Entry) (line : List ℕ) → isLaid (gridSize s) line ≡ true →
+    answer s l line ≡ answerStep (commandIn line) (commandStep s l (commandIn line) (clientIn line) (cellsIn (gridSize s) line))
 unfolding answer
 step-answer s l line e = rw (e, answer)
 
-pub malformed-answer : (s : Shape) (l : List (List ℕ)) (line : List ℕ) → isLaid (gridSize s) line ≡ false → answer s l line ≡ malformed l
+pub malformed-answer : (s : Shape) (l : List Entry) (line : List ℕ) → isLaid (gridSize s) line ≡ false → answer s l line ≡ malformed l
 unfolding answer
 malformed-answer s l line e = rw (e, answer)
 
 -- the answer to the line of a command with its cells
-laid-answer : (s : Shape) (l : List (List ℕ)) {k : ℕ} {c line : List ℕ} → CommandLaid (gridSize s) k c line → answer s l line ≡ answerStep k (commandStep s l k c)
-laid-answer s l {k} {c} {line} o =
+laid-answer : (s : Shape) (l : List Entry) {k client : ℕ} {c line : List ℕ} → CommandLaid (gridSize s) k client c line → answer s l line ≡ answerStep k (commandStep s l k client c)
+laid-answer s l {k} {client} {c} {line} o =
     let q = laid-command o in
-    step-answer s l line (laid-exactly (gridSize s) line .1 (k, c, o)) ∙ rw (q .0, q .1) refl
+    step-answer s l line (laid-exactly (gridSize s) line .1 (k, client, c, o)) ∙ rw (q .0, q .1, q .2) refl
 
-module _ (s : Shape) (l : List (List ℕ)) {line : List ℕ} where
-  pub enter-answer : {g : List ℕ} → CommandLaid (gridSize s) 1 g line → answer s l line ≡ answerStep 1 (step s l (enter g))
+module _ (s : Shape) (l : List Entry) {line : List ℕ} where
+  pub enter-answer : {c : ℕ} {g : List ℕ} → CommandLaid (gridSize s) 1 c g line → answer s l line ≡ answerStep 1 (step s l (enter c g))
   unfolding commandStep
   enter-answer o = laid-answer s l o
 
-  pub strike-answer : {g : List ℕ} → CommandLaid (gridSize s) 2 g line → answer s l line ≡ answerStep 2 (step s l (strike g))
+  pub strike-answer : {c : ℕ} {g : List ℕ} → CommandLaid (gridSize s) 2 c g line → answer s l line ≡ answerStep 2 (step s l (strike c g))
   unfolding commandStep
   strike-answer o = laid-answer s l o
 
-  pub bounds-answer : (low high : List ℕ) → length low ≡ gridSize s → length high ≡ gridSize s → CommandLaid (gridSize s) 3 (inTurn low high) line →
+  pub bounds-answer : (low high : List ℕ) → length low ≡ gridSize s → length high ≡ gridSize s → CommandLaid (gridSize s) 3 0 (inTurn low high) line →
       answer s l line ≡ answerStep 3 (boundsStep s l low high)
   unfolding commandStep
   bounds-answer low high e f o = let q = parted-in-turn (gridSize s) low high e f in laid-answer s l o ∙ rw (q .0, q .1) refl
 
-pub length-answer : (s : Shape) (l : List (List ℕ)) (line : List ℕ) → length (answer s l line .printed) ≡ 19
+pub length-answer : (s : Shape) (l : List Entry) (line : List ℕ) → length (answer s l line .printed) ≡ 19
 unfolding answerStep malformed
 length-answer s l line = go (isLaid (gridSize s) line) refl
   where
@@ -94,7 +94,7 @@ length-answer s l line = go (isLaid (gridSize s) line) refl
     go true e = rw (step-answer s l line e) (length-report _ _ _)
     go false e = rw (malformed-answer s l line e) (length-report 0 12 0)
 
-pub length-reports : (s : Shape) (l : List (List ℕ)) (ls : List (List ℕ)) → length (reports s l ls) ≡ 19 * length ls
+pub length-reports : (s : Shape) (l : List Entry) (ls : List (List ℕ)) → length (reports s l ls) ≡ 19 * length ls
 unfolding reports
 length-reports s l [] = refl
 length-reports s l (line ∷ ls) =
@@ -102,11 +102,11 @@ length-reports s l (line ∷ ls) =
 
 -- ---- the numbers fit their fields
 
-module _ (s : Shape) (l : List (List ℕ)) (g : Good s l) where
-  few : (t : List ℕ → Bool) → length (select t l) ≤ 500
-  few t = omega (arith, length-select t l, g .fits, g .limits .capacity-limits)
+module _ (s : Shape) (l : List Entry) (g : Good s l) where
+  few : (t : List ℕ → Bool) → length (select t (gridsOf l)) ≤ 500
+  few t = omega (arith, length-select t (gridsOf l), length-map l (λ (e : Entry). e .grid), g .fits, g .limits .capacity-limits)
 
-  place-few : (r : List ℕ) → placeIn l r < 1000000
+  place-few : (r : List ℕ) → placeIn (gridsOf l) r < 1000000
   unfolding placeIn
   place-few r = omega (arith, few (λ x. less x r))
 
@@ -121,6 +121,8 @@ module _ (s : Shape) (l : List (List ℕ)) (g : Good s l) where
     full = (omega arith, omega arith);
     not-held = (omega arith, omega arith);
     rows-no = (omega arith, omega arith);
+    client-no = (omega arith, omega arith);
+    most = (omega arith, omega arith);
     done = λ r. (omega arith, place-few r);
     held = λ r. (omega arith, place-few r);
     counted = λ t. (omega arith, omega (arith, few t));
@@ -141,24 +143,24 @@ module _ (s : Shape) (l : List (List ℕ)) (g : Good s l) where
       go true e = rw (e, countOf) (omega arith, omega (arith, few (inBounds (gridSize s) (s .top) low high)))
       go false e = rw (e, countOf) (omega arith, omega arith)
 
-  pub command-small : (k : ℕ) (c : List ℕ) → Small (commandStep s l k c)
+  pub command-small : (k client : ℕ) (c : List ℕ) → Small (commandStep s l k client c)
   unfolding commandStep
-  command-small k c = go (eqb k 1) refl (eqb k 2) refl
+  command-small k client c = go (eqb k 1) refl (eqb k 2) refl
     where
-      go : (t : Bool) → eqb k 1 ≡ t → (u : Bool) → eqb k 2 ≡ u → Small (commandStep s l k c)
-      go true e u f = rw (e, commandStep) (step-small (enter c))
-      go false e true f = rw (e, f, commandStep) (step-small (strike c))
+      go : (t : Bool) → eqb k 1 ≡ t → (u : Bool) → eqb k 2 ≡ u → Small (commandStep s l k client c)
+      go true e u f = rw (e, commandStep) (step-small (enter client c))
+      go false e true f = rw (e, f, commandStep) (step-small (strike client c))
       go false e false f = rw (e, f, commandStep) (bounds-small _ _)
 
 -- ---- what is stated
 
-pub malformed-states : (s : Shape) (l : List (List ℕ)) (line : List ℕ) → isLaid (gridSize s) line ≡ false → ReportStates 0 12 0 (answer s l line .printed)
+pub malformed-states : (s : Shape) (l : List Entry) (line : List ℕ) → isLaid (gridSize s) line ≡ false → ReportStates 0 12 0 (answer s l line .printed)
 unfolding malformed
 malformed-states s l line e = rw (malformed-answer s l line e) (report-states 0 12 0 (omega arith) (omega arith) (omega arith))
 
-pub answer-states : (s : Shape) (l : List (List ℕ)) → Good s l → (k : ℕ) (c line : List ℕ) → CommandLaid (gridSize s) k c line →
-    ReportStates k (commandStep s l k c .number) (commandStep s l k c .place) (answer s l line .printed)
+pub answer-states : (s : Shape) (l : List Entry) → Good s l → (k client : ℕ) (c line : List ℕ) → CommandLaid (gridSize s) k client c line →
+    ReportStates k (commandStep s l k client c .number) (commandStep s l k client c .place) (answer s l line .printed)
 unfolding answerStep
-answer-states s l g k c line o =
-    let f = command-small s l g k c in
+answer-states s l g k client c line o =
+    let f = command-small s l g k client c in
     rw (laid-answer s l o) (report-states k _ _ (omega (arith, o .command)) (f .0) (f .1))

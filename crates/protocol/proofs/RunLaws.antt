@@ -22,8 +22,9 @@ use lib.ListN.{length, take, drop, length-append, length-drop}
 use lib.Seq.{take-all, length-take-le}
 use Rattle.permutations.specs.Lists.{select}
 use Rattle.permutations.proofs.SelectLaws.{select-yes, select-no}
-use Rattle.layout.specs.Layout.{Shape, gridSize, layoutLength, laidOut}
+use Rattle.layout.specs.Layout.{Shape, Entry, gridSize, layoutLength, laidOut}
 use Rattle.layout.proofs.LayoutLaws.{length-layout}
+use Rattle.layout.proofs.RegisterLaws.{register-sized}
 use Rattle.machine.specs.CallLists.{Call}
 use Rattle.machine.specs.Machine.{shown, outcome, outcomes}
 use Rattle.machine.proofs.MachineLaws.{Good, empty-good, registerOf, good-register, laid, afterwards, afterwards-good}
@@ -40,12 +41,12 @@ use Rattle.protocol.proofs.StartLaws.{over-limit, start-pass, start-lim
 
 -- ---- lines that are not laid
 
-pub malformed-leaves : (s : Shape) (l ls : List (List ℕ)) → setAfter s l ls ≡ setAfter s l (select (isLaid (gridSize s)) ls)
+pub malformed-leaves : (s : Shape) (l : List Entry) (ls : List (List ℕ)) → setAfter s l ls ≡ setAfter s l (select (isLaid (gridSize s)) ls)
 unfolding setAfter select malformed
 malformed-leaves s l [] = refl
 malformed-leaves s l (line ∷ ls) = go (λ k. malformed-leaves s k ls) (isLaid (gridSize s) line) refl
   where
-    go : ((k : List (List ℕ)) → setAfter s k ls ≡ setAfter s k (select (isLaid (gridSize s)) ls)) → (t : Bool) → isLaid (gridSize s) line ≡ t →
+    go : ((k : List Entry) → setAfter s k ls ≡ setAfter s k (select (isLaid (gridSize s)) ls)) → (t : Bool) → isLaid (gridSize s) line ≡ t →
         setAfter s l (line ∷ ls) ≡ setAfter s l (select (isLaid (gridSize s)) (line ∷ ls))
     go ih true e = ih (answer s l line .next) ∙ ap (setAfter s l) (sym (select-yes (isLaid (gridSize s)) line ls e))
     go ih false e = rw (malformed-answer s l line e) (ih l) ∙ ap (setAfter s l) (sym (select-no (isLaid (gridSize s)) line ls e))
@@ -66,7 +67,7 @@ transcript-ends input e = ap (λ (n : ℕ). printedFrom n input) e ∙ ap (λ (n
 
 -- ---- the lines by their calls
 
-module _ (s : Shape) (l : List (List ℕ)) (r : Reading) (cs : List Call) where
+module _ (s : Shape) (l : List Entry) (r : Reading) (cs : List Call) where
   -- the machine's set and outcomes where a line read as r comes before other calls
   made-afterwards : afterwards s l (madeBy r ++ cs) ≡ afterwards s (stepOf s l r .next) cs
   unfolding madeBy afterwards stepOf
@@ -86,7 +87,7 @@ module _ (s : Shape) (l : List (List ℕ)) (r : Reading) (cs : List Call) where
       go (says k x) = refl
       go (calls k c) = refl
 
-pub set-calls : (s : Shape) (ls l : List (List ℕ)) → Good s l → setAfter s l ls ≡ afterwards s l (madeIn s ls)
+pub set-calls : (s : Shape) (ls : List (List ℕ)) (l : List Entry) → Good s l → setAfter s l ls ≡ afterwards s l (madeIn s ls)
 unfolding setAfter afterwards madeIn flatMap answerStep
 set-calls s [] l g = refl
 set-calls s (line ∷ ls) l g =
@@ -95,7 +96,7 @@ set-calls s (line ∷ ls) l g =
     ∙ set-calls s ls (stepOf s l r .next) (step-of-good s l g r)
     ∙ sym (made-afterwards s l r (madeIn s ls))
 
-pub reports-replies : (s : Shape) (ls l : List (List ℕ)) → Good s l → reports s l ls ≡ replies s ls (outcomes s l (madeIn s ls))
+pub reports-replies : (s : Shape) (ls : List (List ℕ)) (l : List Entry) → Good s l → reports s l ls ≡ replies s ls (outcomes s l (madeIn s ls))
 unfolding reports replies madeIn flatMap answerStep
 reports-replies s [] l g = refl
 reports-replies s (line ∷ ls) l g =
@@ -106,12 +107,12 @@ reports-replies s (line ∷ ls) l g =
 
 -- ---- the register printed
 
-pub set-good : (s : Shape) (l ls : List (List ℕ)) → Good s l → Good s (setAfter s l ls)
+pub set-good : (s : Shape) (l : List Entry) (ls : List (List ℕ)) → Good s l → Good s (setAfter s l ls)
 set-good s l ls g = rw (set-calls s ls l g) (afterwards-good s (madeIn s ls) l g)
 
-pub length-shown : (s : Shape) (l : List (List ℕ)) → Good s l → length (shown s l) ≡ layoutLength s
+pub length-shown : (s : Shape) (l : List Entry) → Good s l → length (shown s l) ≡ layoutLength s
 unfolding shown registerOf
-length-shown s l g = let r = good-register s l g in length-layout (registerOf s l) (λ x m. r .entry-grids x m .sized) (r .count-fits)
+length-shown s l g = let r = good-register s l g in length-layout (registerOf s l) (register-sized (registerOf s l) r) (r .count-fits)
 
 module _ (input : List ℕ) (e : startNo input ≡ 0) where
   end-good : Good (shapeIn input) (setAfter (shapeIn input) [] (furtherLines input))

@@ -3,7 +3,7 @@
 --   lows size c, highs size c  ==  the bounds that cells hold in turn: low and high of the first cell, of the second, ..
 --   countOf s l low high  ==  command 3 past its questions: no grid in the bounds has allperm, 102; else the classes whose least grid lies in the bounds as sent
 --   boundsStep s l low high  ==  command 3
---   commandStep s l k c  ==  the command k with the cells c: 1 enter, 2 strike, else command 3; a line that is laid has no other command than 3 then
+--   commandStep s l k client c  ==  the command k with the client and the cells c: 1 enter, 2 strike, else command 3; a line that is laid has no other command than 3 then
 --   report k x p      ==  a printed line: the command k, the number x and the place or count p, each 6 wide, and a line feed
 --   LineAnswer            ==  the printed line, and the machine's set afterwards
 --   answerStep k t    ==  what is printed under the command k for a step of the machine
@@ -19,10 +19,10 @@ use Rattle.grids.specs.Questions.{firstNo}
 use Rattle.bounds.specs.Kept.{obeyed}
 use Rattle.bounds.specs.Allperm.{allperm}
 use Rattle.bounds.specs.Prune.{boundsQuestions}
-use Rattle.layout.specs.Layout.{Shape, gridSize, fields}
+use Rattle.layout.specs.Layout.{Shape, Entry, gridSize, fields}
 use Rattle.machine.specs.CallLists.{enter, strike}
 use Rattle.machine.specs.Machine.{Step, stepUnless, countClasses, step}
-use Rattle.protocol.specs.Input.{commandIn, cellsIn, isLaid}
+use Rattle.protocol.specs.Input.{commandIn, clientIn, cellsIn, isLaid}
 
 unfoldable pub lows : ℕ → List ℕ → List ℕ
 lows size c = tabulate 0 size (λ i. getD c (2 * i) 0)
@@ -30,21 +30,21 @@ lows size c = tabulate 0 size (λ i. getD c (2 * i) 0)
 unfoldable pub highs : ℕ → List ℕ → List ℕ
 highs size c = tabulate 0 size (λ i. getD c (2 * i + 1) 0)
 
-unfoldable pub countOf : Shape → List (List ℕ) → List ℕ → List ℕ → Step
+unfoldable pub countOf : Shape → List Entry → List ℕ → List ℕ → Step
 countOf s l low high =
     elim (obeyed (allperm (s .rows) (s .columns)) (gridSize s) (s .top) low high) [
       | true ↦ countClasses s l low high
       | false ↦ record { number = 102; place = 0; next = l }
     ]
 
-unfoldable pub boundsStep : Shape → List (List ℕ) → List ℕ → List ℕ → Step
+unfoldable pub boundsStep : Shape → List Entry → List ℕ → List ℕ → Step
 boundsStep s l low high = stepUnless (firstNo (boundsQuestions (gridSize s) (s .top) low high)) l (countOf s l low high)
 
-unfoldable pub commandStep : Shape → List (List ℕ) → ℕ → List ℕ → Step
-commandStep s l k c =
+unfoldable pub commandStep : Shape → List Entry → ℕ → ℕ → List ℕ → Step
+commandStep s l k client c =
     elim (eqb k 1) [
-      | true ↦ step s l (enter c)
-      | false ↦ elim (eqb k 2) [ true ↦ step s l (strike c) | false ↦ boundsStep s l (lows (gridSize s) c) (highs (gridSize s) c) ]
+      | true ↦ step s l (enter client c)
+      | false ↦ elim (eqb k 2) [ true ↦ step s l (strike client c) | false ↦ boundsStep s l (lows (gridSize s) c) (highs (gridSize s) c) ]
     ]
 
 unfoldable pub report : ℕ → ℕ → ℕ → List ℕ
@@ -52,17 +52,17 @@ report k x p = fields 6 (k ∷ x ∷ p ∷ []) ++ (10 ∷ [])
 
 pub record LineAnswer : Type 0 where
   pub printed : List ℕ
-  pub next : List (List ℕ)
+  pub next : List Entry
 
 unfoldable pub answerStep : ℕ → Step → LineAnswer
 answerStep k t = record { printed = report k (t .number) (t .place); next = t .next }
 
-unfoldable pub malformed : List (List ℕ) → LineAnswer
+unfoldable pub malformed : List Entry → LineAnswer
 malformed l = record { printed = report 0 12 0; next = l }
 
-unfoldable pub answer : Shape → List (List ℕ) → List ℕ → LineAnswer
+unfoldable pub answer : Shape → List Entry → List ℕ → LineAnswer
 answer s l line =
     elim (isLaid (gridSize s) line) [
-      | true ↦ answerStep (commandIn line) (commandStep s l (commandIn line) (cellsIn (gridSize s) line))
+      | true ↦ answerStep (commandIn line) (commandStep s l (commandIn line) (clientIn line) (cellsIn (gridSize s) line))
       | false ↦ malformed l
     ]

@@ -3,7 +3,7 @@
 --   Reading              ==  no call: the command and the number that are printed, with 0; or a call, and the command that its answer is printed under
 --   prunedCells m n top c  ==  what prune answers and leaves of the bounds that the cells c hold in turn
 --   afterPrune k p       ==  after prune answered and left p: its number, unless it is 0: then a count of the bounds that it left
---   readCommand m n top k c  ==  the command k with the cells c, on a register of m rows, n columns and this top
+--   readCommand m n top k client c  ==  the command k with the client and the cells c, on a register of m rows, n columns and this top
 --   readBy m n top line, readLine s line  ==  a line, by these numbers or by those of s: 12 under command 0 where it is not laid
 --   madeBy r, madeIn s ls  ==  the call that a line makes, if any; the calls of lines, in order
 --   commandOf r          ==  the command that is printed
@@ -16,7 +16,7 @@ use Rattle.bounds.specs.Prune.{Pruned, pruned}
 use Rattle.layout.specs.Layout.{Shape}
 use Rattle.machine.specs.Calls.{Outcome, placed}
 use Rattle.machine.specs.CallLists.{Call, enter, strike, countIn, Implementation, called}
-use Rattle.protocol.specs.Input.{commandIn, cellsIn, isLaid}
+use Rattle.protocol.specs.Input.{commandIn, clientIn, cellsIn, isLaid}
 use Rattle.protocol.specs.Commands.{lows, highs}
 
 pub data Reading : Type 0 where
@@ -33,17 +33,17 @@ afterPrune k p =
       | suc j ↦ says k (suc j)
     ]
 
-unfoldable pub readCommand : ℕ → ℕ → ℕ → ℕ → List ℕ → Reading
-readCommand m n top k c =
+unfoldable pub readCommand : ℕ → ℕ → ℕ → ℕ → ℕ → List ℕ → Reading
+readCommand m n top k client c =
     elim (eqb k 1) [
-      | true ↦ calls k (enter c)
-      | false ↦ elim (eqb k 2) [ true ↦ calls k (strike c) | false ↦ afterPrune k (prunedCells m n top c) ]
+      | true ↦ calls k (enter client c)
+      | false ↦ elim (eqb k 2) [ true ↦ calls k (strike client c) | false ↦ afterPrune k (prunedCells m n top c) ]
     ]
 
 unfoldable pub readBy : ℕ → ℕ → ℕ → List ℕ → Reading
 readBy m n top line =
     elim (isLaid (m * n) line) [
-      | true ↦ readCommand m n top (commandIn line) (cellsIn (m * n) line)
+      | true ↦ readCommand m n top (commandIn line) (clientIn line) (cellsIn (m * n) line)
       | false ↦ says 0 12
     ]
 

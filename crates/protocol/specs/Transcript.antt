@@ -19,7 +19,7 @@ use lib.ListN.{length}
 use lib.Dec.{leb}
 use Rattle.grids.specs.Order.{equal}
 use Rattle.grids.specs.Questions.{Question, firstNo, question1, question2, question3}
-use Rattle.layout.specs.Layout.{Shape, layoutLength, decodeShape}
+use Rattle.layout.specs.Layout.{Shape, Entry, layoutLength, decodeShape}
 use Rattle.machine.specs.Calls.{question4}
 use Rattle.machine.specs.Machine.{shown}
 use Rattle.protocol.specs.Input.{firstLine, furtherLines, shapeLine}
@@ -58,11 +58,11 @@ startNo input = firstNo (startQuestions input)
 
 -- ---- the lines
 
-unfoldable pub reports : Shape → List (List ℕ) → List (List ℕ) → List ℕ
+unfoldable pub reports : Shape → List Entry → List (List ℕ) → List ℕ
 reports s l [] = []
 reports s l (line ∷ ls) = answer s l line .printed ++ reports s (answer s l line .next) ls
 
-unfoldable pub setAfter : Shape → List (List ℕ) → List (List ℕ) → List (List ℕ)
+unfoldable pub setAfter : Shape → List Entry → List (List ℕ) → List Entry
 setAfter s l [] = l
 setAfter s l (line ∷ ls) = setAfter s (answer s l line .next) ls
 

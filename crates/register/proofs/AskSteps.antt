@@ -1,15 +1,17 @@
--- Questions 5, 6 and 7, and a terminal's 5, 14, 6 and 7, from what the code finds to what is asked.
+-- Questions 5, 6, 7 and 15, and a terminal's 5, 14, 6, 7 and 15, from what the code finds to what is asked.
 --
 --   laid-yes          ==  question 5 got a yes
 --   laid-head         ==  a register is longer than line 1
 --   head-rows, head-columns, head-top, head-capacity  ==  line 1 as the code holds it
 --   head-limits, head-size, head-valid  ==  its numbers are within the limits, and the register has them
+--   gridAsks terminal b g  ==  the questions before 15
+--   client-asked      ==  their first no, then question 15
 --   writes-terminal, writes-least  ==  what a terminal's represent writes, and what represent writes
 --   asked-no          ==  question 5 gets a no
 --   asked-5           ==  the first no is then 5
 --   represent-asked   ==  of a register's numbers, and a slice of the right length, represent asks questions 6 and 7
---   represent-first, terminal-represent-first, least-first  ==  its first no, and that of a terminal's represent, is then the first no asked for
---   asked-yes         ==  question 5 gets a yes: what represent answers is the first no, and what it writes the least grid
+--   represent-first, terminal-represent-first, least-first  ==  its first no, and that of a terminal's represent, is then the first no before 15
+--   asked-yes         ==  question 5 gets a yes: what represent answers, and then question 15, is the first no, and what it writes the least grid
 --   entered-by        ==  either enter: these, then the least grid
 --   asked-fits, asked-valid  ==  what is known where each got a yes
 --   call-refused, call-least  ==  a call that asks these first, and then goes by the least grid
@@ -24,7 +26,7 @@ use lib.Seq.{take-at}
 use borrow.Author.Tests.{eq-eqb, not-false}
 use borrow.Rule.Slice.PartMut.{midOf, same-len-mid}
 use Rattle.grids.specs.Least.{least}
-use Rattle.grids.specs.Questions.{firstNo, Limits, question6, question7, question14}
+use Rattle.grids.specs.Questions.{Question, firstNo, Limits, question6, question7, question14, afterFirst}
 use Rattle.grids.proofs.TerminalLaws.{after-yes, after-no, after-stop, terminal-no}
 use Rattle.grids.proofs.QuestionLaws.{firstNo-pass, firstNo-stop, limits-pass, size-fits}
 use Rattle.permutations.specs.Lists.{every}
@@ -35,12 +37,13 @@ use Rattle.layout.specs.Layout.{Shape, layoutLength, decodeShape, decode, laidO
 use Rattle.layout.proofs.LineLaws.{laid-lines}
 use Rattle.lines.specs.declared.head.Head.{Head}
 use Rattle.lines.specs.Head.{States}
-use Rattle.machine.specs.Calls.{Outcome, answered, question5, gridQuestions, leastIn, placed}
+use Rattle.machine.specs.Calls.{Outcome, answered, question5, gridQuestions, clientQuestions, leastIn, placed}
 use Rattle.machine.specs.Valid.{Valid, asked, terminalAsked, enteredLeast}
 use Rattle.machine.proofs.LeastSteps.{answered-refusal, entered-asked, terminal-entered-asked}
 use Rattle.machine.proofs.ValidLaws.{valid-sizes}
 use Rattle.register.specs.declared.asking.Asked.{Asked}
-use Rattle.register.specs.Asked.{leastQuestions, WritesLeast, askedBy, enteredBy, Asks}
+use Rattle.register.specs.Asked.{leastQuestions, WritesLeast, clientNo, askedBy, enteredBy, Asks}
+use Rattle.register.proofs.ClientSteps.{client-passes, client-first}
 
 pub laid-yes : {t : Bool} (b : List ℕ) → t ≡ laidOut b → not t ≡ false → laidOut b ≡ true
 laid-yes {t} b e y = sym e ∙ not-false t y
@@ -49,20 +52,31 @@ pub laid-head : (b : List ℕ) → laidOut b ≡ true → 31 ≤ length b
 unfolding layoutLength
 laid-head b laid = omega (arith, laid-lines b .0 laid .0 .sized)
 
-pub asked-no : {k : ℕ} {b g least : List ℕ} {r : Asked} → k ≡ 5 → length least ≡ 128 → r .number ≡ 5 → Asks k b g least r
+pub asked-no : {k c : ℕ} {b g least : List ℕ} {r : Asked} → k ≡ 5 → length least ≡ 128 → r .number ≡ 5 → Asks k c b g least r
 asked-no e l n = record {
   number-is = n ∙ sym e;
   kept = l;
   valid = λ z. absurd (omega (arith, n, z));
+  client-is = λ z. absurd (omega (arith, n, z));
   capacity-is = λ z. absurd (omega (arith, n, z));
   least-is = λ z. absurd (omega (arith, n, z));
 }
 
 -- question 5 gets a no
-pub asked-5 : (t : Bool) (b g : List ℕ) → laidOut b ≡ false → askedBy t b g ≡ 5
+pub asked-5 : (t : Bool) (b : List ℕ) (c : ℕ) (g : List ℕ) → laidOut b ≡ false → askedBy t b c g ≡ 5
 unfolding asked terminalAsked question5
-asked-5 true b g e = after-stop _ (question5 b) (gridQuestions (decode b .shape) g) e
-asked-5 false b g e = firstNo-stop (question5 b) (gridQuestions (decode b .shape) g) e
+asked-5 true b c g e = after-stop _ (question5 b) (clientQuestions (decode b .shape) c g) e
+asked-5 false b c g e = firstNo-stop (question5 b) (clientQuestions (decode b .shape) c g) e
+
+-- the questions before 15
+abbrev gridAsks : Bool → List ℕ → List ℕ → List Question
+gridAsks true b g = afterFirst (question14 (decode b .shape .rows)) (question5 b ∷ gridQuestions (decode b .shape) g)
+gridAsks false b g = question5 b ∷ gridQuestions (decode b .shape) g
+
+client-asked : (t : Bool) (b : List ℕ) (c : ℕ) (g : List ℕ) → clientNo (firstNo (gridAsks t b g)) c ≡ askedBy t b c g
+unfolding asked terminalAsked clientQuestions gridQuestions afterFirst question5 question6 question7 question14
+client-asked true b c g = client-first (gridAsks true b g) c (omega arith, (omega arith, (omega arith, (omega arith, tt))))
+client-asked false b c g = client-first (gridAsks false b g) c (omega arith, (omega arith, (omega arith, tt)))
 
 -- what represent, or a terminal's represent, writes
 module _ (t : Bool) (m n top : ℕ) (g out : List ℕ) {number : ℕ} {rows columns out′ : List ℕ} where
@@ -98,48 +112,49 @@ module _ {b : List ℕ} {h : Head} (laid : laidOut b ≡ true) (st : States b h)
   pub head-valid : Valid (h .rows * h .columns) (h .count) b
   head-valid = record { laid = laid; sized = ap₂ _*_ head-rows head-columns; counts = st .counts }
 
-  grid-asked : (g : List ℕ) → firstNo (question6 (h .rows * h .columns) (g ∷ []) ∷ question7 (h .top) (g ∷ []) ∷ []) ≡ asked b g
-  unfolding asked gridQuestions decode question5
+  grid-asked : (g : List ℕ) → firstNo (question6 (h .rows * h .columns) (g ∷ []) ∷ question7 (h .top) (g ∷ []) ∷ []) ≡ firstNo (gridAsks false b g)
+  unfolding gridQuestions decode question5
   grid-asked g = rw (head-rows, head-columns, head-top) (sym (firstNo-pass (question5 b) (gridQuestions (decodeShape b) g) laid))
 
-  represent-first : (g out : List ℕ) → length out ≡ h .rows * h .columns → firstNo (representQuestions (h .rows) (h .columns) (h .top) g out) ≡ asked b g
+  represent-first : (g out : List ℕ) → length out ≡ h .rows * h .columns → firstNo (representQuestions (h .rows) (h .columns) (h .top) g out) ≡ firstNo (gridAsks false b g)
   represent-first g out l = represent-asked (h .rows) (h .columns) (h .top) g out head-limits l ∙ grid-asked g
 
-  terminal-represent-first : (g out : List ℕ) → length out ≡ h .rows * h .columns → firstNo (terminalRepresentQuestions (h .rows) (h .columns) (h .top) g out) ≡ terminalAsked b g
-  unfolding terminalRepresentQuestions representQuestions terminalAsked asked decode question14 question5
+  terminal-represent-first : (g out : List ℕ) → length out ≡ h .rows * h .columns → firstNo (terminalRepresentQuestions (h .rows) (h .columns) (h .top) g out) ≡ firstNo (gridAsks true b g)
+  unfolding terminalRepresentQuestions representQuestions decode question14 question5
   terminal-represent-first g out l = go (yes-or-no (question14 (h .rows) .answer))
     where
       go : (question14 (h .rows) .answer ≡ true) ⊎ (question14 (h .rows) .answer ≡ false) →
-          firstNo (terminalRepresentQuestions (h .rows) (h .columns) (h .top) g out) ≡ terminalAsked b g
+          firstNo (terminalRepresentQuestions (h .rows) (h .columns) (h .top) g out) ≡ firstNo (gridAsks true b g)
       go (inl e) = after-yes _ _ e ∙ represent-first g out l ∙ sym (after-yes (question14 (decodeShape b .rows)) _ (rw (← head-rows) e))
       go (inr e) = terminal-no (h .rows) _ e ∙ sym (after-no (question14 (decodeShape b .rows)) (question5 b) _ laid (rw (← head-rows) e))
 
   -- of a register's numbers, and a slice of the right length
-  least-first : (t : Bool) (g out : List ℕ) → length out ≡ h .rows * h .columns → firstNo (leastQuestions t (h .rows) (h .columns) (h .top) g out) ≡ askedBy t b g
+  least-first : (t : Bool) (g out : List ℕ) → length out ≡ h .rows * h .columns → firstNo (leastQuestions t (h .rows) (h .columns) (h .top) g out) ≡ firstNo (gridAsks t b g)
   least-first true g out l = terminal-represent-first g out l
   least-first false g out l = represent-first g out l
 
-  pub asked-yes : (t : Bool) (g out ys : List ℕ) {number : ℕ} → length out ≡ 128 → length ys ≡ length (midOf 0 (h .rows * h .columns - 0) out) →
-      WritesLeast (firstNo (leastQuestions t (h .rows) (h .columns) (h .top) g (midOf 0 (h .rows * h .columns - 0) out))) (h .rows) (h .columns) g number ys →
-      Asks (askedBy t b g) b g (ys ++ drop (h .rows * h .columns - 0) out) (record { number = number; size = h .rows * h .columns; capacity = h .capacity; count = h .count })
+  pub asked-yes : (t : Bool) (c : ℕ) (g out ys : List ℕ) {number k : ℕ} → length out ≡ 128 → length ys ≡ length (midOf 0 (h .rows * h .columns - 0) out) →
+      WritesLeast (firstNo (leastQuestions t (h .rows) (h .columns) (h .top) g (midOf 0 (h .rows * h .columns - 0) out))) (h .rows) (h .columns) g number ys → k ≡ clientNo number c →
+      Asks (askedBy t b c g) c b g (ys ++ drop (h .rows * h .columns - 0) out) (record { number = k; size = h .rows * h .columns; capacity = h .capacity; count = h .count })
   unfolding decode
-  asked-yes t g out ys l k r =
+  asked-yes t c g out ys {number} l e r d =
       let z = part-length out (h .rows * h .columns) (omega (arith, l, head-size)) in
       record {
-        number-is = r .number-is ∙ least-first t g _ z;
-        kept = same-len-mid 0 (h .rows * h .columns - 0) out ys k ∙ l;
+        number-is = d ∙ ap (λ (j : ℕ). clientNo j c) (r .number-is ∙ least-first t g _ z) ∙ client-asked t b c g;
+        kept = same-len-mid 0 (h .rows * h .columns - 0) out ys e ∙ l;
         valid = λ _. head-valid;
+        client-is = λ y. let p = client-passes number c (sym d ∙ y) in (p .1, p .2);
         capacity-is = λ _. head-capacity;
-        least-is = λ e. take-at ys _ (h .rows * h .columns) (k ∙ z) ∙ r .written e ∙ ap₂ (λ (m n : ℕ). least m n g) head-rows head-columns;
+        least-is = λ y. take-at ys _ (h .rows * h .columns) (e ∙ z) ∙ r .written (client-passes number c (sym d ∙ y) .0) ∙ ap₂ (λ (m n : ℕ). least m n g) head-rows head-columns;
       }
 
 -- either enter asks these first
-pub entered-by : (t : Bool) (b g : List ℕ) → enteredBy t b g ≡ answered (askedBy t b g) b (enteredLeast b (leastIn (decode b .shape) g))
-entered-by true b g = terminal-entered-asked b g
-entered-by false b g = entered-asked b g
+pub entered-by : (t : Bool) (b : List ℕ) (c : ℕ) (g : List ℕ) → enteredBy t b c g ≡ answered (askedBy t b c g) b (enteredLeast b c (leastIn (decode b .shape) g))
+entered-by true b c g = terminal-entered-asked b c g
+entered-by false b c g = entered-asked b c g
 
 -- a call that asks these first, and then goes by the least grid
-module _ {j : ℕ} {b g out : List ℕ} {r : Asked} (k : Asks j b g out r) where
+module _ {j c : ℕ} {b g out : List ℕ} {r : Asked} (k : Asks j c b g out r) where
   whole : r .size - 0 ≡ r .size
   whole = omega arith
 

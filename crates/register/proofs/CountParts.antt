@@ -7,13 +7,13 @@ use mathlib.Core.List.{List}
 use mathlib.Core.Bool.{Bool, true}
 use Prim.Native.Nat.{ℕ, _*_, _≤_}
 use native.Mathlib.Omega.{arith}
-use lib.ListN.{length}
+use lib.ListN.{length, length-map}
 use Rattle.permutations.specs.Lists.{select}
 use Rattle.permutations.proofs.SelectLaws.{length-select}
 use Rattle.grids.specs.Questions.{firstNo}
 use Rattle.bounds.specs.Bounds.{IsBounds}
 use Rattle.bounds.specs.Prune.{boundsQuestions}
-use Rattle.layout.specs.Layout.{decodeShape, decode, laidOut}
+use Rattle.layout.specs.Layout.{Entry, gridsOf, decodeShape, decode, laidOut}
 use Rattle.lines.specs.declared.head.Head.{Head}
 use Rattle.lines.specs.Head.{States}
 use Rattle.machine.specs.Valid.{Valid}
@@ -25,5 +25,5 @@ pub count-ready : {b : List ℕ} {h : Head} (laid : laidOut b ≡ true) (st : St
     Valid (length low) (h .count) b × IsBounds (length low) (decodeShape b .top) low high
 count-ready {b} laid st low high found z = (rw (count-sized b low high laid (st .shape) found z) (head-valid laid st), count-bounds b low high laid (st .shape) found z)
 
-pub count-small : {size n : ℕ} {b : List ℕ} → Valid size n b → (t : List ℕ → Bool) {r : ℕ} → r ≡ length (select t (decode b .entries)) → r ≤ 500
-count-small {b = b} k t e = let z = valid-sizes k in omega (arith, e, length-select t (decode b .entries), valid-count k, z .count-fits, z .capacity-fits)
+pub count-small : {size n : ℕ} {b : List ℕ} → Valid size n b → (t : List ℕ → Bool) {r : ℕ} → r ≡ length (select t (gridsOf (decode b .entries))) → r ≤ 500
+count-small {b = b} k t e = let z = valid-sizes k in omega (arith, e, length-select t (gridsOf (decode b .entries)), length-map (decode b .entries) (λ (x : Entry). x .grid), valid-count k, z .count-fits, z .capacity-fits)

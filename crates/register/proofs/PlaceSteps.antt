@@ -20,7 +20,7 @@ use Rattle.grids.specs.Order.{_≼_, _≺_, equal}
 use Rattle.grids.specs.Comparisons.{isEqual, compared}
 use Rattle.grids.proofs.OrderLaws.{equal-eq, eq-equal}
 use Rattle.grids.proofs.ComparisonLaws.{equal-yes, equal-no}
-use Rattle.layout.specs.Layout.{lineLength, decode, Ascends, cellsOf}
+use Rattle.layout.specs.Layout.{gridsOf, lineLength, decode, Ascends, cellsOf}
 use Rattle.layout.specs.Lines.{lineAt, EntryLine}
 use Rattle.layout.proofs.LineLaws.{length-cells}
 use Rattle.machine.specs.Places.{Between}
@@ -38,7 +38,7 @@ module _ {size n : ℕ} {b : List ℕ} (k : Valid size n b) (e w : ℕ) (h : e <
   entry-length x {j} i p = ap length p ∙ length-cells j _ ∙ i
 
   pub entry-compared : (x x′ g : List ℕ) {j : ℕ} {c : Comparison} → j ≡ size → x ≡ cellsOf j (take (31 + e * w + w - (31 + e * w)) (drop (31 + e * w) b)) →
-      c ≡ compared (take (size - 0) (x ++ x′)) g → c ≡ compared (getD (decode b .entries) e []) g
+      c ≡ compared (take (size - 0) (x ++ x′)) g → c ≡ compared (getD (gridsOf (decode b .entries)) e []) g
   entry-compared x x′ g {j} i p d =
       let y : x ≡ cellsOf size (lineAt size b e) = rw (i, entry-part k e w q) at p in
       d ∙ ap (λ (l : List ℕ). compared l g) (part-is x x′ size (entry-length x i p) ∙ y ∙ valid-line k e h .1)

@@ -6,7 +6,7 @@ use validation::question5;
 ghost use mathlib.Core.Path.{_≡_};
 ghost use lib.ListN.{length};
 ghost use Rattle.grids.specs.Questions.{firstNo};
-ghost use Rattle.register.specs.Asked.{leastQuestions, WritesLeast, askedBy, Asks};
+ghost use Rattle.register.specs.Asked.{leastQuestions, WritesLeast, clientNo, askedBy, Asks};
 
 // The first no, or 0; and if it is 0 the register's numbers.
 pub struct Asked {
@@ -38,10 +38,26 @@ fn write_least(terminal: bool, m: usize, n: usize, top: usize, grid: &[u8], out:
     represent::represent(m, n, top, grid, out).number
 }
 
-// Asks questions 5, 6 and 7, at a terminal 5, 14, 6 and 7, and writes the least arrangement of the grid where each gets a yes.
-pub fn ask(register: &[u8], grid: &[u8], least: &mut [u8], terminal: bool) -> Asked
+// Question 15, asked where no question got a no before: the first no, or 0.
+fn client_no(number: u32, client: usize) -> u32
+    ensures { λ r. ⌜ r ≡ clientNo number client ⌝ }
+{
+    if number != 0 {
+        return number;
+    }
+    if client < 1 {
+        return 15;
+    }
+    if 8 < client {
+        return 15;
+    }
+    0
+}
+
+// Asks questions 5, 6, 7 and 15, at a terminal 5, 14, 6, 7 and 15. Where each gets a yes, the least arrangement of the grid is written.
+pub fn ask(register: &[u8], client: usize, grid: &[u8], least: &mut [u8], terminal: bool) -> Asked
     requires { ⌜ length (now least) ≡ 128 ⌝ }
-    ensures { λ r. ⌜ Asks (askedBy terminal (now (register .entry)) (now (grid .entry))) (now (register .entry)) (now (grid .entry)) (now (least .exit)) r ⌝ }
+    ensures { λ r. ⌜ Asks (askedBy terminal (now (register .entry)) client (now (grid .entry))) client (now (register .entry)) (now (grid .entry)) (now (least .exit)) r ⌝ }
 {
     if !question5::is_laid_out(register) {
         return refusal(5);
@@ -57,7 +73,7 @@ pub fn ask(register: &[u8], grid: &[u8], least: &mut [u8], terminal: bool) -> As
         &mut least[0..size],
     );
     Asked {
-        number,
+        number: client_no(number, client),
         size,
         capacity: head.capacity,
         count: head.count,

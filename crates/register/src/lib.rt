@@ -3,6 +3,7 @@ pub mod answers;
 mod asking;
 pub mod counts;
 pub mod entering;
+mod held;
 pub mod opening;
 mod places;
 pub mod striking;

@@ -10,7 +10,7 @@ ghost use lib.ListN.{length, getD};
 ghost use lib.Dec.{ltb};
 ghost use Rattle.grids.specs.Order.{equal};
 ghost use Rattle.grids.specs.Comparisons.{compared};
-ghost use Rattle.layout.specs.Layout.{decode};
+ghost use Rattle.layout.specs.Layout.{gridsOf, decode};
 ghost use Rattle.machine.specs.Places.{Lower, Between};
 ghost use Rattle.machine.specs.Valid.{Valid};
 ghost use Rattle.register.specs.Spans.{Halved};
@@ -18,7 +18,7 @@ ghost use Rattle.register.specs.Spans.{Halved};
 // What comparing the entry of a line with a grid finds.
 fn compare_entry(register: &[u8], e: usize, count: usize, grid: &[u8]) -> Comparison
     requires { ⌜ Valid (length (now grid)) count (now register) × (e < count) ⌝ }
-    ensures { λ r. ⌜ r ≡ compared (getD (decode (now (register .entry)) .entries) e []) (now (grid .entry)) ⌝ }
+    ensures { λ r. ⌜ r ≡ compared (getD (gridsOf (decode (now (register .entry)) .entries)) e []) (now (grid .entry)) ⌝ }
 {
     let size = grid.len();
     let width = entries::line_length(size);
@@ -38,8 +38,8 @@ pub struct Span {
 
 // The half of a span in which the place of the grid is.
 fn halved(register: &[u8], count: usize, span: Span, grid: &[u8]) -> Span
-    requires { ⌜ Valid (length (now grid)) count (now register) × Between (decode (now register) .entries) (now grid) (span .low) (span .high) × (span .low < span .high) ⌝ }
-    ensures { λ r. ⌜ Halved (decode (now (register .entry)) .entries) (now (grid .entry)) span r ⌝ }
+    requires { ⌜ Valid (length (now grid)) count (now register) × Between (gridsOf (decode (now register) .entries)) (now grid) (span .low) (span .high) × (span .low < span .high) ⌝ }
+    ensures { λ r. ⌜ Halved (gridsOf (decode (now (register .entry)) .entries)) (now (grid .entry)) span r ⌝ }
 {
     let middle = span.low + (span.high - span.low) / 2;
     let found = compare_entry(register, middle, count, grid);
@@ -58,7 +58,7 @@ fn halved(register: &[u8], count: usize, span: Span, grid: &[u8]) -> Span
 // How many entries come before the grid, by halving.
 pub fn lower_bound(register: &[u8], count: usize, grid: &[u8]) -> usize
     requires { ⌜ Valid (length (now grid)) count (now register) ⌝ }
-    ensures { λ r. ⌜ Lower (decode (now (register .entry)) .entries) (now (grid .entry)) r ⌝ }
+    ensures { λ r. ⌜ Lower (gridsOf (decode (now (register .entry)) .entries)) (now (grid .entry)) r ⌝ }
 {
     let mut span = Span {
         low: 0,
@@ -73,7 +73,7 @@ pub fn lower_bound(register: &[u8], count: usize, grid: &[u8]) -> usize
 // Whether the entry of a line, if there is one, is the grid.
 pub fn is_entry(register: &[u8], count: usize, e: usize, grid: &[u8]) -> bool
     requires { ⌜ Valid (length (now grid)) count (now register) ⌝ }
-    ensures { λ r. ⌜ r ≡ (ltb e count && equal (getD (decode (now (register .entry)) .entries) e []) (now (grid .entry))) ⌝ }
+    ensures { λ r. ⌜ r ≡ (ltb e count && equal (getD (gridsOf (decode (now (register .entry)) .entries)) e []) (now (grid .entry))) ⌝ }
 {
     if count <= e {
         return false;

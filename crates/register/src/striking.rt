@@ -2,45 +2,61 @@
 use crate::answers;
 use crate::answers::Placed;
 use crate::asking;
+use crate::held;
 use crate::places;
-use lines::entries;
-use lines::numbers;
 ghost use mathlib.Core.Path.{_≡_};
+ghost use mathlib.Core.Bool.{true};
+ghost use Prim.Native.Nat.{_≤_};
 ghost use lib.ListN.{length};
+ghost use Rattle.layout.specs.Layout.{clients};
 ghost use Rattle.machine.specs.Calls.{struck, placed};
 ghost use Rattle.machine.specs.Valid.{Valid, struckLeast};
+ghost use Rattle.register.specs.Sought.{Sought};
 
-// Strikes a grid that is least in its class from a register that is laid out.
-fn strike_least(register: &mut [u8], count: usize, least: &[u8]) -> Placed
-    requires { ⌜ Valid (length (now least)) count (now register) ⌝ }
-    ensures { λ r. ⌜ placed (r .number) (r .place) (now (register .exit)) ≡ struckLeast (now (register .entry)) (now (least .entry)) ⌝ }
+// Strikes a grid that stands at its place: the client's holding goes down by 1, and where nobody holds it then its line is taken out.
+fn strike_held(
+    register: &mut [u8],
+    count: usize,
+    place: usize,
+    client: usize,
+    least: &[u8],
+) -> Placed
+    requires { ⌜ Sought true count place client (now register) (now least) ⌝ }
+    ensures { λ r. ⌜ placed (r .number) (r .place) (now (register .exit)) ≡ struckLeast (now (register .entry)) client (now (least .entry)) ⌝ }
 {
-    let place = places::lower_bound(register, count, least);
-    if !places::is_entry(register, count, place, least) {
+    let held = held::holding(register, count, place, client, least);
+    if held == 0 {
         return answers::refused(10);
     }
-    let size = least.len();
-    let width = entries::line_length(size);
-    let start = 31 + place * width;
-    let moved = (count - (place + 1)) * width;
-    entries::remove_line(&mut register[start..], moved, size);
-    numbers::write_number(&mut register[24..30], count - 1);
+    held::hold(register, count, place, client, least, held - 1);
     Placed {
         number: 0,
         place: place as u32 + 1,
     }
 }
 
-// Strikes the class of a grid: 0 with the place that its entry had. Where a question gets a no: its number with place 0, and the
-// register as it was.
-pub fn strike(register: &mut [u8], grid: &[u8]) -> Placed
-    ensures { λ r. ⌜ placed (r .number) (r .place) (now (register .exit)) ≡ struck (now (register .entry)) (now (grid .entry)) ⌝ }
+// Strikes a grid that is least in its class from a register that is laid out.
+fn strike_least(register: &mut [u8], count: usize, client: usize, least: &[u8]) -> Placed
+    requires { ⌜ Valid (length (now least)) count (now register) × (1 ≤ client) × (client ≤ clients) ⌝ }
+    ensures { λ r. ⌜ placed (r .number) (r .place) (now (register .exit)) ≡ struckLeast (now (register .entry)) client (now (least .entry)) ⌝ }
+{
+    let place = places::lower_bound(register, count, least);
+    if !places::is_entry(register, count, place, least) {
+        return answers::refused(10);
+    }
+    strike_held(register, count, place, client, least)
+}
+
+// Strikes the class of a grid for a client, who then holds it once less: 0 with the place that its entry had. Where a question gets a
+// no: its number with place 0, and the register as it was.
+pub fn strike(register: &mut [u8], client: usize, grid: &[u8]) -> Placed
+    ensures { λ r. ⌜ placed (r .number) (r .place) (now (register .exit)) ≡ struck (now (register .entry)) client (now (grid .entry)) ⌝ }
 {
     let mut least = [0u8; 128];
-    let asked = asking::ask(register, grid, &mut least, false);
+    let asked = asking::ask(register, client, grid, &mut least, false);
     if asked.number != 0 {
         return answers::refused(asked.number);
     }
     let size = asked.size;
-    strike_least(register, asked.count, &least[0..size])
+    strike_least(register, asked.count, client, &least[0..size])
 }

@@ -1,7 +1,8 @@
 -- The key law: a cell's three bytes fit exactly where they are the field of a number of at most top.
 --
---   CellField top a b c       ==  the same by the number: the bytes are the field of the number that they read, and that is at most top
+--   NumberField top a b c     ==  the same by the number: the bytes are the field of the number that they read, and that is at most top
 --   three                     ==  three bytes of a list
+--   read-back                 ==  the bytes of a field read as its number
 --   bytes-field, field-bytes  ==  the two are one
 --   cells-field               ==  so of each cell that is laid out
 --   cells-more                ==  cells at most top are at most 15
@@ -35,27 +36,26 @@ three l i h =
     ap (take 3) (drop-cons l i 0 (omega arith) ∙ ap (λ (t : List ℕ). getD l i 0 ∷ t) (drop-cons l (suc i) 0 (omega arith) ∙ ap (λ (t : List ℕ). getD l (suc i) 0 ∷ t) (drop-cons l (suc (suc i)) 0 (omega arith))))
     ∙ ap₂ (λ (x y : ℕ). getD l i 0 ∷ getD l x 0 ∷ getD l y 0 ∷ []) (omega arith) (omega arith)
 
-unfoldable pub CellField : ℕ → ℕ → ℕ → ℕ → Type 0
-CellField top a b c = ((a ∷ b ∷ c ∷ []) ≡ field 3 (value (a ∷ b ∷ c ∷ []))) × (value (a ∷ b ∷ c ∷ []) ≤ top)
+unfoldable pub NumberField : ℕ → ℕ → ℕ → ℕ → Type 0
+NumberField top a b c = ((a ∷ b ∷ c ∷ []) ≡ field 3 (value (a ∷ b ∷ c ∷ []))) × (value (a ∷ b ∷ c ∷ []) ≤ top)
 
--- the bytes of a field read as its number
-read-back : (top v a b c : ℕ) → top ≤ 15 → v ≤ top → field 3 v ≡ a ∷ b ∷ c ∷ [] → CellField top a b c
-unfolding CellField
+pub read-back : (top v a b c : ℕ) → top ≤ 999 → v ≤ top → field 3 v ≡ a ∷ b ∷ c ∷ [] → NumberField top a b c
+unfolding NumberField
 read-back top v a b c t l e =
     let r : value (a ∷ b ∷ c ∷ []) ≡ v = ap value (sym e) ∙ value-field 2 v (omega arith) in
     (sym e ∙ ap (field 3) (sym r), omega arith)
 
-pub bytes-field : (top a b c : ℕ) → top ≤ 15 → CellBytes top a b c → CellField top a b c
+pub bytes-field : (top a b c : ℕ) → top ≤ 15 → CellBytes top a b c → NumberField top a b c
 unfolding CellBytes One Two
 bytes-field top a b c t (e, inl (q, p, r, m)) =
     let z : 48 + (c - 48) ≡ c = omega arith in
-    read-back top (c - 48) a b c t (omega arith) (rw (e, q) (field-one (c - 48) (omega arith) ∙ ap (λ (x : ℕ). 32 ∷ 32 ∷ x ∷ []) z))
+    read-back top (c - 48) a b c (omega arith) (omega arith) (rw (e, q) (field-one (c - 48) (omega arith) ∙ ap (λ (x : ℕ). 32 ∷ 32 ∷ x ∷ []) z))
 bytes-field top a b c t (e, inr (q, u, p, r)) =
     let z : 38 + (c - 38) ≡ c = omega arith in
-    read-back top (c - 38) a b c t (omega arith) (rw (e, q) (field-two (c - 38) (omega arith) (omega arith) ∙ ap (λ (x : ℕ). 32 ∷ 49 ∷ x ∷ []) z))
+    read-back top (c - 38) a b c (omega arith) (omega arith) (rw (e, q) (field-two (c - 38) (omega arith) (omega arith) ∙ ap (λ (x : ℕ). 32 ∷ 49 ∷ x ∷ []) z))
 
-pub field-bytes : (top a b c : ℕ) → top ≤ 15 → CellField top a b c → CellBytes top a b c
-unfolding CellField CellBytes One Two
+pub field-bytes : (top a b c : ℕ) → top ≤ 15 → NumberField top a b c → CellBytes top a b c
+unfolding NumberField CellBytes One Two
 field-bytes top a b c t (f, l) = go (value (a ∷ b ∷ c ∷ [])) f l (decLt (value (a ∷ b ∷ c ∷ [])) 10)
   where
     go : (v : ℕ) → (a ∷ b ∷ c ∷ []) ≡ field 3 v → v ≤ top → Dec (v < 10) → (a ≡ 32) × (((b ≡ 32) × (48 ≤ c) × (c ≤ 48 + top) × (c ≤ 57)) ⊎ ((b ≡ 49) × (10 ≤ top) × (48 ≤ c) × (c ≤ 38 + top)))
@@ -70,7 +70,7 @@ field-bytes top a b c t (f, l) = go (value (a ∷ b ∷ c ∷ [])) f l (decLt (v
 
 pub cells-field : (top : ℕ) (b : List ℕ) (at n : ℕ) → top ≤ 15 → at + 3 * n ≤ length b → CellsLaid top b at n → (k : ℕ) → k < n →
     (take 3 (drop (at + 3 * k) b) ≡ field 3 (numberAt 3 (at + 3 * k) b)) × (numberAt 3 (at + 3 * k) b ≤ top)
-unfolding CellsLaid CellField numberAt
+unfolding CellsLaid NumberField numberAt
 cells-field top b at n t fits h k l = rw (three b (at + 3 * k) (omega arith)) (bytes-field top _ _ _ t (h k l))
 
 pub cells-more : (top : ℕ) (b : List ℕ) (at n : ℕ) → top ≤ 15 → CellsLaid top b at n → CellsLaid 15 b at n

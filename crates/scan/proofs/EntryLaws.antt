@@ -1,7 +1,7 @@
 -- Laws of the scan of the lines: the ways out of each function.
 --
 --   cells-none, cells-agreed     ==  no cell is laid out; those are that agree with cells that are
---   line-none, line-decides      ==  a line without its line feed, and with it, whose first cells are laid out
+--   line-none, line-not, line-decides  ==  a line without its line feed, one whose holdings are not laid out, and one that has both, whose first cells are laid out
 --   next-not, next-decides       ==  a line that is not laid out, and one that is, compared
 --   lines-none, lines-one, lines-next  ==  no line, the first line, and one line more
 --   lines-first-not, lines-not, lines-all  ==  the first line is not laid out; a further line does not follow; all are passed
@@ -19,6 +19,7 @@ use Rattle.layout.specs.Lines.{lineStart}
 use Rattle.layout.proofs.LineLaws.{start-zero, next-start}
 use Rattle.scan.specs.Cells.{CellBytes, CellsLaid, Same}
 use Rattle.scan.specs.Fits.{allFit}
+use Rattle.scan.specs.Holdings.{HoldingsLaid}
 use Rattle.scan.specs.Lines.{LineLaid, Precedes, Follows, LinesLaid}
 use Rattle.scan.specs.Tables.{Tables}
 use Rattle.scan.proofs.CellLaws.{fit-cells}
@@ -58,11 +59,14 @@ module _ (size top : ℕ) (b : List ℕ) (at length : ℕ) (e : length ≡ lineL
   pub line-none : (getD b (at + length - 1) 0 ≡ 10 → ⊥) → (false ≡ true) ↔ LineLaid size top b at
   line-none f = never (λ h. f (rw e (h .feed)))
 
+  pub line-not : (r : Bool) → (r ≡ true) ↔ HoldingsLaid b (at + 3 * size) → r ≡ false → (false ≡ true) ↔ LineLaid size top b at
+  line-not r d f = never (λ h. true≢false (sym (d .1 (h .holdings-laid)) ∙ f))
+
   pub line-decides : (base teen span : List ℕ) → top ≤ 15 → Tables size top base teen span → ((i : ℕ) → getD b i 0 < 256) →
-      (k : ℕ) (r : Bool) → 1 ≤ at → k ≤ size → CellsLaid top b at k → getD b (at + length - 1) 0 ≡ 10 →
+      (k : ℕ) (r : Bool) → 1 ≤ at → k ≤ size → CellsLaid top b at k → getD b (at + length - 1) 0 ≡ 10 → HoldingsLaid b (at + 3 * size) →
       r ≡ allFit (3 * (size - k)) b (at + 3 * k - 1) base teen span (39 + top) → (r ≡ true) ↔ LineLaid size top b at
-  line-decides base teen span t tables low k r h l front feed f = (
-    λ y. record { feed = rw e at feed; cells-laid = cells-join size top b at k front (others .0 (sym f ∙ y)) l },
+  line-decides base teen span t tables low k r h l front feed held f = (
+    λ y. record { feed = rw e at feed; cells-laid = cells-join size top b at k front (others .0 (sym f ∙ y)) l; holdings-laid = held },
     λ w. f ∙ others .1 (cells-part size top b at k (w .cells-laid) l),
   )
     where

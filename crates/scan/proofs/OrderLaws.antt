@@ -5,7 +5,6 @@
 --   agree-none, agree-more  ==  no byte agrees to begin with, and n more do
 --   agree-less              ==  fewer agree too
 --   same-byte               ==  a byte that agrees, by the place of its cell
---   cells-from              ==  the cells that a line states, by their places in the register
 --   AgreeBelow b p q k      ==  the cells before cell k agree
 --   cells-same, cells-next  ==  cells whose bytes agree, and one cell more
 --   before-here, before-never  ==  the ways out of the comparison
@@ -90,7 +89,8 @@ same-byte b p q n j d s l =
 
 -- ---- two lines
 
-pub cells-from : (size : ℕ) (b : List ℕ) (at : ℕ) → cellsOf size (drop at b) ≡ tabulate 0 size (λ k. numberAt 3 (at + 3 * k) b)
+-- the cells that a line states, by their places in the register
+cells-from : (size : ℕ) (b : List ℕ) (at : ℕ) → cellsOf size (drop at b) ≡ tabulate 0 size (λ k. numberAt 3 (at + 3 * k) b)
 unfolding cellsOf numberAt
 cells-from size b at = tabulate-ext 0 size _ _ (λ k h. ap (λ (l : List ℕ). value (take 3 l)) (drop-drop (3 * k) at b))
 

@@ -1,4 +1,5 @@
 pub mod Cells
 pub mod Fits
+pub mod Holdings
 pub mod Lines
 pub mod Tables

@@ -1,4 +1,5 @@
 // The lines of entries, each by the place of its first byte.
+use crate::holdings;
 use crate::laid;
 use crate::order;
 use crate::tables;
@@ -29,6 +30,9 @@ fn line_laid(
     ensures { λ r. ⌜ ((r ≡ true) ↔ LineLaid size top (now (register .entry)) at) ⌝ }
 {
     if register[at + line_length(size) - 1] != 10 {
+        return false;
+    }
+    if !holdings::holdings_laid(register, at + 3 * size) {
         return false;
     }
     laid::cells_laid(

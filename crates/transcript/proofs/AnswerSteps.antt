@@ -13,7 +13,7 @@ use native.Mathlib.Omega.{arith}
 use lib.ListN.{length, take, drop, length-append, length-drop, drop-of-length-le}
 use lib.Seq.{take-at, drop-at, drop-drop}
 use borrow.Rule.Slice.PartMut.{midOf, putMid}
-use Rattle.layout.specs.Layout.{Shape}
+use Rattle.layout.specs.Layout.{Shape, Entry}
 use Rattle.machine.specs.Calls.{Outcome}
 use Rattle.machine.specs.Machine.{shown, outcome}
 use Rattle.machine.proofs.MachineLaws.{Good, empty-good}
@@ -35,7 +35,7 @@ use Rattle.transcript.proofs.StartSteps.{rest-lines}
 
 -- ---- one line
 
-module _ (s : Shape) (l : List (List ℕ)) (g : Good s l) (line : List ℕ) {b b′ : List ℕ} {r : Report} (e : b ≡ shown s l) (a : Answers (s .rows) (s .columns) (s .top) line b b′ r) where
+module _ (s : Shape) (l : List Entry) (g : Good s l) (line : List ℕ) {b b′ : List ℕ} {r : Report} (e : b ≡ shown s l) (a : Answers (s .rows) (s .columns) (s .top) line b b′ r) where
   -- the report's bytes, what is left of the register, and that the next set is good
   record Line (x : LineAnswer) : Type 0 where
     printed : report (r .command) (r .number) (r .place) ≡ x .printed
@@ -56,7 +56,7 @@ module _ (s : Shape) (l : List (List ℕ)) (g : Good s l) (line : List ℕ) {b b
 -- ---- all lines
 
 pub record Answering (input out b o : List ℕ) (at n : ℕ) : Type 0 where
-  pub set : List (List ℕ)
+  pub set : List Entry
   pub good : Good (shapeIn input) set
   pub register : b ≡ shown (shapeIn input) set
   pub text : List ℕ

@@ -1,5 +1,6 @@
 pub mod FieldLaws
 pub mod PartLaws
+pub mod LeadLaws
 pub mod CommandLaws
 pub mod CallSteps
 pub mod InputSteps

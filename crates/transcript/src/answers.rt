@@ -22,8 +22,9 @@ fn answer_line(line: &[u8], m: usize, n: usize, top: usize, register: &mut [u8])
             place: 0,
         };
     }
+    let client = commands::read_client(line, command);
     let count = commands::cell_count(size, command);
-    let placed = commands::make_call(register, m, n, top, command, &cells[0..count]);
+    let placed = commands::make_call(register, m, n, top, command, client, &cells[0..count]);
     Report {
         command,
         number: placed.number,

@@ -7,13 +7,16 @@ use register::counts;
 use register::entering;
 use register::striking;
 ghost use mathlib.Core.Path.{_≡_};
+ghost use mathlib.Core.Bool.{true};
+ghost use mathlib.Core.Logic.{_↔_};
 ghost use Prim.Native.Nat.{_*_, _≤_};
-ghost use lib.ListN.{length};
+ghost use lib.ListN.{length, take};
+ghost use Rattle.layout.specs.Layout.{fields};
 ghost use Rattle.machine.specs.CallLists.{registerCalls};
 ghost use Rattle.machine.specs.Calls.{placed};
-ghost use Rattle.protocol.specs.Input.{cellCount};
+ghost use Rattle.protocol.specs.Input.{cellCount, leads, leadLength};
 ghost use Rattle.protocol.specs.Readings.{readCommand, answeredBy};
-ghost use Rattle.transcript.specs.Commands.{ReadsCommand, Parts, PrunesParted};
+ghost use Rattle.transcript.specs.Commands.{clientBy, ReadsCommand, Parts, PrunesParted};
 
 // How many cells a command has, of grids with so many.
 pub fn cell_count(size: usize, command: usize) -> usize
@@ -24,6 +27,42 @@ pub fn cell_count(size: usize, command: usize) -> usize
         return 2 * size;
     }
     size
+}
+
+// How many bytes stand before the cells of a command: its field, and the client's but for command 3.
+fn lead_length(command: usize) -> usize
+    ensures { λ r. ⌜ (r ≡ leadLength command) × (6 ≤ r) × (r ≤ 12) ⌝ }
+{
+    if command == 3 {
+        return 6;
+    }
+    12
+}
+
+// The client that a line of a command states; 0 for command 3, which names none.
+pub fn read_client(line: &[u8], command: usize) -> usize
+    requires { ⌜ leadLength command ≤ length (now line) ⌝ }
+    ensures { λ r. ⌜ r ≡ clientBy command (now (line .entry)) ⌝ }
+{
+    if command == 3 {
+        return 0;
+    }
+    numbers::six_wide(line, 6)
+}
+
+// Whether what stands before the cells of a line of a command is laid as it should be.
+fn lead_laid(line: &[u8], command: usize) -> bool
+    requires { ⌜ leadLength command ≤ length (now line) ⌝ }
+    ensures { λ r. ⌜ ((r ≡ true) ↔ (take (leadLength command) (now (line .entry)) ≡ fields 6 (leads command (clientBy command (now (line .entry)))))) ⌝ }
+{
+    if !fields::is_field(&line[0..6], command) {
+        return false;
+    }
+    if command == 3 {
+        return true;
+    }
+    let client = read_client(line, command);
+    fields::is_field(&line[6..12], client)
 }
 
 // The command of a line, with its cells written to the front of a slice; 0 where the line is not laid as it should be.
@@ -41,18 +80,19 @@ pub fn read_command(line: &[u8], size: usize, cells: &mut [u8]) -> usize
     if 3 < command {
         return 0;
     }
+    let lead = lead_length(command);
     let count = cell_count(size, command);
-    let end = 6 + 3 * count;
+    let end = lead + 3 * count;
     if line.len() != end + 1 {
         return 0;
     }
     if line[end] != 10 {
         return 0;
     }
-    if !fields::is_field(&line[0..6], command) {
+    if !lead_laid(line, command) {
         return 0;
     }
-    if !fields::read_cells(&line[6..end], &mut cells[0..count]) {
+    if !fields::read_cells(&line[lead..end], &mut cells[0..count]) {
         return 0;
     }
     command
@@ -91,7 +131,7 @@ fn prune_parted(
 // count stands in the place of a place.
 fn count_pruned(register: &[u8], m: usize, n: usize, top: usize, cells: &[u8]) -> Placed
     requires { ⌜ (m * n ≤ 128) × (length (now cells) ≡ 2 * (m * n)) ⌝ }
-    ensures { λ r. ⌜ placed (r .number) (r .place) (now (register .entry)) ≡ answeredBy registerCalls (now (register .entry)) (readCommand m n top 3 (now (cells .entry))) ⌝ }
+    ensures { λ r. ⌜ placed (r .number) (r .place) (now (register .entry)) ≡ answeredBy registerCalls (now (register .entry)) (readCommand m n top 3 0 (now (cells .entry))) ⌝ }
 {
     let size = m * n;
     let mut low = [0u8; 128];
@@ -107,23 +147,24 @@ fn count_pruned(register: &[u8], m: usize, n: usize, top: usize, cells: &[u8]) -
     }
 }
 
-// Answers a command with its cells, on a register of m rows, n columns and this top.
+// Answers a command with its client and its cells, on a register of m rows, n columns and this top.
 pub fn make_call(
     register: &mut [u8],
     m: usize,
     n: usize,
     top: usize,
     command: usize,
+    client: usize,
     cells: &[u8],
 ) -> Placed
     requires { ⌜ (m * n ≤ 128) × (1 ≤ command) × (command ≤ 3) × (length (now cells) ≡ cellCount (m * n) command) ⌝ }
-    ensures { λ r. ⌜ placed (r .number) (r .place) (now (register .exit)) ≡ answeredBy registerCalls (now (register .entry)) (readCommand m n top command (now (cells .entry))) ⌝ }
+    ensures { λ r. ⌜ placed (r .number) (r .place) (now (register .exit)) ≡ answeredBy registerCalls (now (register .entry)) (readCommand m n top command client (now (cells .entry))) ⌝ }
 {
     if command == 1 {
-        return entering::enter(register, cells);
+        return entering::enter(register, client, cells);
     }
     if command == 2 {
-        return striking::strike(register, cells);
+        return striking::strike(register, client, cells);
     }
     count_pruned(register, m, n, top, cells)
 }

@@ -1,6 +1,6 @@
 -- Faulty programs for count do not meet its contract, nor count bounds as sent and what prune leaves of them alike.
 --
---   book                ==  the bytes of a register of two cells with the entry 1/0, which no call can have written: it has no allperm
+--   book                ==  the bytes of a register of two cells with the entry 1/0, held once, which no call can have written: it has no allperm
 --   kept                ==  what prune leaves of column-low and column-high with its numbers
 --   Computed, computed  ==  what the definitions give
 --   reached, on-reached ==  such a register, reached by an open that takes any bytes; what both counts say of registers reached by calls
@@ -21,7 +21,8 @@ use Rattle.bounds.specs.Kept.{obeyed, keeps, keptValues, lowestFrom, lowest, hi
 use Rattle.bounds.specs.Allperm.{allperm}
 use Rattle.bounds.specs.Prune.{Pruned, question8, boundsQuestions, prunedYes, pruned}
 use Rattle.layout.specs.Decimal.{lead, field, digit, valueFrom, value}
-use Rattle.layout.specs.Layout.{fields, entryWidth, lineLength, entryLine, blankLine, headLine, layout, numberAt, count, entryAt, decodeShape, decode, inLimits, ascending, isRegister, laidOut}
+use Rattle.layout.specs.Layout.{fields, entryWidth, lineLength, entryLine, blankLine, headLine, layout, numberAt, cellsOf, holdingsOf, changed, count, entryAt, decodeShape, decode, inLimits, someHeld, isHoldings, isEntry, ascending, isRegister, laidOut}
+use Rattle.layout.specs.Lines.{firstEntry}
 use Rattle.machine.specs.Calls.{Outcome, answered, question5, countQuestions, entriesIn, countRegister, counted}
 use Rattle.machine.specs.CallLists.{Implementation, Meets, left}
 use Rattle.machine.specs.CountSlices.{Counting, MeetsCount}
@@ -33,7 +34,7 @@ use Rattle.turned_down.proofs.Differences.{unequal}
 use Rattle.turned_down.proofs.RegisterCases.{column, column-low, column-high, plain, counting}
 
 abbrev book : List ℕ
-book = layout (record { shape = column; entries = (1 ∷ 0 ∷ []) ∷ [] })
+book = layout (record { shape = column; entries = firstEntry 1 (1 ∷ 0 ∷ []) ∷ [] })
 
 abbrev kept : Pruned
 kept = prunedFor (decodeShape book) column-low column-high
@@ -50,7 +51,7 @@ record Computed : Type 0 where
   none-one : counted book column-low column-low .place ≡ 1
 
 computed : Computed
-unfolding tabulate numbers select every some occurrences flatten flatMap isPermutation words permutations rank leq less equal capped isGrid row permutedRow firstNo inRange question1 question2 question3 question6 question7 ranksWithin between inBounds fillings gridsWithin obeyed keeps keptValues lowestFrom lowest highestFrom highest keptLow keptHigh allperm question8 boundsQuestions prunedYes pruned lead field digit valueFrom value fields entryWidth lineLength entryLine blankLine headLine layout numberAt count entryAt decodeShape decode inLimits ascending isRegister laidOut answered question5 countQuestions entriesIn countRegister counted
+unfolding tabulate numbers select every some occurrences flatten flatMap isPermutation words permutations rank leq less equal capped isGrid row permutedRow firstNo inRange question1 question2 question3 question6 question7 ranksWithin between inBounds fillings gridsWithin obeyed keeps keptValues lowestFrom lowest highestFrom highest keptLow keptHigh allperm question8 boundsQuestions prunedYes pruned lead field digit valueFrom value fields entryWidth lineLength entryLine blankLine headLine layout numberAt count cellsOf holdingsOf changed entryAt decodeShape decode inLimits someHeld isHoldings isEntry ascending isRegister laidOut answered question5 countQuestions entriesIn countRegister counted
 computed = record {
   sent-number = refl;
   sent-one = refl;

@@ -14,7 +14,7 @@ use Rattle.machine.specs.Calls.{Outcome}
 use Rattle.machine.specs.CallLists.{enter, countIn, called, accepted}
 use Rattle.machine.specs.Machine.{shown}
 use Rattle.machine.specs.Demand1.{Demand1}
-use Rattle.turned_down.specs.RegisterFaults.{OpensNothing, EntersNothing, GrowsSlice, OpenGrowsSlice, CountWrites, HeldWrites, OpenWritesRefusing, OpensCapacity0, AsksCellsFirst, AsksRegisterLast, TrustsBytes}
+use Rattle.turned_down.specs.RegisterFaults.{OpensNothing, EntersNothing, GrowsSlice, OpenGrowsSlice, CountWrites, OpenWritesRefusing, OpensCapacity0, AsksCellsFirst, AsksRegisterLast, TrustsBytes}
 use Rattle.turned_down.specs.TurnedDown.{fault, Turned}
 use Rattle.turned_down.proofs.Differences.{unequal}
 use Rattle.turned_down.proofs.RegisterCases.{cell, zero, one, rowless, roomless, computed, limits, plain, entering, opening-by, counting}
@@ -31,16 +31,16 @@ pub refuses-enters : Turned (fault Demand1 EntersNothing)
 unfolding EntersNothing called accepted
 refuses-enters = record {
   example = plain 9 0;
-  done = λ b g. refl;
-  refused = λ i f d. true≢false (sym (ap (λ (k : ℕ). eqb k 0) (computed .enter-asked)) ∙ sym (d .accepts (shown cell []) (enter zero)) ∙ f (shown cell []) zero);
+  done = λ b c g. refl;
+  refused = λ i f d. true≢false (sym (ap (λ (k : ℕ). eqb k 0) (computed .enter-asked)) ∙ sym (d .accepts (shown cell []) (enter 1 zero)) ∙ f (shown cell []) 1 zero);
 }
 
 pub grows-slice : Turned (fault Demand1 GrowsSlice)
 unfolding GrowsSlice called
 grows-slice = record {
-  example = entering (λ b g. record { number = 0; place = 1; bytes = 0 ∷ b });
-  done = λ b g. refl;
-  refused = λ i f d. let e = f [] zero in let z = d .same-length [] (enter zero) in omega arith;
+  example = entering (λ b c g. record { number = 0; place = 1; bytes = 0 ∷ b });
+  done = λ b c g. refl;
+  refused = λ i f d. let e = f [] 1 zero in let z = d .same-length [] (enter 1 zero) in omega arith;
 }
 
 pub open-grows-slice : Turned (fault Demand1 OpenGrowsSlice)
@@ -57,14 +57,6 @@ count-writes = record {
   example = counting (λ b low high. record { number = 0; place = 0; bytes = [] });
   done = λ x b low high. unequal [] (x ∷ b) refl;
   refused = λ i f d. f 0 [] zero one (d .count-unchanged (0 ∷ []) zero one);
-}
-
-pub held-writes : Turned (fault Demand1 HeldWrites)
-unfolding called equal
-held-writes = record {
-  example = entering (λ b g. record { number = 101; place = 1; bytes = 0 ∷ [] });
-  done = record { before = []; grid = zero; held = refl; changed = unequal (0 ∷ []) [] refl };
-  refused = λ i f d. f .changed (d .held-unchanged (f .before) (enter (f .grid)) (f .held));
 }
 
 pub open-writes-refusing : Turned (fault Demand1 OpenWritesRefusing)
@@ -93,10 +85,10 @@ pub asks-cells-first : Turned (fault Demand1 AsksCellsFirst)
 unfolding AsksCellsFirst called
 asks-cells-first = record {
   example = plain 7 0;
-  done = λ b g h c. refl;
+  done = λ b c g h a. refl;
   refused = λ i f d.
-      let z = f (shown cell []) (2 ∷ 2 ∷ []) (computed .none-laid) (computed .above-top) in
-      let e = ap (λ (x : Outcome). x .number) (d .refuses (shown cell []) (enter (2 ∷ 2 ∷ [])) 5 (computed .length-asked)) in
+      let z = f (shown cell []) 1 (2 ∷ 2 ∷ []) (computed .none-laid) (computed .above-top) in
+      let e = ap (λ (x : Outcome). x .number) (d .refuses (shown cell []) (enter 1 (2 ∷ 2 ∷ [])) 5 (computed .length-asked)) in
       omega arith;
 }
 
@@ -115,6 +107,6 @@ pub trusts-bytes : Turned (fault Demand1 TrustsBytes)
 unfolding TrustsBytes called
 trusts-bytes = record {
   example = plain 0 0;
-  done = λ b g h z. omega arith;
-  refused = λ i f d. f [] zero (computed .nothing-unlaid) (ap (λ (x : Outcome). x .number) (d .refuses [] (enter zero) 4 (computed .nothing-asked)));
+  done = λ b c g h z. omega arith;
+  refused = λ i f d. f [] 1 zero (computed .nothing-unlaid) (ap (λ (x : Outcome). x .number) (d .refuses [] (enter 1 zero) 4 (computed .nothing-asked)));
 }

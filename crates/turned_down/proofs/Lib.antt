@@ -6,10 +6,15 @@ pub mod Represent
 pub mod Same
 pub mod Prune
 pub mod RegisterCases
+pub mod ClientCalls
 pub mod LateEntry
 pub mod Demand3
 pub mod Demand1
 pub mod Count
+pub mod Holdings
+pub mod Clients
+pub mod Changes
+pub mod Live
 pub mod Terminals
 pub mod Planbook
 pub mod TurnedDown

@@ -6,6 +6,11 @@
 --   aboveLine, above      ==  a line that enters a cell above top, and that input with it
 --   unendedLine, unended  ==  a line that lacks only its line feed, and that input with it
 --   emptyLine, empty      ==  a line whose bounds, 1 over 0, hold no grid with allperm, and an input of it for a shape of two cells
+--   secondLine, second    ==  a line by which client 2 enters, and that input with it
+--   ninthLine, ninth      ==  a line that names client 9, and that input with it
+--   strangeLine, strange  ==  one that also has a cell above top
+--   namelessLine, nameless  ==  a line without a client, and that input with it
+--   held                  ==  a shape whose register is too large by its holdings alone
 --   long                  ==  an input of 65,537 bytes
 --   Computed, computed    ==  what the definitions give
 --   lentRegister, lentOut ==  slices that are large enough
@@ -13,6 +18,8 @@
 --   long-no, long-printed ==  it gets 11, and its line is all that is printed
 --   noneCounted, none-counted  ==  a program that prints 0 and a count of 0 under command 3, and that it has the fault
 --   counts-refused-calls  ==  that fault by demand 3 of planbook
+--   namesFirst, names-first  ==  a program that takes the first command line for one of client 1, and that it has the fault
+--   reads-no-client-calls ==  that fault by demand 3 of planbook
 --   The other names are those of the faults.
 use mathlib.Core.Path.{_≡_, refl, sym, ap, _∙_}
 use mathlib.Core.List.{List, [], _∷_, _++_, flatten, flatMap}
@@ -22,19 +29,20 @@ use native.Mathlib.Omega.{arith}
 use lib.ListN.{length, take, drop, replicate, length-replicate, length-drop}
 use Rattle.permutations.specs.Lists.{tabulate, numbers, select, every, some, occurrences}
 use Rattle.permutations.specs.Permutations.{isPermutation, words, permutations}
-use Rattle.grids.specs.Order.{rank, leq, equal}
-use Rattle.grids.specs.Grids.{capped, row, permutedRow}
+use Rattle.grids.specs.Order.{rank, leq, less, equal}
+use Rattle.grids.specs.Grids.{capped, gridOf, row, permutedRow, arrangement}
+use Rattle.grids.specs.Least.{arrangements, lesser, leastOf, least}
 use Rattle.grids.specs.Questions.{firstNo, inRange, question1, question2, question3, question6, question7}
 use Rattle.bounds.specs.Bounds.{ranksWithin, between, fillings, gridsWithin}
 use Rattle.bounds.specs.Kept.{obeyed}
 use Rattle.bounds.specs.Allperm.{allperm}
 use Rattle.bounds.specs.Prune.{question8, boundsQuestions, prunedYes, pruned}
 use Rattle.layout.specs.Decimal.{lead, field, digit, valueFrom, value}
-use Rattle.layout.specs.Layout.{Shape, fields, entryWidth, lineLength, headLine, layout, layoutLength, numberAt, decodeShape, laidOut, cellsOf}
-use Rattle.machine.specs.Calls.{question4, gridQuestions}
+use Rattle.layout.specs.Layout.{Shape, gridSize, fields, entryWidth, lineLength, entryLine, blankLine, headLine, layout, layoutLength, numberAt, cellsOf, holding, changed, decodeShape, someHeld, laidOut}
+use Rattle.machine.specs.Calls.{question4, question15, gridQuestions, clientQuestions, more, holds, holdingsIn, heldBy, placeIn, insert, without}
 use Rattle.machine.specs.CallLists.{accepted}
-use Rattle.machine.specs.Machine.{shown, stepUnless, step}
-use Rattle.protocol.specs.Input.{onto, lines, firstLine, furtherLines, shapeLine, commandLine, cellCount, commandIn, cellsIn, isLaid}
+use Rattle.machine.specs.Machine.{sorted, shown, stepUnless, put, enterClass, step}
+use Rattle.protocol.specs.Input.{onto, lines, firstLine, furtherLines, shapeLine, leads, leadLength, commandLine, cellCount, commandIn, clientIn, cellsIn, isLaid}
 use Rattle.protocol.specs.Commands.{lows, highs, countOf, boundsStep, commandStep, report, answerStep, malformed, answer}
 use Rattle.protocol.specs.Transcript.{shapeIn, question11, question12, question13, startQuestions, startNo, reports, setAfter, registerFrom, printedFrom, transcript}
 use Rattle.protocol.specs.Programs.{Printing, Prints, Transcribed, hasRoom, transcribed, MeetsTranscribe}
@@ -43,7 +51,7 @@ use Rattle.protocol.proofs.StartLaws.{over-limit}
 use Rattle.protocol.proofs.RunLaws.{start-refused}
 use Rattle.protocol.proofs.SliceLaws.{has-room, transcribed-rest}
 use Rattle.protocol.proofs.Demand3Laws.{demand3-prints}
-use Rattle.turned_down.specs.PlanbookFaults.{laidIn, cellsOn, firstStep, prunedOn, GoesOnAfter13, PrintsRegisterAfter11, EndsAtMalformed, PrintsUnderZero, MalformedReaches, RefusesCellsAsMalformed, AsksLengthFirst, SilentWithoutCommands, TakesUnended, CountsRefusedBounds, CountsWithoutRoom, ClearsRest}
+use Rattle.turned_down.specs.PlanbookFaults.{laidIn, cellsOn, firstBy, firstStep, prunedOn, GoesOnAfter13, PrintsRegisterAfter11, EndsAtMalformed, PrintsUnderZero, MalformedReaches, RefusesCellsAsMalformed, AsksLengthFirst, SilentWithoutCommands, TakesUnended, CountsRefusedBounds, ReadsNoClient, RefusesClientAsMalformed, AsksClientFirst, TakesClientless, MeasuresWithoutHoldings, CountsWithoutRoom, ClearsRest}
 use Rattle.turned_down.specs.TurnedDown.{fault, Turned}
 use Rattle.turned_down.proofs.Differences.{unequal}
 use Rattle.turned_down.proofs.RegisterCases.{cell, column}
@@ -62,22 +70,49 @@ abbrev blank : List ℕ
 blank = bare ++ (10 ∷ [])
 
 abbrev aboveLine : List ℕ
-aboveLine = commandLine 1 (2 ∷ [])
+aboveLine = commandLine 1 1 (2 ∷ [])
 
 abbrev above : List ℕ
 above = bare ++ aboveLine
 
 abbrev unendedLine : List ℕ
-unendedLine = field 6 1 ++ field 3 0
+unendedLine = field 6 1 ++ (field 6 1 ++ field 3 0)
 
 abbrev unended : List ℕ
 unended = bare ++ unendedLine
 
 abbrev emptyLine : List ℕ
-emptyLine = commandLine 3 (1 ∷ 1 ∷ 0 ∷ 0 ∷ [])
+emptyLine = commandLine 3 0 (1 ∷ 1 ∷ 0 ∷ 0 ∷ [])
 
 abbrev empty : List ℕ
 empty = shapeLine column ++ emptyLine
+
+abbrev secondLine : List ℕ
+secondLine = commandLine 1 2 (0 ∷ [])
+
+abbrev second : List ℕ
+second = bare ++ secondLine
+
+abbrev ninthLine : List ℕ
+ninthLine = commandLine 1 9 (0 ∷ [])
+
+abbrev ninth : List ℕ
+ninth = bare ++ ninthLine
+
+abbrev strangeLine : List ℕ
+strangeLine = commandLine 2 9 (2 ∷ [])
+
+abbrev strange : List ℕ
+strange = bare ++ strangeLine
+
+abbrev namelessLine : List ℕ
+namelessLine = field 6 1 ++ (fields 3 (0 ∷ []) ++ (10 ∷ []))
+
+abbrev nameless : List ℕ
+nameless = bare ++ namelessLine
+
+abbrev held : Shape
+held = record { rows = 4; columns = 11; top = 0; capacity = 492 }
 
 long : List ℕ
 long = replicate 65537 32
@@ -88,7 +123,7 @@ record Computed : Type 0 where
   large-printed : length (transcript (shapeLine large)) ≡ 19
   nine-length : length (shapeLine nine) ≡ 25
   nine-laid : question12 (shapeLine nine) .answer ≡ true
-  nine-register : layoutLength (shapeIn (shapeLine nine)) ≡ 216531
+  nine-register : layoutLength (shapeIn (shapeLine nine)) ≡ 228531
   nine-printed : equal (report 0 13 0) (transcript (shapeLine nine)) ≡ false
   bare-no : startNo bare ≡ 0
   bare-lines : furtherLines bare ≡ []
@@ -111,6 +146,31 @@ record Computed : Type 0 where
   unended-unlaid : laidIn unended unendedLine ≡ false
   unended-laid : laidIn unended (unendedLine ++ (10 ∷ [])) ≡ true
   unended-printed : take 19 (transcript unended) ≡ report 0 12 0
+  second-no : startNo second ≡ 0
+  second-lines : furtherLines second ≡ secondLine ∷ []
+  second-laid : laidIn second secondLine ≡ true
+  second-printed : equal
+      (report (commandIn secondLine) (firstBy 1 second secondLine .number) (firstBy 1 second secondLine .place) ++ shown (shapeIn second) (firstBy 1 second secondLine .next))
+      (transcript second)
+      ≡ false
+  ninth-no : startNo ninth ≡ 0
+  ninth-lines : furtherLines ninth ≡ ninthLine ∷ []
+  ninth-laid : laidIn ninth ninthLine ≡ true
+  ninth-command : inRange 1 2 (commandIn ninthLine) ≡ true
+  ninth-client : question15 (clientIn ninthLine) .answer ≡ false
+  ninth-printed : equal (report 0 12 0) (take 19 (transcript ninth)) ≡ false
+  strange-no : startNo strange ≡ 0
+  strange-lines : furtherLines strange ≡ strangeLine ∷ []
+  strange-laid : laidIn strange strangeLine ≡ true
+  strange-command : inRange 1 2 (commandIn strangeLine) ≡ true
+  strange-client : question15 (clientIn strangeLine) .answer ≡ false
+  strange-printed : equal (field 6 15) (take 6 (drop 6 (transcript strange))) ≡ false
+  nameless-no : startNo nameless ≡ 0
+  nameless-lines : furtherLines nameless ≡ namelessLine ∷ []
+  nameless-size : gridSize (shapeIn nameless) ≡ 1
+  nameless-printed : take 19 (transcript nameless) ≡ report 0 12 0
+  held-shape : shapeIn (shapeLine held) ≡ held
+  held-printed : transcript (shapeLine held) ≡ report 0 13 0
   empty-no : startNo empty ≡ 0
   empty-lines : furtherLines empty ≡ emptyLine ∷ []
   empty-laid : laidIn empty emptyLine ≡ true
@@ -119,7 +179,7 @@ record Computed : Type 0 where
   empty-printed : equal (fields 6 (3 ∷ 0 ∷ [])) (take 12 (take 19 (transcript empty))) ≡ false
 
 computed : Computed
-unfolding tabulate numbers select every some occurrences flatten flatMap isPermutation words permutations rank leq equal capped row permutedRow firstNo inRange question1 question2 question3 question6 question7 ranksWithin between fillings gridsWithin obeyed allperm question8 boundsQuestions prunedYes pruned lead field digit valueFrom value fields entryWidth lineLength headLine layout layoutLength numberAt decodeShape cellsOf question4 gridQuestions accepted shown stepUnless step onto lines firstLine furtherLines shapeLine commandLine cellCount commandIn cellsIn isLaid lows highs countOf boundsStep commandStep report answerStep malformed answer shapeIn question11 question12 question13 startQuestions startNo reports setAfter registerFrom printedFrom transcript
+unfolding tabulate numbers select every some occurrences flatten flatMap isPermutation words permutations rank leq less equal capped gridOf row permutedRow arrangement arrangements lesser leastOf least firstNo inRange question1 question2 question3 question6 question7 ranksWithin between fillings gridsWithin obeyed allperm question8 boundsQuestions prunedYes pruned lead field digit valueFrom value fields entryWidth lineLength entryLine blankLine headLine layout layoutLength numberAt cellsOf holding changed decodeShape someHeld question4 question15 gridQuestions clientQuestions more holds holdingsIn heldBy placeIn insert without accepted sorted shown stepUnless put enterClass step onto lines firstLine furtherLines shapeLine leads leadLength commandLine cellCount commandIn clientIn cellsIn isLaid lows highs countOf boundsStep commandStep report answerStep malformed answer shapeIn question11 question12 question13 startQuestions startNo reports setAfter registerFrom printedFrom transcript
 computed = record {
   none-printed = refl;
   large-no = refl;
@@ -149,6 +209,28 @@ computed = record {
   unended-unlaid = refl;
   unended-laid = refl;
   unended-printed = refl;
+  second-no = refl;
+  second-lines = refl;
+  second-laid = refl;
+  second-printed = refl;
+  ninth-no = refl;
+  ninth-lines = refl;
+  ninth-laid = refl;
+  ninth-command = refl;
+  ninth-client = refl;
+  ninth-printed = refl;
+  strange-no = refl;
+  strange-lines = refl;
+  strange-laid = refl;
+  strange-command = refl;
+  strange-client = refl;
+  strange-printed = refl;
+  nameless-no = refl;
+  nameless-lines = refl;
+  nameless-size = refl;
+  nameless-printed = refl;
+  held-shape = refl;
+  held-printed = refl;
   empty-no = refl;
   empty-lines = refl;
   empty-laid = refl;
@@ -281,6 +363,72 @@ counts-refused-calls = record {
   example = noneCounted;
   done = none-counted;
   refused = λ p f d. counts-refused-bounds .refused p f (demand3-prints p d);
+}
+
+-- ---- clients and holdings
+
+namesFirst : Printing
+namesFirst input = printedFor (furtherLines input)
+  where
+    printedFor : List (List ℕ) → List ℕ
+    printedFor [] = []
+    printedFor (l ∷ ls) = report (commandIn l) (firstBy 1 input l .number) (firstBy 1 input l .place) ++ shown (shapeIn input) (firstBy 1 input l .next)
+
+names-first : ReadsNoClient namesFirst
+unfolding ReadsNoClient namesFirst
+names-first input l z e h = rw e refl
+
+pub reads-no-client : Turned (fault Prints ReadsNoClient)
+unfolding Prints ReadsNoClient
+reads-no-client = record {
+  example = namesFirst;
+  done = names-first;
+  refused = λ p f d.
+      unequal _ _ (computed .second-printed) (sym (f second _ (computed .second-no) (computed .second-lines) (computed .second-laid)) ∙ d second);
+}
+
+pub reads-no-client-calls : Turned (fault PrintsDemand3 ReadsNoClient)
+reads-no-client-calls = record {
+  example = namesFirst;
+  done = names-first;
+  refused = λ p f d. reads-no-client .refused p f (demand3-prints p d);
+}
+
+pub refuses-client-as-malformed : Turned (fault Prints RefusesClientAsMalformed)
+unfolding Prints RefusesClientAsMalformed report fields field lead flatten
+refuses-client-as-malformed = record {
+  example = λ input. report 0 12 0;
+  done = λ input l ls z e h k c. refl;
+  refused = λ p f d.
+      let e = f ninth _ _ (computed .ninth-no) (computed .ninth-lines) (computed .ninth-laid) (computed .ninth-command) (computed .ninth-client) in
+      unequal _ _ (computed .ninth-printed) (sym e ∙ ap (take 19) (d ninth));
+}
+
+pub asks-client-first : Turned (fault Prints AsksClientFirst)
+unfolding Prints AsksClientFirst report fields field lead flatten
+asks-client-first = record {
+  example = λ input. report 1 15 0;
+  done = λ input l ls z e h k c. refl;
+  refused = λ p f d.
+      let e = f strange _ _ (computed .strange-no) (computed .strange-lines) (computed .strange-laid) (computed .strange-command) (computed .strange-client) in
+      unequal _ _ (computed .strange-printed) (sym e ∙ ap (λ (x : List ℕ). take 6 (drop 6 x)) (d strange));
+}
+
+pub takes-clientless : Turned (fault Prints TakesClientless)
+unfolding Prints TakesClientless report fields field lead flatten equal inRange
+takes-clientless = record {
+  example = λ input. [];
+  done = λ input l k c z e u h n. unequal [] (report 0 12 0) refl;
+  refused = λ p f d.
+      f nameless namelessLine 1 (0 ∷ []) (computed .nameless-no) (computed .nameless-lines) refl refl (sym (computed .nameless-size)) (ap (take 19) (d nameless) ∙ computed .nameless-printed);
+}
+
+pub measures-without-holdings : Turned (fault Prints MeasuresWithoutHoldings)
+unfolding Prints MeasuresWithoutHoldings report fields field lead flatten equal
+measures-without-holdings = record {
+  example = λ input. [];
+  done = λ input h. unequal [] (report 0 13 0) refl;
+  refused = λ p f d. f (shapeLine held) (rw (computed .held-shape) (omega arith)) (d (shapeLine held) ∙ computed .held-printed);
 }
 
 -- ---- the function on slices

@@ -2,6 +2,7 @@
 --
 --   six, five, pair     ==  shapes of 6 rows, of 5 rows, and of a row of two cells
 --   swapped, ordered    ==  the pair's grid 1 0, and its least 0 1
+--   ordered-entry, shared-one  ==  the entry of ordered, which client 1 holds once, and that of one that clients 1 and 2 hold once
 --   Computed, computed  ==  the small cases that show it
 --   six-refused, swapped-enter, zero-enter, one-enter  ==  what an implementation that meets the demands answers
 --   asSent, readBack, storing  ==  a program that stores as sent
@@ -27,10 +28,11 @@ use Rattle.canonical.specs.Programs.{MeetsTerminalRepresent, MeetsTerminalSame}
 use Rattle.canonical.specs.Demand2.{TerminalRepresentLeast}
 use Rattle.canonical.proofs.CallLaws.{represent-pass}
 use Rattle.layout.specs.Decimal.{lead, field, digit, valueFrom, value}
-use Rattle.layout.specs.Layout.{Shape, gridSize, fields, entryWidth, lineLength, entryLine, blankLine, headLine, layout, layoutLength, numberAt, count, entryAt, decodeShape, decode, InLimits, inLimits, ascending, isRegister, laidOut}
-use Rattle.machine.specs.Calls.{Outcome, placed, question5, gridQuestions, holds, question9, placeIn, insert, enterQuestions, terminalEnterQuestions}
+use Rattle.layout.specs.Layout.{Shape, Entry, noHoldings, gridSize, fields, entryWidth, lineLength, entryLine, blankLine, headLine, layout, layoutLength, numberAt, cellsOf, holdingsOf, holding, changed, count, entryAt, decodeShape, decode, InLimits, inLimits, someHeld, isHoldings, isEntry, ascending, isRegister, laidOut}
+use Rattle.layout.specs.Lines.{firstEntry}
+use Rattle.machine.specs.Calls.{Outcome, placed, more, question5, question15, question16, gridQuestions, clientQuestions, holds, holdingsIn, heldBy, question9, placeIn, insert, without, enterQuestions, terminalEnterQuestions}
 use Rattle.machine.specs.CallLists.{terminalEnter, Implementation, called, questionsOf, accepted}
-use Rattle.machine.specs.Machine.{sorted, shown, stepUnless, enterClass, step, outcome}
+use Rattle.machine.specs.Machine.{sorted, shown, stepUnless, put, enterClass, step, outcome}
 use Rattle.machine.specs.Demand1.{Demand1}
 use Rattle.machine.specs.Demand3.{Demand3}
 use Rattle.machine.proofs.FollowLaws.{follows-open}
@@ -39,7 +41,7 @@ use Rattle.turned_down.specs.TerminalFaults.{representing, comparing, As
 use Rattle.turned_down.specs.TurnedDown.{fault, Turned}
 use Rattle.turned_down.proofs.Differences.{unequal}
 use Rattle.turned_down.proofs.Plans.{m5}
-use Rattle.turned_down.proofs.RegisterCases.{cell, zero, one, answer, answers, after-one, plain, entering-at-terminal}
+use Rattle.turned_down.proofs.RegisterCases.{cell, zero, one, zero-entry, one-entry, answer, answers, after-one, plain, entering-at-terminal}
 
 abbrev six : Shape
 six = record { rows = 6; columns = 1; top = 0; capacity = 1 }
@@ -55,6 +57,12 @@ swapped = 1 ∷ 0 ∷ []
 
 abbrev ordered : List ℕ
 ordered = 0 ∷ 1 ∷ []
+
+abbrev ordered-entry : Entry
+ordered-entry = firstEntry 1 ordered
+
+abbrev shared-one : Entry
+shared-one = record { grid = one; holdings = changed 2 1 (changed 1 1 noHoldings) }
 
 record Computed : Type 0 where
   -- the first no of represent and same
@@ -72,20 +80,20 @@ record Computed : Type 0 where
   -- registers
   six-laid : laidOut (shown six []) ≡ true
   six-length : eqb (length zero) (gridSize (decodeShape (shown six []))) ≡ false
-  six-asked : firstNo (questionsOf (shown six []) (terminalEnter zero)) ≡ 14
+  six-asked : firstNo (questionsOf (shown six []) (terminalEnter 1 zero)) ≡ 14
   five-laid : laidOut (shown five []) ≡ true
   five-rows : decodeShape (shown five []) .rows ≡ 5
-  five-asked : firstNo (questionsOf (shown five []) (terminalEnter (replicate 5 0))) ≡ 0
+  five-asked : firstNo (questionsOf (shown five []) (terminalEnter 1 (replicate 5 0))) ≡ 0
   -- steps of the machine
-  swapped-entered : step pair [] (terminalEnter swapped) ≡ answer 0 1 (ordered ∷ [])
-  stored : equal (entryAt (gridSize (decodeShape (shown pair []))) (shown pair (ordered ∷ [])) 0) swapped ≡ false
-  changed : equal (shown pair (ordered ∷ [])) (shown pair []) ≡ false
-  zero-before : step cell (one ∷ []) (terminalEnter zero) ≡ answer 0 1 (zero ∷ one ∷ [])
-  one-counted : count (shown cell (one ∷ [])) ≡ 1
-  one-held : step cell (one ∷ []) (terminalEnter one) ≡ answer 101 1 (one ∷ [])
+  swapped-entered : step pair [] (terminalEnter 1 swapped) ≡ answer 0 1 (ordered-entry ∷ [])
+  stored : equal (entryAt (gridSize (decodeShape (shown pair []))) (shown pair (ordered-entry ∷ [])) 0 .grid) swapped ≡ false
+  changed : equal (shown pair (ordered-entry ∷ [])) (shown pair []) ≡ false
+  zero-before : step cell (one-entry ∷ []) (terminalEnter 1 zero) ≡ answer 0 1 (zero-entry ∷ one-entry ∷ [])
+  one-counted : count (shown cell (one-entry ∷ [])) ≡ 1
+  one-held : step cell (one-entry ∷ []) (terminalEnter 2 one) ≡ answer 101 1 (shared-one ∷ [])
 
 computed : Computed
-unfolding tabulate numbers select every some occurrences flatten flatMap identity isPermutation words permutations rank leq less equal capped isGrid gridOf arrangement arrangements lesser leastOf least firstNo inRange question1 question2 question3 question6 question7 question14 afterFirst representQuestions terminalRepresentQuestions classNumber classAgreed sameQuestions terminalSameQuestions terminalSameNumber terminalSameAgreed lead field digit valueFrom value fields entryWidth lineLength entryLine blankLine headLine layout layoutLength numberAt count entryAt decodeShape decode inLimits ascending isRegister laidOut question5 gridQuestions holds question9 placeIn insert enterQuestions terminalEnterQuestions questionsOf sorted shown stepUnless enterClass step
+unfolding tabulate numbers select every some occurrences flatten flatMap identity isPermutation words permutations rank leq less equal capped isGrid gridOf arrangement arrangements lesser leastOf least firstNo inRange question1 question2 question3 question6 question7 question14 afterFirst representQuestions terminalRepresentQuestions classNumber classAgreed sameQuestions terminalSameQuestions terminalSameNumber terminalSameAgreed lead field digit valueFrom value fields entryWidth lineLength entryLine blankLine headLine layout layoutLength numberAt count cellsOf holdingsOf holding changed entryAt decodeShape decode inLimits someHeld isHoldings isEntry ascending isRegister laidOut more question5 question15 question16 gridQuestions clientQuestions holds holdingsIn heldBy question9 placeIn insert without enterQuestions terminalEnterQuestions questionsOf sorted shown stepUnless put enterClass step
 computed = record {
   six-wide = refl;
   five-fit = refl;
@@ -217,35 +225,35 @@ agrees-with-14 = record {
 
 -- ---- enter, by demand 1
 
-six-refused : (i : Implementation) → Demand1 i → i .terminalEnters (shown six []) zero ≡ record { number = 14; place = 0; bytes = shown six [] }
+six-refused : (i : Implementation) → Demand1 i → i .terminalEnters (shown six []) 1 zero ≡ record { number = 14; place = 0; bytes = shown six [] }
 unfolding called
-six-refused i d = d .refuses (shown six []) (terminalEnter zero) 13 (computed .six-asked)
+six-refused i d = d .refuses (shown six []) (terminalEnter 1 zero) 13 (computed .six-asked)
 
 pub enter-never-14 : Turned (fault Demand1 EnterNever14)
 unfolding EnterNever14
 enter-never-14 = record {
   example = plain 0 0;
-  done = λ b g z. omega arith;
-  refused = λ i f d. f (shown six []) zero (ap (λ (x : Outcome). x .number) (six-refused i d));
+  done = λ b c g z. omega arith;
+  refused = λ i f d. f (shown six []) 1 zero (ap (λ (x : Outcome). x .number) (six-refused i d));
 }
 
 pub enter-refuses-5-rows : Turned (fault Demand1 EnterRefuses5Rows)
 unfolding EnterRefuses5Rows called accepted
 enter-refuses-5-rows = record {
   example = plain 14 0;
-  done = λ b g h r. refl;
+  done = λ b c g h r. refl;
   refused = λ i f d.
-      true≢false (sym (ap (λ (k : ℕ). eqb k 0) (computed .five-asked)) ∙ sym (d .accepts (shown five []) (terminalEnter (replicate 5 0)))
-      ∙ ap accepted (f (shown five []) (replicate 5 0) (computed .five-laid) (computed .five-rows)));
+      true≢false (sym (ap (λ (k : ℕ). eqb k 0) (computed .five-asked)) ∙ sym (d .accepts (shown five []) (terminalEnter 1 (replicate 5 0)))
+      ∙ ap accepted (f (shown five []) 1 (replicate 5 0) (computed .five-laid) (computed .five-rows)));
 }
 
 pub enter-asks-length-first : Turned (fault Demand1 EnterAsksLengthFirst)
 unfolding EnterAsksLengthFirst
 enter-asks-length-first = record {
   example = plain 6 0;
-  done = λ b g h r. refl;
+  done = λ b c g h r. refl;
   refused = λ i f d.
-      let z = f (shown six []) zero (computed .six-laid) (computed .six-length) in
+      let z = f (shown six []) 1 zero (computed .six-laid) (computed .six-length) in
       let e = ap (λ (x : Outcome). x .number) (six-refused i d) in
       omega arith;
 }
@@ -253,9 +261,9 @@ enter-asks-length-first = record {
 pub enter-writes-with-14 : Turned (fault Demand1 EnterWritesWith14)
 unfolding EnterWritesWith14
 enter-writes-with-14 = record {
-  example = entering-at-terminal (λ b g. record { number = 14; place = 0; bytes = 0 ∷ b });
-  done = λ b g z e. let l = ap length e in omega arith;
-  refused = λ i f d. let r = six-refused i d in f (shown six []) zero (ap (λ (x : Outcome). x .number) r) (ap (λ (x : Outcome). x .bytes) r);
+  example = entering-at-terminal (λ b c g. record { number = 14; place = 0; bytes = 0 ∷ b });
+  done = λ b c g z e. let l = ap length e in omega arith;
+  refused = λ i f d. let r = six-refused i d in f (shown six []) 1 zero (ap (λ (x : Outcome). x .number) r) (ap (λ (x : Outcome). x .bytes) r);
 }
 
 -- ---- enter, by demand 3
@@ -267,24 +275,24 @@ pair-limits = record {
 }
 
 module _ (i : Implementation) (d : Demand3 i) where
-  swapped-enter : i .terminalEnters (shown pair []) swapped ≡ placed 0 1 (shown pair (ordered ∷ []))
+  swapped-enter : i .terminalEnters (shown pair []) 1 swapped ≡ placed 0 1 (shown pair (ordered-entry ∷ []))
   unfolding called outcome
-  swapped-enter = answers i pair [] (follows-open i d pair pair-limits) (terminalEnter swapped) _ (computed .swapped-entered)
+  swapped-enter = answers i pair [] (follows-open i d pair pair-limits) (terminalEnter 1 swapped) _ (computed .swapped-entered)
 
-  zero-enter : i .terminalEnters (shown cell (one ∷ [])) zero ≡ placed 0 1 (shown cell (zero ∷ one ∷ []))
+  zero-enter : i .terminalEnters (shown cell (one-entry ∷ [])) 1 zero ≡ placed 0 1 (shown cell (zero-entry ∷ one-entry ∷ []))
   unfolding called outcome
-  zero-enter = answers i cell (one ∷ []) (after-one i d) (terminalEnter zero) _ (computed .zero-before)
+  zero-enter = answers i cell (one-entry ∷ []) (after-one i d) (terminalEnter 1 zero) _ (computed .zero-before)
 
-  one-enter : i .terminalEnters (shown cell (one ∷ [])) one ≡ placed 101 1 (shown cell (one ∷ []))
+  one-enter : i .terminalEnters (shown cell (one-entry ∷ [])) 2 one ≡ placed 101 1 (shown cell (shared-one ∷ []))
   unfolding called outcome
-  one-enter = answers i cell (one ∷ []) (after-one i d) (terminalEnter one) _ (computed .one-held)
+  one-enter = answers i cell (one-entry ∷ []) (after-one i d) (terminalEnter 2 one) _ (computed .one-held)
 
 -- the register with the grid as sent for its only entry, where that can be read back
 asSent : List ℕ → List ℕ → List ℕ
-asSent b g = layout (record { shape = decodeShape b; entries = g ∷ [] })
+asSent b g = layout (record { shape = decodeShape b; entries = firstEntry 1 g ∷ [] })
 
 readBack : List ℕ → List ℕ → Bool
-readBack b g = equal (entryAt (gridSize (decodeShape b)) (asSent b g) 0) g
+readBack b g = equal (entryAt (gridSize (decodeShape b)) (asSent b g) 0 .grid) g
 
 storing : Bool → ℕ
 storing true = 0
@@ -298,21 +306,21 @@ stored-0 false e = absurd (omega arith)
 pub stores-as-sent : Turned (fault Demand3 StoresAsSent)
 unfolding StoresAsSent readBack
 stores-as-sent = record {
-  example = entering-at-terminal (λ b g. record { number = storing (readBack b g); place = 1; bytes = asSent b g });
-  done = λ b g z. equal-eq _ g (stored-0 (readBack b g) z);
+  example = entering-at-terminal (λ b c g. record { number = storing (readBack b g); place = 1; bytes = asSent b g });
+  done = λ b c g z. equal-eq _ g (stored-0 (readBack b g) z);
   refused = λ i f d.
       let r = swapped-enter i d in
-      unequal _ _ (computed .stored) (rw r at (f (shown pair []) swapped (ap (λ (x : Outcome). x .number) r)));
+      unequal _ _ (computed .stored) (rw r at (f (shown pair []) 1 swapped (ap (λ (x : Outcome). x .number) r)));
 }
 
 pub terminal-appends : Turned (fault Demand3 TerminalAppends)
 unfolding TerminalAppends
 terminal-appends = record {
-  example = entering-at-terminal (λ b g. record { number = 0; place = suc (count b); bytes = b });
-  done = λ b g z. refl;
+  example = entering-at-terminal (λ b c g. record { number = 0; place = suc (count b); bytes = b });
+  done = λ b c g z. refl;
   refused = λ i f d.
       let r = zero-enter i d in
-      let last = f (shown cell (one ∷ [])) zero (ap (λ (x : Outcome). x .number) r) in
+      let last = f (shown cell (one-entry ∷ [])) 1 zero (ap (λ (x : Outcome). x .number) r) in
       let first = ap (λ (x : Outcome). x .place) r in
       omega (arith, computed .one-counted);
 }
@@ -321,14 +329,14 @@ pub only-acknowledges : Turned (fault Demand3 OnlyAcknowledges)
 unfolding OnlyAcknowledges
 only-acknowledges = record {
   example = plain 0 1;
-  done = λ b g. refl;
-  refused = λ i f d. unequal _ _ (computed .changed) (sym (ap (λ (x : Outcome). x .bytes) (swapped-enter i d)) ∙ f (shown pair []) swapped);
+  done = λ b c g. refl;
+  refused = λ i f d. unequal _ _ (computed .changed) (sym (ap (λ (x : Outcome). x .bytes) (swapped-enter i d)) ∙ f (shown pair []) 1 swapped);
 }
 
 pub enters-twice : Turned (fault Demand3 EntersTwice)
 unfolding EntersTwice
 enters-twice = record {
   example = plain 0 1;
-  done = λ b g z. omega arith;
-  refused = λ i f d. f (shown cell (one ∷ [])) one (ap (λ (x : Outcome). x .number) (one-enter i d));
+  done = λ b c g z. omega arith;
+  refused = λ i f d. f (shown cell (one-entry ∷ [])) 2 one (ap (λ (x : Outcome). x .number) (one-enter i d));
 }

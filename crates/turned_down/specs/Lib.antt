@@ -3,6 +3,8 @@ pub mod RepresentFaults
 pub mod SameFaults
 pub mod PruneFaults
 pub mod RegisterFaults
+pub mod HoldingFaults
+pub mod LiveFaults
 pub mod TerminalFaults
 pub mod PlanbookFaults
 pub mod TurnedDown

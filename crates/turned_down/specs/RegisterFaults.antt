@@ -21,7 +21,6 @@
 --   GrowsSlice i         ==  enter makes the slice longer
 --   OpenGrowsSlice i     ==  open does
 --   CountWrites i        ==  a count changes the register's bytes
---   HeldWrites i         ==  some enter answers 101 and changes the bytes
 --   OpenWritesRefusing i ==  an open that refuses changes the slice
 --   OpensCapacity0 i     ==  capacity 0 is accepted
 --   AsksCellsFirst i     ==  question 7 before question 6
@@ -43,24 +42,25 @@ use lib.Dec.{eqb}
 use Rattle.grids.specs.Grids.{capped, oneClass}
 use Rattle.grids.specs.Questions.{Limits}
 use Rattle.bounds.specs.Prune.{Pruned}
-use Rattle.layout.specs.Layout.{Shape, gridSize, headLength, lineLength, layoutLength, count, entryAt, decodeShape, decode, InLimits, laidOut}
+use Rattle.layout.specs.Layout.{Shape, gridsOf, gridSize, headLength, lineLength, layoutLength, count, entryAt, decodeShape, decode, InLimits, laidOut}
 use Rattle.machine.specs.Calls.{leastIn, holds, entriesIn}
 use Rattle.machine.specs.CallLists.{Call, Implementation, left, accepted}
 use Rattle.machine.specs.CountSlices.{Counting}
 use Rattle.machine.specs.Demand3.{prunedFor}
 
 unfoldable pub StoresFirst : Implementation → Type 0
-StoresFirst i = (b g : List ℕ) → 1 ≤ count b → i .enters b g .bytes ≡ b
+StoresFirst i = (b : List ℕ) (c : ℕ) (g : List ℕ) → 1 ≤ count b → i .enters b c g .bytes ≡ b
 
 unfoldable pub FullUnlooked : Implementation → Type 0
-FullUnlooked i = (b g : List ℕ) → count b ≡ decodeShape b .capacity → accepted (i .enters b g .number) ≡ false
+FullUnlooked i = (b : List ℕ) (c : ℕ) (g : List ℕ) → count b ≡ decodeShape b .capacity → accepted (i .enters b c g .number) ≡ false
 
 unfoldable pub NotHeldUnlooked : Implementation → Type 0
-NotHeldUnlooked i = (b g : List ℕ) → i .strikes b g .number ≡ 0 → ⊥
+NotHeldUnlooked i = (b : List ℕ) (c : ℕ) (g : List ℕ) → i .strikes b c g .number ≡ 0 → ⊥
 
 unfoldable pub InventsCount : Implementation → Type 0
 InventsCount i =
-    (b g b′ g′ : List ℕ) → i .enters b g .number ≡ 0 → i .enters b′ g′ .number ≡ 0 → count (i .enters b g .bytes) ≡ count (i .enters b′ g′ .bytes)
+    (b : List ℕ) (c : ℕ) (g : List ℕ) (b′ : List ℕ) (c′ : ℕ) (g′ : List ℕ) → i .enters b c g .number ≡ 0 → i .enters b′ c′ g′ .number ≡ 0 →
+    count (i .enters b c g .bytes) ≡ count (i .enters b′ c′ g′ .bytes)
 
 unfoldable pub InventsCounts : Implementation → Type 0
 InventsCounts i =
@@ -74,36 +74,36 @@ AnswersNone i = (b low high : List ℕ) → prunedFor (decodeShape b) low high .
 
 unfoldable pub CountsArrangements : Implementation → Type 0
 CountsArrangements i =
-    (b g r : List ℕ) → holds r (decode b .entries) ≡ true → oneClass (decodeShape b .rows) (decodeShape b .columns) g r ≡ true → 1 ≤ i .counts b g g .place
+    (b g r : List ℕ) → holds r (gridsOf (decode b .entries)) ≡ true → oneClass (decodeShape b .rows) (decodeShape b .columns) g r ≡ true → 1 ≤ i .counts b g g .place
 
 unfoldable pub lastEntry : List ℕ → ℕ
 lastEntry b = headLength + (count b - 1) * lineLength (gridSize (decodeShape b))
 
 unfoldable pub LeavesLastLine : Implementation → Type 0
-LeavesLastLine i = (b g : List ℕ) → i .strikes b g .number ≡ 0 → drop (lastEntry b) (i .strikes b g .bytes) ≡ drop (lastEntry b) b
+LeavesLastLine i = (b : List ℕ) (c : ℕ) (g : List ℕ) → i .strikes b c g .number ≡ 0 → drop (lastEntry b) (i .strikes b c g .bytes) ≡ drop (lastEntry b) b
 
 unfoldable pub AppendsEntries : Implementation → Type 0
-AppendsEntries i = (b g : List ℕ) → i .enters b g .number ≡ 0 → i .enters b g .place ≡ suc (count b)
+AppendsEntries i = (b : List ℕ) (c : ℕ) (g : List ℕ) → i .enters b c g .number ≡ 0 → i .enters b c g .place ≡ suc (count b)
 
 unfoldable pub PlacesFromZero : Implementation → Type 0
-PlacesFromZero i = (b g : List ℕ) → i .enters b g .number ≡ 0 → count b ≡ 0 → i .enters b g .place ≡ 0
+PlacesFromZero i = (b : List ℕ) (c : ℕ) (g : List ℕ) → i .enters b c g .number ≡ 0 → count b ≡ 0 → i .enters b c g .place ≡ 0
 
 unfoldable pub InsertsLate : Implementation → Type 0
 InsertsLate i =
-    (b g : List ℕ) → i .enters b g .number ≡ 0 → 1 ≤ count b → i .enters b g .place ≤ count b →
-    entryAt (gridSize (decodeShape b)) (i .enters b g .bytes) (i .enters b g .place) ≡ leastIn (decodeShape b) g
+    (b : List ℕ) (c : ℕ) (g : List ℕ) → i .enters b c g .number ≡ 0 → 1 ≤ count b → i .enters b c g .place ≤ count b →
+    entryAt (gridSize (decodeShape b)) (i .enters b c g .bytes) (i .enters b c g .place) .grid ≡ leastIn (decodeShape b) g
 
 unfoldable pub OpensNothing : Implementation → Type 0
 OpensNothing i = (s : Shape) (b : List ℕ) → i .opens s b .number ≡ 0 → ⊥
 
 unfoldable pub EntersNothing : Implementation → Type 0
-EntersNothing i = (b g : List ℕ) → accepted (i .enters b g .number) ≡ false
+EntersNothing i = (b : List ℕ) (c : ℕ) (g : List ℕ) → accepted (i .enters b c g .number) ≡ false
 
 unfoldable pub OpensAnySlice : Implementation → Type 0
 OpensAnySlice i = (s : Shape) (b : List ℕ) → InLimits s → (i .opens s b .number ≡ 0) × (length (i .opens s b .bytes) ≡ length b)
 
 unfoldable pub RefusesOwnBytes : Implementation → Type 0
-RefusesOwnBytes i = (b g : List ℕ) → 1 ≤ count b → i .enters b g .number ≡ 5
+RefusesOwnBytes i = (b : List ℕ) (c : ℕ) (g : List ℕ) → 1 ≤ count b → i .enters b c g .number ≡ 5
 
 unfoldable pub OpenWritesRefusing : Implementation → Type 0
 OpenWritesRefusing i = (s : Shape) (x : ℕ) (b : List ℕ) → (i .opens s (x ∷ b) .number ≡ 0 → ⊥) → i .opens s (x ∷ b) .bytes ≡ x ∷ b → ⊥
@@ -113,28 +113,22 @@ OpensCapacity0 i =
     (s : Shape) (b : List ℕ) → Limits (s .rows) (s .columns) (s .top) → s .capacity ≡ 0 → length b ≡ layoutLength s → i .opens s b .number ≡ 0
 
 unfoldable pub AsksCellsFirst : Implementation → Type 0
-AsksCellsFirst i = (b g : List ℕ) → laidOut b ≡ true → capped (decodeShape b .top) g ≡ false → i .enters b g .number ≡ 7
+AsksCellsFirst i = (b : List ℕ) (c : ℕ) (g : List ℕ) → laidOut b ≡ true → capped (decodeShape b .top) g ≡ false → i .enters b c g .number ≡ 7
 
 unfoldable pub AsksRegisterLast : Implementation → Type 0
 AsksRegisterLast i = (b low high : List ℕ) → eqb (length low) (gridSize (decodeShape b)) ≡ false → i .counts b low high .number ≡ 6
 
 unfoldable pub TrustsBytes : Implementation → Type 0
-TrustsBytes i = (b g : List ℕ) → laidOut b ≡ false → i .enters b g .number ≡ 5 → ⊥
+TrustsBytes i = (b : List ℕ) (c : ℕ) (g : List ℕ) → laidOut b ≡ false → i .enters b c g .number ≡ 5 → ⊥
 
 unfoldable pub GrowsSlice : Implementation → Type 0
-GrowsSlice i = (b g : List ℕ) → length (i .enters b g .bytes) ≡ suc (length b)
+GrowsSlice i = (b : List ℕ) (c : ℕ) (g : List ℕ) → length (i .enters b c g .bytes) ≡ suc (length b)
 
 unfoldable pub OpenGrowsSlice : Implementation → Type 0
 OpenGrowsSlice i = (s : Shape) (b : List ℕ) → length (i .opens s b .bytes) ≡ suc (length b)
 
 unfoldable pub CountWrites : Implementation → Type 0
 CountWrites i = (x : ℕ) (b low high : List ℕ) → i .counts (x ∷ b) low high .bytes ≡ x ∷ b → ⊥
-
-pub record HeldWrites (i : Implementation) : Type 0 where
-  pub before : List ℕ
-  pub grid : List ℕ
-  pub held : i .enters before grid .number ≡ 101
-  pub changed : i .enters before grid .bytes ≡ before → ⊥
 
 unfoldable pub CountsPruned : Implementation → Type 0
 CountsPruned i =

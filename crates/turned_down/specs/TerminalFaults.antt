@@ -60,28 +60,28 @@ AgreesWith14 f = (m n top : ℕ) (a b : List ℕ) → f m n top a b .number ≡ 
 -- ---- enter
 
 unfoldable pub EnterNever14 : Implementation → Type 0
-EnterNever14 i = (b g : List ℕ) → i .terminalEnters b g .number ≡ 14 → ⊥
+EnterNever14 i = (b : List ℕ) (c : ℕ) (g : List ℕ) → i .terminalEnters b c g .number ≡ 14 → ⊥
 
 unfoldable pub EnterRefuses5Rows : Implementation → Type 0
-EnterRefuses5Rows i = (b g : List ℕ) → laidOut b ≡ true → decodeShape b .rows ≡ 5 → i .terminalEnters b g .number ≡ 14
+EnterRefuses5Rows i = (b : List ℕ) (c : ℕ) (g : List ℕ) → laidOut b ≡ true → decodeShape b .rows ≡ 5 → i .terminalEnters b c g .number ≡ 14
 
 unfoldable pub EnterAsksLengthFirst : Implementation → Type 0
 EnterAsksLengthFirst i =
-    (b g : List ℕ) → laidOut b ≡ true → eqb (length g) (gridSize (decodeShape b)) ≡ false → i .terminalEnters b g .number ≡ 6
+    (b : List ℕ) (c : ℕ) (g : List ℕ) → laidOut b ≡ true → eqb (length g) (gridSize (decodeShape b)) ≡ false → i .terminalEnters b c g .number ≡ 6
 
 unfoldable pub EnterWritesWith14 : Implementation → Type 0
-EnterWritesWith14 i = (b g : List ℕ) → i .terminalEnters b g .number ≡ 14 → i .terminalEnters b g .bytes ≡ b → ⊥
+EnterWritesWith14 i = (b : List ℕ) (c : ℕ) (g : List ℕ) → i .terminalEnters b c g .number ≡ 14 → i .terminalEnters b c g .bytes ≡ b → ⊥
 
 unfoldable pub StoresAsSent : Implementation → Type 0
 StoresAsSent i =
-    (b g : List ℕ) → i .terminalEnters b g .number ≡ 0 →
-    entryAt (gridSize (decodeShape b)) (i .terminalEnters b g .bytes) (i .terminalEnters b g .place - 1) ≡ g
+    (b : List ℕ) (c : ℕ) (g : List ℕ) → i .terminalEnters b c g .number ≡ 0 →
+    entryAt (gridSize (decodeShape b)) (i .terminalEnters b c g .bytes) (i .terminalEnters b c g .place - 1) .grid ≡ g
 
 unfoldable pub TerminalAppends : Implementation → Type 0
-TerminalAppends i = (b g : List ℕ) → i .terminalEnters b g .number ≡ 0 → i .terminalEnters b g .place ≡ suc (count b)
+TerminalAppends i = (b : List ℕ) (c : ℕ) (g : List ℕ) → i .terminalEnters b c g .number ≡ 0 → i .terminalEnters b c g .place ≡ suc (count b)
 
 unfoldable pub OnlyAcknowledges : Implementation → Type 0
-OnlyAcknowledges i = (b g : List ℕ) → i .terminalEnters b g .bytes ≡ b
+OnlyAcknowledges i = (b : List ℕ) (c : ℕ) (g : List ℕ) → i .terminalEnters b c g .bytes ≡ b
 
 unfoldable pub EntersTwice : Implementation → Type 0
-EntersTwice i = (b g : List ℕ) → i .terminalEnters b g .number ≡ 101 → ⊥
+EntersTwice i = (b : List ℕ) (c : ℕ) (g : List ℕ) → i .terminalEnters b c g .number ≡ 101 → ⊥

@@ -4,6 +4,8 @@
 --   fault C D   ==  the contract C and the fault D
 --   Turned f    ==  some program does this, and none that does meets the contract
 --   orderFaults width, testFaults width  ==  the faults of programs for permutations held in so many positions, and of their test
+--   holdingFaults, clientFaults  ==  the faults of holdings, against demand 3, and of clients, against demand 1
+--   changeFaults, liveFaults  ==  those against what a call does to holdings, and against what a live class is
 --   table       ==  the faults
 --   TurnedDown  ==  the statement: every fault is turned down
 --   Met         ==  each contract is met by some program
@@ -18,15 +20,18 @@ use Rattle.machine.specs.CountSlices.{Counting, MeetsCount}
 use Rattle.machine.specs.Demand1.{Demand1}
 use Rattle.machine.specs.Demand3.{Demand3}
 use Rattle.machine.specs.BothCounts.{BothCounts}
+use Rattle.machine.specs.Holdings.{Apart, ByOne}
 use Rattle.protocol.specs.Programs.{Printing, Prints, Transcribing, MeetsTranscribe}
 use Rattle.protocol.specs.Demand3.{PrintsDemand3}
 use Rattle.turned_down.specs.PermutationFaults.{Composing, Inverting, Testing, Composes, Inverts, Tests, ComposesBackwards, AcceptsRepeats, AcceptsTooLarge, AcceptsOtherSizes, ReturnsArgument, AcceptsSize0, AcceptsPast}
 use Rattle.turned_down.specs.RepresentFaults.{HandsBack, OneForAll, RefusesAll, SortsByTurns, FollowsFirst, OrdersBackwards, PadsWithZeros, IgnoresLength, IgnoresCells, WritesRefusing, MovesRefusing}
 use Rattle.turned_down.specs.SameFaults.{NeverSame, JudgesByRowSums, ComparesSorted, OrdersFromB, IgnoresB, MovesWith103, AgreesAsSent, MiscountsByOne, AgreesInNone, AgreesRefusing}
 use Rattle.turned_down.specs.PruneFaults.{NeverPrunes, NeverEmpty, RemovesNothing, RaisesNoLow, LowersNoHigh, PrunesUnsorted, InventsRemoved, WritesEmpty, ShortensBounds, LeavesAboveTop, IgnoresOrder, PruneWritesRefusing}
-use Rattle.turned_down.specs.RegisterFaults.{StoresFirst, FullUnlooked, NotHeldUnlooked, InventsCount, InventsCounts, LeavesOutHighs, AnswersNone, CountsArrangements, LeavesLastLine, AppendsEntries, PlacesFromZero, InsertsLate, OpensNothing, EntersNothing, OpensAnySlice, RefusesOwnBytes, GrowsSlice, OpenGrowsSlice, CountWrites, HeldWrites, OpenWritesRefusing, OpensCapacity0, AsksCellsFirst, AsksRegisterLast, TrustsBytes, CountsPruned, CountsNone, PrunesLentBounds, CountsUnlike, CountsWith102, CountsWith102}
+use Rattle.turned_down.specs.RegisterFaults.{StoresFirst, FullUnlooked, NotHeldUnlooked, InventsCount, InventsCounts, LeavesOutHighs, AnswersNone, CountsArrangements, LeavesLastLine, AppendsEntries, PlacesFromZero, InsertsLate, OpensNothing, EntersNothing, OpensAnySlice, RefusesOwnBytes, GrowsSlice, OpenGrowsSlice, CountWrites, OpenWritesRefusing, OpensCapacity0, AsksCellsFirst, AsksRegisterLast, TrustsBytes, CountsPruned, CountsNone, PrunesLentBounds, CountsUnlike, CountsWith102}
+use Rattle.turned_down.specs.HoldingFaults.{HeldUnwritten, Elsewhere, AddsTwo, TakesTwo, GivesNext, TakesNext, WrapsAt999, Writes16, Never16, MostOfAnyone, ClientFirst, RoomFirst, HeldFirst, ClientsModulo, StrikesFirstHolder, StrikesAll, StrikesLine, KeepsEmptyLine, HeldByAnyone}
+use Rattle.turned_down.specs.LiveFaults.{Living, SaysLive, GoesByLast, GoesByOwnLast}
 use Rattle.turned_down.specs.TerminalFaults.{representing, comparing, AsksColumnsFirst, Refuses5Rows, Refuses9Rows, Never14, Keeps8Positions, AgreesWith14, EnterNever14, EnterRefuses5Rows, EnterAsksLengthFirst, EnterWritesWith14, StoresAsSent, TerminalAppends, OnlyAcknowledges, EntersTwice}
-use Rattle.turned_down.specs.PlanbookFaults.{GoesOnAfter13, PrintsRegisterAfter11, EndsAtMalformed, PrintsUnderZero, MalformedReaches, RefusesCellsAsMalformed, AsksLengthFirst, SilentWithoutCommands, TakesUnended, CountsRefusedBounds, CountsWithoutRoom, ClearsRest}
+use Rattle.turned_down.specs.PlanbookFaults.{GoesOnAfter13, PrintsRegisterAfter11, EndsAtMalformed, PrintsUnderZero, MalformedReaches, RefusesCellsAsMalformed, AsksLengthFirst, SilentWithoutCommands, TakesUnended, CountsRefusedBounds, ReadsNoClient, RefusesClientAsMalformed, AsksClientFirst, TakesClientless, MeasuresWithoutHoldings, CountsWithoutRoom, ClearsRest}
 
 pub record Fault : Type 1 where
   pub Program : Type 0
@@ -53,6 +58,63 @@ orderFaults width =
 
 unfoldable pub testFaults : ℕ → List Fault
 testFaults width = fault (Tests width) AcceptsSize0 ∷ fault (Tests width) (AcceptsPast width) ∷ []
+
+-- by demand 3, of what the calls write: 101 without the holding written, the holding written elsewhere or wrapped at 999
+unfoldable pub holdingFaults : List Fault
+holdingFaults =
+    fault Demand3 (λ i. HeldUnwritten (i .enters))
+    ∷ fault Demand3 (λ i. HeldUnwritten (i .terminalEnters))
+    ∷ fault Demand3 (λ i. Elsewhere (i .enters))
+    ∷ fault Demand3 (λ i. Elsewhere (i .strikes))
+    ∷ fault Demand3 (λ i. Elsewhere (i .terminalEnters))
+    ∷ fault Demand3 (λ i. WrapsAt999 (i .enters))
+    ∷ fault Demand3 (λ i. WrapsAt999 (i .terminalEnters))
+    -- strikes: of the first that holds, of all that is held, of the line, with the line left; 10 asked of anyone
+    ∷ fault Demand3 StrikesFirstHolder
+    ∷ fault Demand3 StrikesAll
+    ∷ fault Demand3 StrikesLine
+    ∷ fault Demand3 KeepsEmptyLine
+    ∷ fault Demand3 HeldByAnyone
+    ∷ []
+
+-- by demand 1, of what the calls ask: 15 asked too early or too late, clients taken modulo a number
+unfoldable pub clientFaults : List Fault
+clientFaults =
+    fault Demand1 (λ i. ClientFirst (i .enters))
+    ∷ fault Demand1 (λ i. ClientFirst (i .strikes))
+    ∷ fault Demand1 (λ i. ClientFirst (i .terminalEnters))
+    ∷ fault Demand1 (λ i. RoomFirst (i .enters))
+    ∷ fault Demand1 (λ i. RoomFirst (i .terminalEnters))
+    ∷ fault Demand1 (λ i. HeldFirst (i .strikes))
+    ∷ fault Demand1 (λ i. ClientsModulo 8 (i .enters))
+    ∷ fault Demand1 (λ i. ClientsModulo 8 (i .strikes))
+    ∷ fault Demand1 (λ i. ClientsModulo 8 (i .terminalEnters))
+    ∷ fault Demand1 (λ i. ClientsModulo 256 (i .enters))
+    ∷ fault Demand1 (λ i. ClientsModulo 256 (i .strikes))
+    ∷ fault Demand1 (λ i. ClientsModulo 256 (i .terminalEnters))
+    -- 16 never, with bytes changed, or by what any client holds
+    ∷ fault Demand1 (λ i. Never16 (i .enters))
+    ∷ fault Demand1 (λ i. Never16 (i .terminalEnters))
+    ∷ fault Demand1 (λ i. Writes16 (i .enters))
+    ∷ fault Demand1 (λ i. Writes16 (i .terminalEnters))
+    ∷ fault Demand1 (λ i. MostOfAnyone (i .enters))
+    ∷ fault Demand1 (λ i. MostOfAnyone (i .terminalEnters))
+    ∷ []
+
+-- by what a call does to the holdings that any bytes state: another client's changed, or this client's by two
+unfoldable pub changeFaults : List Fault
+changeFaults =
+    fault Apart (λ i. GivesNext (i .enters))
+    ∷ fault Apart (λ i. GivesNext (i .terminalEnters))
+    ∷ fault Apart (λ i. TakesNext (i .strikes))
+    ∷ fault ByOne (λ i. AddsTwo (i .enters))
+    ∷ fault ByOne (λ i. AddsTwo (i .terminalEnters))
+    ∷ fault ByOne (λ i. TakesTwo (i .strikes))
+    ∷ []
+
+-- by what a live class is: by the last call, of all clients or of each
+unfoldable pub liveFaults : List Fault
+liveFaults = fault SaysLive GoesByLast ∷ fault SaysLive GoesByOwnLast ∷ []
 
 unfoldable pub table : List Fault
 table =
@@ -122,7 +184,6 @@ table =
     ∷ fault Demand1 GrowsSlice
     ∷ fault Demand1 OpenGrowsSlice
     ∷ fault Demand1 CountWrites
-    ∷ fault Demand1 HeldWrites
     ∷ fault Demand1 OpenWritesRefusing
     ∷ fault Demand1 OpensCapacity0
     ∷ fault Demand1 AsksCellsFirst
@@ -148,6 +209,13 @@ table =
     -- bounds that prune answers with 102 counted; by demand 3 of planbook too
     ∷ fault Prints CountsRefusedBounds
     ∷ fault PrintsDemand3 CountsRefusedBounds
+    -- the client not read, by demand 3 of planbook too; a bad client with 12, or before the cells; a line without a client; 13 without the holdings
+    ∷ fault Prints ReadsNoClient
+    ∷ fault PrintsDemand3 ReadsNoClient
+    ∷ fault Prints RefusesClientAsMalformed
+    ∷ fault Prints AsksClientFirst
+    ∷ fault Prints TakesClientless
+    ∷ fault Prints MeasuresWithoutHoldings
     -- by the contract of the function on slices that the program calls: a slice that is too small, the rest of the output slice
     ∷ fault MeetsTranscribe CountsWithoutRoom
     ∷ fault MeetsTranscribe ClearsRest
@@ -174,8 +242,8 @@ table =
     ∷ fault Demand3 TerminalAppends
     ∷ fault Demand3 OnlyAcknowledges
     ∷ fault Demand3 EntersTwice
-    -- orders that follow each other, and their reverses
-    ∷ (orderFaults 8 ++ (testFaults 8 ++ (orderFaults 16 ++ (testFaults 16 ++ orderFaults 5))))
+    -- the clients' holdings; orders that follow each other, and their reverses
+    ∷ (holdingFaults ++ (clientFaults ++ (changeFaults ++ (liveFaults ++ (orderFaults 8 ++ (testFaults 8 ++ (orderFaults 16 ++ (testFaults 16 ++ orderFaults 5))))))))
 
 unfoldable pub TurnedDown : Type 0
 TurnedDown = All Turned table
@@ -189,7 +257,8 @@ pub record Met : Type 0 where
   pub composes : (width : ℕ) → (f : Composing) × Composes width f
   pub inverts : (width : ℕ) → (f : Inverting) × Inverts width f
   pub tests : (width : ℕ) → (f : Testing) × Tests width f
-  pub keeps : (i : Implementation) × Meets i × Demand1 i × Demand3 i × BothCounts i
+  pub keeps : (i : Implementation) × Meets i × Demand1 i × Demand3 i × BothCounts i × Apart i × ByOne i
+  pub says-live : (f : Living) × SaysLive f
   pub counts : (f : Counting) × MeetsCount f
   pub prints : (p : Printing) × Prints p × PrintsDemand3 p
   pub transcribes : (f : Transcribing) × MeetsTranscribe f

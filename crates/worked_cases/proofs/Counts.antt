@@ -20,7 +20,7 @@ use Rattle.bounds.specs.Kept.{obeyed, keeps, keptValues, lowestFrom, lowest, hi
 use Rattle.bounds.specs.Allperm.{allperm}
 use Rattle.bounds.specs.Prune.{question8, boundsQuestions, prunedYes, pruned}
 use Rattle.layout.specs.Decimal.{lead, field, digit, valueFrom, value}
-use Rattle.layout.specs.Layout.{fields, entryWidth, lineLength, entryLine, blankLine, headLine, layout, numberAt, count, entryAt, decodeShape, decode, inLimits, ascending, isRegister, laidOut}
+use Rattle.layout.specs.Layout.{fields, entryWidth, lineLength, entryLine, blankLine, headLine, layout, numberAt, count, cellsOf, holdingsOf, entryAt, decodeShape, decode, inLimits, someHeld, isHoldings, isEntry, ascending, isRegister, laidOut}
 use Rattle.machine.specs.Calls.{answered, question5, countQuestions, entriesIn, countRegister, counted}
 use Rattle.machine.specs.Demand3.{prunedFor}
 use Rattle.worked_cases.specs.Text.{bytes, text}
@@ -57,5 +57,5 @@ counts-so c t =
 -- ---- the statement
 
 pub counts-hold : CountsHold
-unfolding outcomeSo countsSo bytes text flatten flatMap tabulate numbers select every some occurrences isPermutation words permutations rank leq less equal capped isGrid row permutedRow firstNo inRange question1 question2 question3 question6 question7 ranksWithin between inBounds fillings gridsWithin obeyed keeps keptValues lowestFrom lowest highestFrom highest keptLow keptHigh allperm question8 boundsQuestions prunedYes pruned lead field digit valueFrom value fields entryWidth lineLength entryLine blankLine headLine layout numberAt count entryAt decodeShape decode inLimits ascending isRegister laidOut answered question5 countQuestions entriesIn countRegister counted countCases CountsHold
+unfolding outcomeSo countsSo bytes text flatten flatMap tabulate numbers select every some occurrences isPermutation words permutations rank leq less equal capped isGrid row permutedRow firstNo inRange question1 question2 question3 question6 question7 ranksWithin between inBounds fillings gridsWithin obeyed keeps keptValues lowestFrom lowest highestFrom highest keptLow keptHigh allperm question8 boundsQuestions prunedYes pruned lead field digit valueFrom value fields entryWidth lineLength entryLine blankLine headLine layout numberAt count cellsOf holdingsOf entryAt decodeShape decode inLimits someHeld isHoldings isEntry ascending isRegister laidOut answered question5 countQuestions entriesIn countRegister counted countCases CountsHold
 counts-hold = every-all CountsSo countsSo counts-so countCases refl

@@ -2,10 +2,16 @@
 --
 --   edges-hold     ==  the statement
 --   accepted-hold  ==  a call on a register is accepted with just 0 and 101
+--   asked-in-order ==  the order of the questions
+--   neither        ==  where neither of two tests says yes, the first says no
+--   never-both     ==  9 and 16 do not get a no of the same arguments
 use mathlib.Core.Path.{_≡_, refl}
 use mathlib.Core.List.{flatten, flatMap}
-use lib.Dec.{eqb}
-use borrow.Author.Tests.{eqb-true}
+use mathlib.Core.Bool.{Bool, true, false, _||_}
+use native.Mathlib.Omega.{arith}
+use lib.ListN.{length}
+use lib.Dec.{ltb, eqb}
+use borrow.Author.Tests.{eqb-true, lt-ltb}
 use Rattle.permutations.specs.Lists.{tabulate, numbers, select, every, some, occurrences}
 use Rattle.permutations.specs.Permutations.{isPermutation, words, permutations}
 use Rattle.permutations.proofs.ListLaws.{every-all}
@@ -17,16 +23,31 @@ use Rattle.canonical.specs.Represent.{representQuestions, terminalRepresentQues
 use Rattle.canonical.specs.Same.{sameQuestions, terminalSameQuestions}
 use Rattle.bounds.specs.Prune.{question8, boundsQuestions}
 use Rattle.layout.specs.Decimal.{lead, field, digit, valueFrom, value}
-use Rattle.layout.specs.Layout.{fields, entryWidth, lineLength, entryLine, blankLine, headLine, layout, layoutLength, numberAt, count, entryAt, decodeShape, decode, inLimits, ascending, isRegister, laidOut}
-use Rattle.machine.specs.Calls.{question4, question5, gridQuestions, holds, question9, question10, openQuestions, enterQuestions, strikeQuestions, countQuestions, terminalEnterQuestions}
+use Rattle.layout.specs.Layout.{mostHeld, gridsOf, fields, entryWidth, lineLength, entryLine, blankLine, headLine, layout, layoutLength, numberAt, count, cellsOf, holdingsOf, holding, entryAt, decodeShape, decode, inLimits, someHeld, isHoldings, isEntry, ascending, isRegister, laidOut}
+use Rattle.machine.specs.Calls.{question4, question5, gridQuestions, clientQuestions, holds, holdingsIn, heldBy, question9, question10, question15, question16, openQuestions, enterQuestions, strikeQuestions, countQuestions, terminalEnterQuestions}
 use Rattle.machine.specs.CallLists.{questionsOf, accepted}
+use Rattle.machine.proofs.HoldingLaws.{none-by}
 use Rattle.worked_cases.specs.Text.{bytes, text}
-use Rattle.worked_cases.specs.Edges.{Edge, fresh, short, full, tall, tallShort, edges, EdgesHold, Accepted}
+use Rattle.worked_cases.specs.Edges.{Edge, fresh, short, full, most, tall, tallShort, edges, EdgesHold, Accepted, AskedInOrder, NeverBoth}
 
 pub edges-hold : EdgesHold
-unfolding EdgesHold edges fresh short full tall tallShort bytes text flatten flatMap tabulate numbers select every some occurrences isPermutation words permutations rank less leq equal capped isGrid gridOf arrangement arrangements lesser leastOf least firstNo inRange question1 question2 question3 question6 question7 question14 afterFirst representQuestions terminalRepresentQuestions sameQuestions terminalSameQuestions question8 boundsQuestions lead field digit valueFrom value fields entryWidth lineLength entryLine blankLine headLine layout layoutLength numberAt count entryAt decodeShape decode inLimits ascending isRegister laidOut question4 question5 gridQuestions holds question9 question10 openQuestions enterQuestions strikeQuestions countQuestions terminalEnterQuestions questionsOf
+unfolding EdgesHold edges fresh short full most tall tallShort bytes text flatten flatMap tabulate numbers select every some occurrences isPermutation words permutations rank less leq equal capped isGrid gridOf arrangement arrangements lesser leastOf least firstNo inRange question1 question2 question3 question6 question7 question14 afterFirst representQuestions terminalRepresentQuestions sameQuestions terminalSameQuestions question8 boundsQuestions lead field digit valueFrom value fields entryWidth lineLength entryLine blankLine headLine layout layoutLength numberAt count cellsOf holdingsOf holding entryAt decodeShape decode inLimits someHeld isHoldings isEntry ascending isRegister laidOut question4 question5 gridQuestions clientQuestions holds holdingsIn heldBy question9 question10 question15 question16 openQuestions enterQuestions strikeQuestions countQuestions terminalEnterQuestions questionsOf
 edges-hold = every-all (λ (e : Edge). firstNo (e .asked) ≡ e .number) (λ (e : Edge). eqb (firstNo (e .asked)) (e .number)) (λ e t. eqb-true _ _ t) edges refl
 
 pub accepted-hold : Accepted
 unfolding Accepted accepted select numbers tabulate
 accepted-hold = refl
+
+pub asked-in-order : AskedInOrder
+unfolding question1 question2 question3 question6 question7 question14 afterFirst question8 boundsQuestions question4 question5 gridQuestions clientQuestions question9 question10 question15 question16 openQuestions enterQuestions strikeQuestions countQuestions terminalEnterQuestions questionsOf
+asked-in-order = record { opens = refl; enters = refl; strikes = refl; counts = refl; terminalEnters = refl }
+
+neither : (s t : Bool) → (s || t) ≡ false → s ≡ false
+neither true t e = e
+neither false t e = refl
+
+pub never-both : NeverBoth
+unfolding NeverBoth question9 question16
+never-both x c r n =
+    lt-ltb (heldBy c r (x .entries)) mostHeld
+    (omega (arith, none-by (x .entries) r c (neither (holds r (gridsOf (x .entries))) (ltb (length (x .entries)) (x .shape .capacity)) n)))

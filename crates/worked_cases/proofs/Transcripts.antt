@@ -21,10 +21,10 @@ use Rattle.bounds.specs.Kept.{obeyed}
 use Rattle.bounds.specs.Allperm.{allperm}
 use Rattle.bounds.specs.Prune.{question8, boundsQuestions}
 use Rattle.layout.specs.Decimal.{lead, field, digit, valueFrom, value}
-use Rattle.layout.specs.Layout.{fields, entryWidth, lineLength, entryLine, blankLine, headLine, layout, layoutLength, numberAt, decodeShape, cellsOf}
-use Rattle.machine.specs.Calls.{question4, gridQuestions, holds, placeIn, insert, without}
-use Rattle.machine.specs.Machine.{sorted, shown, stepUnless, enterClass, strikeClass, countClasses, step}
-use Rattle.protocol.specs.Input.{onto, lines, firstLine, furtherLines, shapeLine, commandLine, cellCount, commandIn, cellsIn, isLaid}
+use Rattle.layout.specs.Layout.{fields, entryWidth, lineLength, entryLine, blankLine, headLine, layout, layoutLength, numberAt, cellsOf, holding, changed, decodeShape, someHeld}
+use Rattle.machine.specs.Calls.{question4, question15, gridQuestions, clientQuestions, more, fewer, holds, holdingsIn, heldBy, placeIn, insert, without}
+use Rattle.machine.specs.Machine.{sorted, shown, stepUnless, put, enterClass, strikeClass, countClasses, step}
+use Rattle.protocol.specs.Input.{onto, lines, firstLine, furtherLines, shapeLine, leads, leadLength, commandLine, cellCount, commandIn, clientIn, cellsIn, isLaid}
 use Rattle.protocol.specs.Commands.{lows, highs, countOf, boundsStep, commandStep, report, answerStep, malformed, answer}
 use Rattle.protocol.specs.Transcript.{shapeIn, question11, question12, question13, startQuestions, startNo, reports, setAfter, registerFrom, printedFrom, transcript}
 use Rattle.protocol.proofs.StartLaws.{over-limit, start-line}
@@ -33,7 +33,7 @@ use Rattle.worked_cases.specs.Text.{bytes, text}
 use Rattle.worked_cases.specs.Transcripts.{Run, runs, TranscriptsHold, lineFeeds, InputLimit}
 
 pub transcripts-hold : TranscriptsHold
-unfolding TranscriptsHold runs bytes text flatten flatMap tabulate numbers select every some occurrences isPermutation words permutations rank leq less equal capped gridOf row permutedRow arrangement arrangements lesser leastOf least firstNo inRange question1 question2 question3 question6 question7 ranksWithin between inBounds fillings gridsWithin obeyed allperm question8 boundsQuestions lead field digit valueFrom value fields entryWidth lineLength entryLine blankLine headLine layout layoutLength numberAt decodeShape cellsOf question4 gridQuestions holds placeIn insert without sorted shown stepUnless enterClass strikeClass countClasses step onto lines firstLine furtherLines shapeLine commandLine cellCount commandIn cellsIn isLaid lows highs countOf boundsStep commandStep report answerStep malformed answer shapeIn question11 question12 question13 startQuestions startNo reports setAfter registerFrom printedFrom transcript
+unfolding TranscriptsHold runs bytes text flatten flatMap tabulate numbers select every some occurrences isPermutation words permutations rank leq less equal capped gridOf row permutedRow arrangement arrangements lesser leastOf least firstNo inRange question1 question2 question3 question6 question7 ranksWithin between inBounds fillings gridsWithin obeyed allperm question8 boundsQuestions lead field digit valueFrom value fields entryWidth lineLength entryLine blankLine headLine layout layoutLength numberAt cellsOf holding changed decodeShape someHeld question4 question15 gridQuestions clientQuestions more fewer holds holdingsIn heldBy placeIn insert without sorted shown stepUnless put enterClass strikeClass countClasses step onto lines firstLine furtherLines shapeLine leads leadLength commandLine cellCount commandIn clientIn cellsIn isLaid lows highs countOf boundsStep commandStep report answerStep malformed answer shapeIn question11 question12 question13 startQuestions startNo reports setAfter registerFrom printedFrom transcript
 transcripts-hold = every-all (λ (r : Run). transcript (text (r .input)) ≡ text (r .output)) (λ (r : Run). equal (transcript (text (r .input))) (text (r .output))) (λ r t. equal-eq _ _ t) runs refl
 
 -- ---- the limit of the input

@@ -33,9 +33,9 @@ pub record CountsSo (c : CountCase) : Type 0 where
 
 unfoldable pub countCases : List CountCase
 countCases =
-    -- the register that the printed run leaves: narrower bounds, and one number; then 102, and no entry
+    -- the register that the printed run leaves: narrower bounds, and one number; then 102, and no entry; an entry counts once, whatever is held
     record {
-      lines = "     2     2     1     2     2\n" ∷ "  0  0  1  1\n" ∷ "  0  1  1  0\n" ∷ [];
+      lines = "     2     2     1     2     2\n" ∷ "  0  0  1  1  1  0  0  0  0  0  0  0\n" ∷ "  0  1  1  0  2  0  0  0  0  0  0  0\n" ∷ [];
       low = 0 ∷ 0 ∷ 1 ∷ 0 ∷ [];
       high = 1 ∷ 1 ∷ 1 ∷ 0 ∷ [];
       number = 0;
@@ -45,7 +45,7 @@ countCases =
       left = 1;
     }
     ∷ record {
-      lines = "     2     2     1     2     2\n" ∷ "  0  0  1  1\n" ∷ "  0  1  1  0\n" ∷ [];
+      lines = "     2     2     1     2     2\n" ∷ "  0  0  1  1  1  0  0  0  0  0  0  0\n" ∷ "  0  1  1  0  2  0  0  0  0  0  0  0\n" ∷ [];
       low = 1 ∷ 0 ∷ 0 ∷ 0 ∷ [];
       high = 1 ∷ 1 ∷ 0 ∷ 1 ∷ [];
       number = 102;
@@ -56,7 +56,7 @@ countCases =
     }
     -- the same bounds where no call can have written the last two entries: the counts differ, and with 102 there is an entry
     ∷ record {
-      lines = "     2     2     1     3     3\n" ∷ "  0  1  1  0\n" ∷ "  1  0  0  1\n" ∷ "  1  0  1  0\n" ∷ [];
+      lines = "     2     2     1     3     3\n" ∷ "  0  1  1  0999  0  0  0  0  0  0  0\n" ∷ "  1  0  0  1  0  1  0  0  0  0  0  0\n" ∷ "  1  0  1  0  0  0  0  0  0  0  0  1\n" ∷ [];
       low = 0 ∷ 0 ∷ 1 ∷ 0 ∷ [];
       high = 1 ∷ 1 ∷ 1 ∷ 0 ∷ [];
       number = 0;
@@ -66,7 +66,7 @@ countCases =
       left = 1;
     }
     ∷ record {
-      lines = "     2     2     1     3     3\n" ∷ "  0  1  1  0\n" ∷ "  1  0  0  1\n" ∷ "  1  0  1  0\n" ∷ [];
+      lines = "     2     2     1     3     3\n" ∷ "  0  1  1  0999  0  0  0  0  0  0  0\n" ∷ "  1  0  0  1  0  1  0  0  0  0  0  0\n" ∷ "  1  0  1  0  0  0  0  0  0  0  0  1\n" ∷ [];
       low = 1 ∷ 0 ∷ 0 ∷ 0 ∷ [];
       high = 1 ∷ 1 ∷ 0 ∷ 1 ∷ [];
       number = 102;
@@ -77,7 +77,7 @@ countCases =
     }
     -- the bounds of M9, on a register of representatives
     ∷ record {
-      lines = "     2     2     3     5     4\n" ∷ "  0  1  1  0\n" ∷ "  1  1  1  2\n" ∷ "  1  2  1  2\n" ∷ "  1  2  2  1\n" ∷ "            \n" ∷ [];
+      lines = "     2     2     3     5     4\n" ∷ "  0  1  1  0  1  0  0  0  0  0  0  0\n" ∷ "  1  1  1  2  1  0  4  0  0  0  0  0\n" ∷ "  1  2  1  2  0  0  0  0 12  0  0  0\n" ∷ "  1  2  2  1  0  0  0  0  0  0  0  1\n" ∷ "                                    \n" ∷ [];
       low = 1 ∷ 0 ∷ 0 ∷ 0 ∷ [];
       high = 3 ∷ 3 ∷ 1 ∷ 2 ∷ [];
       number = 0;

@@ -3,13 +3,18 @@
 --
 --   Edge      ==  the questions asked, and the number that they give
 --   zeros k   ==  k cells of 0
---   fresh, short, full  ==  the bytes of an open register of 1 row, 1 column, top 1 and capacity 1; the same less the last byte; and with the entry 0
+--   fresh, short, full, most  ==  the bytes of an open register of 1 row, 1 column, top 1 and capacity 1; the same less the last byte; with the entry 0,
+--                 which client 1 holds once; and with it held 999 times
 --   tall, tallShort     ==  the bytes of an open register of 6 rows, and the same less the last byte
 --   edges     ==  the table
 --   EdgesHold ==  the statement: every edge gives its number
+--   askedBy b c     ==  the numbers of a call's questions
+--   AskedInOrder    ==  the statement: the questions of open and of each call on a register, in order
+--   NeverBoth       ==  the statement: where 9 gets a no, 16 gets a yes, so that no number shows which of them is asked first
 --   Accepted  ==  of the numbers up to 103, those with which a call on a register is accepted
 use mathlib.Core.Path.{_≡_}
-use mathlib.Core.List.{List, [], _∷_}
+use mathlib.Core.List.{List, [], _∷_, map}
+use mathlib.Core.Bool.{true, false}
 use Prim.Native.Nat.{ℕ}
 use lib.ListN.{replicate}
 use Rattle.permutations.specs.Lists.{All, numbers, select}
@@ -17,8 +22,9 @@ use Rattle.grids.specs.Questions.{Question, firstNo}
 use Rattle.canonical.specs.Represent.{representQuestions, terminalRepresentQuestions}
 use Rattle.canonical.specs.Same.{sameQuestions, terminalSameQuestions}
 use Rattle.bounds.specs.Prune.{pruneQuestions}
-use Rattle.machine.specs.Calls.{shape, openQuestions}
-use Rattle.machine.specs.CallLists.{enter, strike, countIn, terminalEnter, questionsOf, accepted}
+use Rattle.layout.specs.Layout.{Register}
+use Rattle.machine.specs.Calls.{shape, question9, question16, openQuestions}
+use Rattle.machine.specs.CallLists.{Call, enter, strike, countIn, terminalEnter, questionsOf, accepted}
 use Rattle.worked_cases.specs.Text.{text}
 
 pub record Edge : Type 0 where
@@ -29,19 +35,22 @@ abbrev pub zeros : ℕ → List ℕ
 zeros k = replicate k 0
 
 unfoldable pub fresh : List ℕ
-fresh = text ("     1     1     1     1     0\n" ∷ "   \n" ∷ [])
+fresh = text ("     1     1     1     1     0\n" ∷ "                           \n" ∷ [])
 
 unfoldable pub short : List ℕ
-short = text ("     1     1     1     1     0\n" ∷ "   " ∷ [])
+short = text ("     1     1     1     1     0\n" ∷ "                           " ∷ [])
 
 unfoldable pub full : List ℕ
-full = text ("     1     1     1     1     1\n" ∷ "  0\n" ∷ [])
+full = text ("     1     1     1     1     1\n" ∷ "  0  1  0  0  0  0  0  0  0\n" ∷ [])
+
+unfoldable pub most : List ℕ
+most = text ("     1     1     1     1     1\n" ∷ "  0999  0  0  0  0  0  0  0\n" ∷ [])
 
 unfoldable pub tall : List ℕ
-tall = text ("     6     1     1     1     0\n" ∷ "                  \n" ∷ [])
+tall = text ("     6     1     1     1     0\n" ∷ "                                          \n" ∷ [])
 
 unfoldable pub tallShort : List ℕ
-tallShort = text ("     6     1     1     1     0\n" ∷ "                  " ∷ [])
+tallShort = text ("     6     1     1     1     0\n" ∷ "                                          " ∷ [])
 
 unfoldable pub edges : List Edge
 edges =
@@ -51,14 +60,14 @@ edges =
     ∷ record { asked = representQuestions 8 16 15 (zeros 128) (zeros 128); number = 0 }
     -- so they do to open, which asks for its slice next
     ∷ record { asked = openQuestions (shape 8 16 15 500) []; number = 6 }
-    ∷ record { asked = openQuestions (shape 1 1 15 500) (zeros 2031); number = 0 }
+    ∷ record { asked = openQuestions (shape 1 1 15 500) (zeros 14031); number = 0 }
     -- one more gives 1, 2, 3, 4
     ∷ record { asked = representQuestions 9 16 15 (zeros 144) (zeros 144); number = 1 }
     ∷ record { asked = representQuestions 8 17 15 (zeros 136) (zeros 136); number = 2 }
     ∷ record { asked = representQuestions 8 16 16 (zeros 128) (zeros 128); number = 3 }
     ∷ record { asked = openQuestions (shape 1 1 0 501) []; number = 4 }
     -- a register one byte short gives 5, to open 6
-    ∷ record { asked = questionsOf short (enter (zeros 1)); number = 5 }
+    ∷ record { asked = questionsOf short (enter 1 (zeros 1)); number = 5 }
     ∷ record { asked = openQuestions (shape 1 1 1 1) short; number = 6 }
     -- a grid one byte too long gives 6
     ∷ record { asked = representQuestions 1 1 0 (zeros 2) (zeros 1); number = 6 }
@@ -96,20 +105,41 @@ edges =
     ∷ record { asked = openQuestions (shape 1 1 1 0) []; number = 4 }
     ∷ record { asked = openQuestions (shape 1 1 1 1) []; number = 6 }
     ∷ record { asked = openQuestions (shape 1 1 1 1) fresh; number = 0 }
-    -- enter: 5, 6, 7, 9
-    ∷ record { asked = questionsOf short (enter (2 ∷ 2 ∷ [])); number = 5 }
-    ∷ record { asked = questionsOf full (enter (2 ∷ 2 ∷ [])); number = 6 }
-    ∷ record { asked = questionsOf full (enter (2 ∷ [])); number = 7 }
-    ∷ record { asked = questionsOf full (enter (1 ∷ [])); number = 9 }
-    ∷ record { asked = questionsOf full (enter (0 ∷ [])); number = 0 }
-    ∷ record { asked = questionsOf fresh (enter (1 ∷ [])); number = 0 }
-    -- strike: 5, 6, 7, 10
-    ∷ record { asked = questionsOf short (strike (2 ∷ 2 ∷ [])); number = 5 }
-    ∷ record { asked = questionsOf full (strike (2 ∷ 2 ∷ [])); number = 6 }
-    ∷ record { asked = questionsOf full (strike (2 ∷ [])); number = 7 }
-    ∷ record { asked = questionsOf full (strike (1 ∷ [])); number = 10 }
-    ∷ record { asked = questionsOf full (strike (0 ∷ [])); number = 0 }
-    ∷ record { asked = questionsOf fresh (strike (0 ∷ [])); number = 10 }
+    -- enter: 5, 6, 7, 15, 9, 16
+    ∷ record { asked = questionsOf short (enter 9 (2 ∷ 2 ∷ [])); number = 5 }
+    ∷ record { asked = questionsOf full (enter 9 (2 ∷ 2 ∷ [])); number = 6 }
+    ∷ record { asked = questionsOf full (enter 9 (2 ∷ [])); number = 7 }
+    ∷ record { asked = questionsOf full (enter 0 (1 ∷ [])); number = 15 }
+    ∷ record { asked = questionsOf full (enter 9 (1 ∷ [])); number = 15 }
+    ∷ record { asked = questionsOf full (enter 257 (1 ∷ [])); number = 15 }
+    ∷ record { asked = questionsOf full (enter 1 (1 ∷ [])); number = 9 }
+    ∷ record { asked = questionsOf full (enter 8 (1 ∷ [])); number = 9 }
+    ∷ record { asked = questionsOf most (enter 0 (0 ∷ [])); number = 15 }
+    ∷ record { asked = questionsOf most (enter 9 (0 ∷ [])); number = 15 }
+    ∷ record { asked = questionsOf most (enter 257 (0 ∷ [])); number = 15 }
+    ∷ record { asked = questionsOf most (enter 1 (1 ∷ [])); number = 9 }
+    ∷ record { asked = questionsOf most (enter 1 (0 ∷ [])); number = 16 }
+    ∷ record { asked = questionsOf most (enter 2 (0 ∷ [])); number = 0 }
+    ∷ record { asked = questionsOf full (enter 1 (0 ∷ [])); number = 0 }
+    ∷ record { asked = questionsOf full (enter 8 (0 ∷ [])); number = 0 }
+    ∷ record { asked = questionsOf fresh (enter 1 (1 ∷ [])); number = 0 }
+    ∷ record { asked = questionsOf fresh (enter 8 (1 ∷ [])); number = 0 }
+    -- strike: 5, 6, 7, 15, 10
+    ∷ record { asked = questionsOf short (strike 9 (2 ∷ 2 ∷ [])); number = 5 }
+    ∷ record { asked = questionsOf full (strike 9 (2 ∷ 2 ∷ [])); number = 6 }
+    ∷ record { asked = questionsOf full (strike 9 (2 ∷ [])); number = 7 }
+    ∷ record { asked = questionsOf full (strike 0 (1 ∷ [])); number = 15 }
+    ∷ record { asked = questionsOf full (strike 9 (1 ∷ [])); number = 15 }
+    ∷ record { asked = questionsOf full (strike 257 (1 ∷ [])); number = 15 }
+    ∷ record { asked = questionsOf full (strike 0 (0 ∷ [])); number = 15 }
+    ∷ record { asked = questionsOf full (strike 9 (0 ∷ [])); number = 15 }
+    ∷ record { asked = questionsOf full (strike 257 (0 ∷ [])); number = 15 }
+    ∷ record { asked = questionsOf full (strike 1 (1 ∷ [])); number = 10 }
+    ∷ record { asked = questionsOf full (strike 2 (0 ∷ [])); number = 10 }
+    ∷ record { asked = questionsOf full (strike 8 (0 ∷ [])); number = 10 }
+    ∷ record { asked = questionsOf full (strike 1 (0 ∷ [])); number = 0 }
+    ∷ record { asked = questionsOf most (strike 1 (0 ∷ [])); number = 0 }
+    ∷ record { asked = questionsOf fresh (strike 1 (0 ∷ [])); number = 10 }
     -- count: 5, 6, 7, 8
     ∷ record { asked = questionsOf short (countIn (2 ∷ 2 ∷ []) (0 ∷ [])); number = 5 }
     ∷ record { asked = questionsOf fresh (countIn (2 ∷ 2 ∷ []) (0 ∷ [])); number = 6 }
@@ -138,16 +168,29 @@ edges =
     ∷ record { asked = terminalSameQuestions 5 16 15 (zeros 80) (17 ∷ []); number = 6 }
     ∷ record { asked = terminalSameQuestions 1 1 15 (15 ∷ []) (17 ∷ []); number = 7 }
     ∷ record { asked = terminalSameQuestions 5 16 15 (zeros 80) (zeros 80); number = 0 }
-    -- a terminal's enter: 5, 14, 6, 7, 9
-    ∷ record { asked = questionsOf tallShort (terminalEnter (2 ∷ 2 ∷ [])); number = 5 }
-    ∷ record { asked = questionsOf tall (terminalEnter (2 ∷ 2 ∷ [])); number = 14 }
-    ∷ record { asked = questionsOf tall (terminalEnter (zeros 6)); number = 14 }
-    ∷ record { asked = questionsOf short (terminalEnter (2 ∷ 2 ∷ [])); number = 5 }
-    ∷ record { asked = questionsOf full (terminalEnter (2 ∷ 2 ∷ [])); number = 6 }
-    ∷ record { asked = questionsOf full (terminalEnter (2 ∷ [])); number = 7 }
-    ∷ record { asked = questionsOf full (terminalEnter (1 ∷ [])); number = 9 }
-    ∷ record { asked = questionsOf full (terminalEnter (0 ∷ [])); number = 0 }
-    ∷ record { asked = questionsOf fresh (terminalEnter (1 ∷ [])); number = 0 }
+    -- a terminal's enter: 5, 14, 6, 7, 15, 9, 16
+    ∷ record { asked = questionsOf tallShort (terminalEnter 9 (2 ∷ 2 ∷ [])); number = 5 }
+    ∷ record { asked = questionsOf tall (terminalEnter 9 (2 ∷ 2 ∷ [])); number = 14 }
+    ∷ record { asked = questionsOf tall (terminalEnter 9 (zeros 6)); number = 14 }
+    ∷ record { asked = questionsOf tall (terminalEnter 1 (zeros 6)); number = 14 }
+    ∷ record { asked = questionsOf short (terminalEnter 9 (2 ∷ 2 ∷ [])); number = 5 }
+    ∷ record { asked = questionsOf full (terminalEnter 9 (2 ∷ 2 ∷ [])); number = 6 }
+    ∷ record { asked = questionsOf full (terminalEnter 9 (2 ∷ [])); number = 7 }
+    ∷ record { asked = questionsOf full (terminalEnter 0 (1 ∷ [])); number = 15 }
+    ∷ record { asked = questionsOf full (terminalEnter 9 (1 ∷ [])); number = 15 }
+    ∷ record { asked = questionsOf full (terminalEnter 257 (1 ∷ [])); number = 15 }
+    ∷ record { asked = questionsOf full (terminalEnter 1 (1 ∷ [])); number = 9 }
+    ∷ record { asked = questionsOf full (terminalEnter 8 (1 ∷ [])); number = 9 }
+    ∷ record { asked = questionsOf most (terminalEnter 0 (0 ∷ [])); number = 15 }
+    ∷ record { asked = questionsOf most (terminalEnter 9 (0 ∷ [])); number = 15 }
+    ∷ record { asked = questionsOf most (terminalEnter 257 (0 ∷ [])); number = 15 }
+    ∷ record { asked = questionsOf most (terminalEnter 1 (1 ∷ [])); number = 9 }
+    ∷ record { asked = questionsOf most (terminalEnter 1 (0 ∷ [])); number = 16 }
+    ∷ record { asked = questionsOf most (terminalEnter 2 (0 ∷ [])); number = 0 }
+    ∷ record { asked = questionsOf full (terminalEnter 1 (0 ∷ [])); number = 0 }
+    ∷ record { asked = questionsOf full (terminalEnter 8 (0 ∷ [])); number = 0 }
+    ∷ record { asked = questionsOf fresh (terminalEnter 1 (1 ∷ [])); number = 0 }
+    ∷ record { asked = questionsOf fresh (terminalEnter 8 (1 ∷ [])); number = 0 }
     ∷ []
 
 unfoldable pub EdgesHold : Type 0
@@ -155,3 +198,16 @@ EdgesHold = All (λ e. firstNo (e .asked) ≡ e .number) edges
 
 unfoldable pub Accepted : Type 0
 Accepted = select accepted (numbers 104) ≡ 0 ∷ 101 ∷ []
+
+abbrev pub askedBy : List ℕ → Call → List ℕ
+askedBy b c = map (λ (q : Question). q .number) (questionsOf b c)
+
+pub record AskedInOrder : Type 0 where
+  pub opens : map (λ (q : Question). q .number) (openQuestions (shape 1 1 1 1) fresh) ≡ 1 ∷ 2 ∷ 3 ∷ 4 ∷ 6 ∷ []
+  pub enters : askedBy fresh (enter 1 (0 ∷ [])) ≡ 5 ∷ 6 ∷ 7 ∷ 15 ∷ 9 ∷ 16 ∷ []
+  pub strikes : askedBy fresh (strike 1 (0 ∷ [])) ≡ 5 ∷ 6 ∷ 7 ∷ 15 ∷ 10 ∷ []
+  pub counts : askedBy fresh (countIn (0 ∷ []) (1 ∷ [])) ≡ 5 ∷ 6 ∷ 7 ∷ 8 ∷ []
+  pub terminalEnters : askedBy fresh (terminalEnter 1 (0 ∷ [])) ≡ 5 ∷ 14 ∷ 6 ∷ 7 ∷ 15 ∷ 9 ∷ 16 ∷ []
+
+unfoldable pub NeverBoth : Type 0
+NeverBoth = (x : Register) (c : ℕ) (r : List ℕ) → question9 x r .answer ≡ false → question16 x c r .answer ≡ true

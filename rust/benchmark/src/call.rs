@@ -16,8 +16,8 @@ pub type Prune = fn(usize, usize, usize, &mut [u8], &mut [u8]) -> Counted;
 /// The call open: m, n, top, the capacity, the register.
 pub type Open = fn(usize, usize, usize, usize, &mut [u8]) -> Placed;
 
-/// The calls enter and strike: the register, the grid.
-pub type Change = fn(&mut [u8], &[u8]) -> Placed;
+/// The calls enter and strike: the register, the client, the grid.
+pub type Change = fn(&mut [u8], usize, &[u8]) -> Placed;
 
 /// The call count: the register, the lows, the highs.
 pub type Count = fn(&[u8], &[u8], &[u8]) -> Counted;

@@ -1,5 +1,6 @@
 //! Line 1 of a register in plain Rust.
 
+use crate::line::HOLDINGS;
 use plan_register::numbers::{CAPACITY, COLUMNS, DONE, ROWS, TOP};
 
 /// The length of line 1: five numbers, each 6 wide, and a line feed.
@@ -40,9 +41,14 @@ impl Head {
         register[FIRST_LINE - 1] = b'\n';
     }
 
+    /// The length of an entry's cells, each 3 wide. Behind them are the holdings.
+    pub fn cells(&self) -> usize {
+        3 * self.m * self.n
+    }
+
     /// The length of an entry's line.
     pub fn width(&self) -> usize {
-        3 * self.m * self.n + 1
+        self.cells() + HOLDINGS + 1
     }
 
     /// Where line `k` begins, the first entry's being 0.
@@ -84,7 +90,7 @@ pub fn write_number(field: &mut [u8], number: usize) {
 }
 
 /// The number in the field: spaces, then digits without a leading zero.
-fn number(field: &[u8]) -> Option<usize> {
+pub fn number(field: &[u8]) -> Option<usize> {
     let spaces = field.iter().take_while(|&&byte| byte == b' ').count();
     let digits = &field[spaces..];
     if digits.is_empty() || (digits[0] == b'0' && digits.len() > 1) {

@@ -1,13 +1,18 @@
-//! An entry's line: its cells, each 3 wide, and a line feed. Lines that are compared are laid out.
+//! An entry's line: its cells and the eight holdings, each 3 wide, and a line feed. Cells that are
+//! compared are laid out.
 
 use reference::grid::rank;
 use std::cmp::Ordering;
 
-/// The longest line: 128 cells and a line feed.
-pub const LONGEST: usize = 3 * 128 + 1;
+/// The length of the eight holdings, each 3 wide.
+pub const HOLDINGS: usize = 3 * 8;
 
-/// The line of these cells, each at most 19, in the first bytes. Past it there are spaces.
-pub fn written(cells: &[u8]) -> [u8; LONGEST] {
+/// The longest line: 128 cells, the holdings, and a line feed.
+pub const LONGEST: usize = 3 * 128 + HOLDINGS + 1;
+
+/// The line of these cells, each at most 19, of which this client holds one, in the first bytes.
+/// Past it there are spaces.
+pub fn written(cells: &[u8], client: usize) -> [u8; LONGEST] {
     let mut line = [b' '; LONGEST];
     for (field, &cell) in line.chunks_exact_mut(3).zip(cells) {
         if cell >= 10 {
@@ -15,11 +20,16 @@ pub fn written(cells: &[u8]) -> [u8; LONGEST] {
         }
         field[2] = b'0' + cell % 10;
     }
-    line[3 * cells.len()] = b'\n';
+    let behind = 3 * cells.len();
+    let holdings = line[behind..behind + HOLDINGS].chunks_exact_mut(3);
+    for (k, field) in holdings.enumerate() {
+        field[2] = b'0' + u8::from(k + 1 == client);
+    }
+    line[behind + HOLDINGS] = b'\n';
     line
 }
 
-/// The comparison of two lines: the first unequal cell decides.
+/// The comparison of the cells of two lines: the first unequal cell decides.
 pub fn compare(a: &[u8], b: &[u8]) -> Ordering {
     match first_unequal(a, b) {
         None => Ordering::Equal,
@@ -36,7 +46,7 @@ fn cell(fields: &[u8]) -> u8 {
     tens + (fields[2] - b'0')
 }
 
-/// The first byte in which the lines differ: equal blocks are passed over, and of the first block
+/// The first byte in which the cells differ: equal blocks are passed over, and of the first block
 /// that differs, or of the rest, eight bytes are looked at together.
 fn first_unequal(a: &[u8], b: &[u8]) -> Option<usize> {
     let blocks = a.as_chunks::<32>().0.iter().zip(b.as_chunks::<32>().0);

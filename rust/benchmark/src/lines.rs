@@ -82,8 +82,8 @@ mod tests {
     #[test]
     fn no_two_lines_have_one_name() {
         let names = chosen(&[]).unwrap();
-        assert_eq!(names.len(), 56);
-        assert_eq!(BTreeSet::from_iter(names).len(), 56);
+        assert_eq!(names.len(), 60);
+        assert_eq!(BTreeSet::from_iter(names).len(), 60);
     }
 
     #[test]
@@ -92,6 +92,7 @@ mod tests {
         assert_eq!(chosen(&["terminal represent: "]).unwrap().len(), 10);
         assert_eq!(chosen(&["prune: "]).unwrap().len(), 6);
         assert_eq!(chosen(&["enter, held"]).unwrap().len(), 4);
+        assert_eq!(chosen(&["strike, held by others"]).unwrap().len(), 4);
         let two = ["represent: EFPA 4x6", "prune: one value 8x16, top 15"];
         assert_eq!(chosen(&["one value", "EFPA"]).unwrap(), two);
     }

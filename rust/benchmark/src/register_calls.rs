@@ -3,7 +3,7 @@
 use crate::implementations::RegisterCalls;
 use crate::inputs::check_equal;
 use crate::low_times::low_times;
-use crate::registers::{Entries, M, N};
+use crate::registers::{Entries, CLIENT, M, N};
 use plan_register::numbers::{DONE, HELD, LENGTH};
 use reference::calls::Call;
 use reference::forms::drawn;
@@ -53,19 +53,24 @@ pub fn reading(entries: &Entries) -> Vec<RegisterCall> {
     calls.map(call).into()
 }
 
-/// Enter and strike.
+/// Enter and strike. Where the class is held before and after, three bytes are written and no line
+/// moves.
 pub fn writing(entries: &Entries) -> Vec<RegisterCall> {
     let (without, with) = (entries.without_first(), entries.with_first());
     let (first, held) = (shuffled(&entries.first), shuffled(entries.held()));
-    let (new, old) = (Call::Enter(first.clone()), Call::Enter(held));
+    let enter = |grid: &Vec<u8>| Call::Enter(CLIENT, grid.clone());
+    let strike = |grid: &Vec<u8>| Call::Strike(CLIENT, grid.clone());
+    let (at_1, at_place) = ((DONE, 1), (DONE, entries.place));
+    let again = (HELD, entries.place);
     let calls = [
-        ("enter, new at place 1", without.clone(), new, (DONE, 1)),
-        ("enter, held", without, old, (HELD, entries.place)),
-        ("strike at place 1", with, Call::Strike(first), (DONE, 1)),
+        ("enter, new at place 1", &without, enter(&first), at_1),
+        ("enter, held", &without, enter(&held), again),
+        ("strike at place 1", &with, strike(&first), at_1),
+        ("strike, held by others", &without, strike(&held), at_place),
     ];
-    let call = |(name, register, call, answer)| RegisterCall {
+    let call = |(name, register, call, answer): (_, &Vec<u8>, _, _)| RegisterCall {
         name: format!("{}: {name}", entries.name),
-        register,
+        register: register.clone(),
         top: entries.top,
         call,
         answer,
@@ -125,19 +130,19 @@ impl RegisterCall {
     /// Makes the call on the lent register.
     fn made(&self, calls: &RegisterCalls, lent: &mut [u8]) -> (u32, u32) {
         match &self.call {
-            Call::Enter(grid) => {
-                let entered = (calls.enter)(lent, black_box(grid));
+            Call::Enter(client, grid) => {
+                let entered = (calls.enter)(lent, *client as usize, black_box(grid));
                 (entered.number, entered.place)
             }
-            Call::Strike(grid) => {
-                let struck = (calls.strike)(lent, black_box(grid));
+            Call::Strike(client, grid) => {
+                let struck = (calls.strike)(lent, *client as usize, black_box(grid));
                 (struck.number, struck.place)
             }
             Call::Count((low, high)) => {
                 let counted = (calls.count)(lent, black_box(low), black_box(high));
                 (counted.number, counted.count)
             }
-            Call::TerminalEnter(_) => unreachable!("a terminal's enter is not timed"),
+            Call::TerminalEnter(..) => unreachable!("a terminal's enter is not timed"),
         }
     }
 
@@ -155,7 +160,7 @@ impl RegisterCall {
 
     /// The time of represent on the call's grid; zero where it has none.
     fn represent_time(&self, calls: &RegisterCalls) -> Duration {
-        let (Call::Enter(grid) | Call::Strike(grid)) = &self.call else {
+        let (Call::Enter(_, grid) | Call::Strike(_, grid)) = &self.call else {
             return Duration::ZERO;
         };
         let (top, mut out) = (self.top.into(), [0; M * N]);

@@ -1,15 +1,23 @@
-//! The registers on which the calls are timed: 8 x 16, capacity 500, 499 entries.
+//! The registers on which the calls are timed: 8 x 16, capacity 500, 499 entries, each held by
+//! several clients.
 
 use plan_register::numbers::DONE;
 use plan_register::represent;
 use reference::grid::compare;
-use reference::layout::Contents;
+use reference::holdings::Holdings;
+use reference::layout::{Contents, Entry};
 use reference::random::Random;
 use std::collections::BTreeSet;
 
 pub const M: usize = 8;
 pub const N: usize = 16;
 const CAPACITY: usize = 500;
+
+/// The client whose calls are timed.
+pub const CLIENT: u64 = 3;
+
+/// What the clients hold of each entry.
+const HELD: Holdings = Holdings([0, 12, 1, 0, 999, 0, 0, 3]);
 
 /// Entries for a register.
 pub struct Entries {
@@ -19,7 +27,7 @@ pub struct Entries {
     listed: Vec<Vec<u8>>,
     /// The place among them of one that is a representative. The others need not be.
     pub place: u32,
-    /// A representative that comes before all of them.
+    /// A representative that comes before all of them. Only the client holds one.
     pub first: Vec<u8>,
 }
 
@@ -80,18 +88,30 @@ impl Entries {
 
     /// The register with all but `first`.
     pub fn without_first(&self) -> Vec<u8> {
-        self.register(self.listed.clone())
+        self.register(self.entries())
     }
 
     /// The register with `first`, and without the last.
     pub fn with_first(&self) -> Vec<u8> {
-        let mut entries = self.listed.clone();
+        let mut entries = self.entries();
         entries.pop();
-        entries.insert(0, self.first.clone());
+        let first = Entry {
+            grid: self.first.clone(),
+            holdings: Holdings::one_of(CLIENT),
+        };
+        entries.insert(0, first);
         self.register(entries)
     }
 
-    fn register(&self, entries: Vec<Vec<u8>>) -> Vec<u8> {
+    fn entries(&self) -> Vec<Entry> {
+        let entry = |grid: &Vec<u8>| Entry {
+            grid: grid.clone(),
+            holdings: HELD,
+        };
+        self.listed.iter().map(entry).collect()
+    }
+
+    fn register(&self, entries: Vec<Entry>) -> Vec<u8> {
         let contents = Contents {
             rows: M as u64,
             columns: N as u64,

@@ -1,11 +1,12 @@
 //! Question 5 in plain Rust: is the register laid out?
 //!
-//! An entry's line is looked at byte by byte, without reading its cells, so that the loop takes a
-//! vector at a time. A byte fits if it is above what a blank field or the digit 0 has there by no
-//! more than `span`, or by `teen` exactly, a ten's 1; and after a 1 by no more than top - 10.
+//! The cells of an entry's line are looked at byte by byte, without reading them, so that the loop
+//! takes a vector at a time. A byte fits if it is above what a blank field or the digit 0 has there
+//! by no more than `span`, or by `teen` exactly, a ten's 1; and after a 1 by no more than top - 10.
+//! The holdings are looked at field by field, without a branch.
 
 use crate::head::Head;
-use crate::line::compare;
+use crate::line::{compare, HOLDINGS};
 
 /// What line 1 states. `None` where question 5 gets a no.
 pub fn laid_out(register: &[u8]) -> Option<Head> {
@@ -21,21 +22,35 @@ pub fn laid_out(register: &[u8]) -> Option<Head> {
 /// Is each line of an entry laid out, and does each come before the next?
 fn entries_fit(entries: &[u8], head: Head) -> bool {
     let fields = Fields::new(head.top as u8);
-    let width = head.width();
+    let length = head.cells();
     let mut last: Option<&[u8]> = None;
     for k in 0..head.count {
         let start = head.start(k);
-        let line = &entries[start..start + width - 1];
-        let before = &entries[start - 1..start + width - 2];
-        if entries[start + width - 1] != b'\n' || !fields.fit(line, before) {
+        let (cells, behind) = entries[start..head.start(k + 1)].split_at(length);
+        let before = &entries[start - 1..start - 1 + length];
+        if !fields.fit(cells, before) || !holdings_fit(behind) {
             return false;
         }
-        if last.is_some_and(|last| compare(last, line).is_ge()) {
+        if last.is_some_and(|last| compare(last, cells).is_ge()) {
             return false;
         }
-        last = Some(line);
+        last = Some(cells);
     }
     true
+}
+
+/// Are these the eight holdings, laid out and not all 0, and a line feed?
+fn holdings_fit(behind: &[u8]) -> bool {
+    let (holdings, line_feed) = behind.split_at(HOLDINGS);
+    let (mut fit, mut held) = (line_feed == b"\n", false);
+    for &[hundreds, tens, ones] in holdings.as_chunks().0 {
+        let has_tens = tens.is_ascii_digit();
+        let has_hundreds = hundreds.is_ascii_digit() & (hundreds != b'0') & has_tens;
+        let is_below_100 = (hundreds == b' ') & (tens != b'0') & (has_tens | (tens == b' '));
+        fit &= ones.is_ascii_digit() & (has_hundreds | is_below_100);
+        held |= (ones != b'0') | has_tens;
+    }
+    fit & held
 }
 
 fn blanks_fit(blanks: &[u8], width: usize) -> bool {
@@ -46,7 +61,7 @@ fn blanks_fit(blanks: &[u8], width: usize) -> bool {
     blanks.chunks_exact(width).all(is_blank)
 }
 
-/// For each byte of the longest line how it fits.
+/// For each byte of the most cells how it fits.
 struct Fields {
     base: [u8; 384],
     teen: [u8; 384],
@@ -67,7 +82,7 @@ impl Fields {
         }
     }
 
-    /// Do the bytes of the line fit? `before` is the line a byte earlier.
+    /// Do the bytes of the cells fit? `before` is the line from a byte earlier on.
     fn fit(&self, line: &[u8], before: &[u8]) -> bool {
         let width = line.len();
         let before = &before[..width];

@@ -6,7 +6,7 @@
 use crate::head::Head;
 use reference::grid::rank;
 
-/// For each byte of the longest line what it is held to.
+/// For each byte of the most cells what it is held to.
 pub struct Bounds {
     low: [u8; 384],
     span: [u8; 384],
@@ -31,7 +31,7 @@ impl Bounds {
 
     /// The count of the register's entries whose cells are all within the bounds.
     pub fn count(&self, register: &[u8], head: Head) -> u32 {
-        let fields = head.width() - 1;
+        let fields = head.cells();
         let within = |&k: &usize| {
             let start = head.start(k);
             let line = &register[start..start + fields];

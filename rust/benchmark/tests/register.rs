@@ -8,8 +8,8 @@ use benchmark::registers::inputs;
 use reference::calls::Call;
 use reference::examples::{every_grid, shapes_up_to};
 use reference::grid::compare;
-use reference::layout::Contents;
-use reference::lists::Pool;
+use reference::layout::{Contents, Entry};
+use reference::lists::{drawn_holdings, Pool};
 use reference::random::Random;
 use reference::register::Answer;
 use std::collections::BTreeSet;
@@ -19,19 +19,19 @@ fn check(register: &mut Vec<u8>, call: &Call) -> u32 {
     let mut left = register.clone();
     let expected = call.on_register(&mut left);
     let (number, place) = match call {
-        Call::Enter(grid) => {
-            let entered = plain_register::enter(register, grid);
+        Call::Enter(client, grid) => {
+            let entered = plain_register::enter(register, *client as usize, grid);
             (entered.number, entered.place)
         }
-        Call::Strike(grid) => {
-            let struck = plain_register::strike(register, grid);
+        Call::Strike(client, grid) => {
+            let struck = plain_register::strike(register, *client as usize, grid);
             (struck.number, struck.place)
         }
         Call::Count((low, high)) => {
             let counted = plain_register::count(register, low, high);
             (counted.number, counted.count)
         }
-        Call::TerminalEnter(_) => unreachable!("plain Rust has no terminal's enter"),
+        Call::TerminalEnter(..) => unreachable!("plain Rust has no terminal's enter"),
     };
     let found = Answer {
         number,
@@ -48,16 +48,21 @@ fn check_layout(bytes: &[u8]) -> bool {
     check(&mut bytes.to_vec(), &empty) == 6
 }
 
-/// The bytes of a register with these entries, sorted.
-fn register(m: usize, n: usize, top: u8, capacity: u64, mut entries: Vec<Vec<u8>>) -> Vec<u8> {
-    entries.sort_by(|a, b| compare(a, b));
-    entries.dedup();
+/// The bytes of a register with these entries, sorted, and with holdings that are drawn.
+fn register(m: usize, n: usize, top: u8, capacity: u64, mut grids: Vec<Vec<u8>>) -> Vec<u8> {
+    grids.sort_by(|a, b| compare(a, b));
+    grids.dedup();
+    let mut random = Random::new(capacity);
+    let entries = grids.into_iter().map(|grid| Entry {
+        grid,
+        holdings: drawn_holdings(&mut random),
+    });
     let contents = Contents {
         rows: m as u64,
         columns: n as u64,
         top: top.into(),
         capacity,
-        entries,
+        entries: entries.collect(),
     };
     contents.bytes()
 }
@@ -77,19 +82,42 @@ fn lists_of_calls() {
             }
         }
     }
-    assert_eq!(met.len(), 13, "{met:?}");
+    assert_eq!(met.len(), 15, "{met:?}");
 }
 
 #[test]
 fn entries_that_are_not_least() {
     let mut random = Random::new(142);
+    let mut met = BTreeSet::new();
     for (m, n) in shapes_up_to(9) {
         let pool = Pool::drawn(&mut random, m, n, 2, 8);
         let mut register = register(m, n, 2, 10, pool.grids.clone());
         for _ in 0..60 {
-            check(&mut register, &pool.call(&mut random));
+            let call = pool.call(&mut random);
+            met.insert((call.name(), check(&mut register, &call)));
         }
     }
+    assert!(met.contains(&("enter", 16)), "{met:?}");
+}
+
+#[test]
+fn a_holding_goes_to_999_and_back() {
+    let mut register = register(1, 1, 1, 2, vec![]);
+    let (enter, strike) = (Call::Enter(5, vec![1]), Call::Strike(5, vec![1]));
+    for k in 0..1001 {
+        let expected = match k {
+            0 => 0,
+            1..999 => 101,
+            _ => 16,
+        };
+        assert_eq!(check(&mut register, &enter), expected);
+    }
+    assert_eq!(check(&mut register, &Call::Enter(6, vec![1])), 101);
+    for k in 0..1000 {
+        let expected = if k < 999 { 0 } else { 10 };
+        assert_eq!(check(&mut register, &strike), expected);
+    }
+    assert_eq!(check(&mut register, &Call::Strike(6, vec![1])), 0);
 }
 
 #[test]
@@ -143,7 +171,7 @@ fn entries_in_another_order() {
                 Contents::read(&register(m, n, 15, 2, vec![lesser, greater])).unwrap();
             contents.entries.reverse();
             assert!(!check_layout(&contents.bytes()));
-            contents.entries[1] = contents.entries[0].clone();
+            contents.entries[1].grid = contents.entries[0].grid.clone();
             assert!(!check_layout(&contents.bytes()));
         }
     }
@@ -175,11 +203,12 @@ fn every_count_is_written() {
     let classes: Vec<Vec<u8>> = grids.into_iter().filter(|g| g.is_sorted()).collect();
     let mut register = register(1, 3, 15, 500, vec![]);
     for grid in &classes[..500] {
-        assert_eq!(check(&mut register, &Call::Enter(grid.clone())), 0);
+        assert_eq!(check(&mut register, &Call::Enter(1, grid.clone())), 0);
     }
-    assert_eq!(check(&mut register, &Call::Enter(classes[500].clone())), 9);
+    let new = Call::Enter(1, classes[500].clone());
+    assert_eq!(check(&mut register, &new), 9);
     for grid in &classes[..500] {
-        assert_eq!(check(&mut register, &Call::Strike(grid.clone())), 0);
+        assert_eq!(check(&mut register, &Call::Strike(1, grid.clone())), 0);
     }
 }
 
@@ -203,8 +232,12 @@ fn an_enter_and_a_strike_of_a_class_leave_the_bytes() {
     for entries in inputs() {
         let before = entries.without_first();
         let mut register = before.clone();
-        assert_eq!((PLAIN.enter)(&mut register, &entries.first).place, 1);
-        assert_eq!((PLAIN.strike)(&mut register, &entries.first).place, 1);
-        assert!(register == before);
+        for grid in [&entries.first[..], entries.held()] {
+            let entered = (PLAIN.enter)(&mut register, 7, grid);
+            assert!(register != before);
+            let struck = (PLAIN.strike)(&mut register, 7, grid);
+            assert_eq!(struck.place, entered.place);
+            assert!(register == before);
+        }
     }
 }

@@ -1,8 +1,9 @@
-//! A small order system: it charges a plan once, however its rows and columns are arranged.
-//! `order_system FILE` takes the day's orders and keeps its register in the file.
+//! A small order system: it charges a plan once, however its rows and columns are arranged, and
+//! keeps what each client holds. `order_system FILE` takes the day's orders and keeps its register
+//! in the file.
 
 use plan_register::numbers::{NO_GRID, TWO_CLASSES};
-use plan_register::{prune, represent, same, Entered, Refusal, Register};
+use plan_register::{prune, represent, same, Client, Entered, Refusal, Register};
 use std::error::Error;
 use std::fs::{self, File};
 use std::io::{self, ErrorKind::NotFound, Write};
@@ -14,13 +15,15 @@ const TOP: usize = 3;
 const CAPACITY: usize = 3;
 const CELLS: usize = ROWS * COLUMNS;
 
-const ORDERS: [[u8; CELLS]; 6] = [
-    [2, 2, 3, 2, 3, 1],
-    [2, 1, 3, 2, 3, 2], // the first plan, arranged otherwise
-    [1, 1, 2, 0, 1, 0],
-    [0, 0, 0, 1, 1, 1],
-    [0, 1, 2, 3, 3, 3], // one plan too many
-    [2, 2, 3, 2, 3, 4], // 4 is above the greatest value
+/// Each with the number of the client who orders it.
+const ORDERS: [(usize, [u8; CELLS]); 7] = [
+    (1, [2, 2, 3, 2, 3, 1]),
+    (2, [2, 1, 3, 2, 3, 2]), // the first plan, arranged otherwise
+    (1, [1, 1, 2, 0, 1, 0]),
+    (8, [0, 0, 0, 1, 1, 1]),
+    (1, [0, 1, 2, 3, 3, 3]), // one plan too many
+    (1, [2, 2, 3, 2, 3, 4]), // 4 is above the greatest value
+    (9, [2, 2, 3, 2, 3, 1]), // there are eight clients
 ];
 const WITHDRAWN: [u8; CELLS] = [0, 1, 0, 1, 1, 2]; // the third plan, arranged otherwise
 
@@ -35,15 +38,21 @@ fn run() -> Result<(), Box<dyn Error>> {
     let path = PathBuf::from(std::env::args_os().nth(1).ok_or("name a file")?);
     let mut register = read_or_open(&path)?;
     println!("{} plans are held", register.count());
-    for plan in &ORDERS {
-        take(&mut register, plan, &path)?;
+    for (client, plan) in &ORDERS {
+        take(&mut register, *client, plan, &path)?;
     }
-    let place = register.strike(&WITHDRAWN)?;
-    write(&register, &path)?;
-    println!("{WITHDRAWN:?} withdrawn from place {place}");
+    for client in [2, 1] {
+        withdraw(&mut register, Client::numbered(client)?, &path)?;
+    }
+    for entry in register.entries() {
+        println!(
+            "{:?} held by clients 1 to 8: {:?}",
+            entry.grid, entry.holdings
+        );
+    }
     count(&register)?;
-    compare(&ORDERS[0], &ORDERS[1])?;
-    compare(&ORDERS[2], &ORDERS[3])?;
+    compare(&ORDERS[0].1, &ORDERS[1].1)?;
+    compare(&ORDERS[2].1, &ORDERS[3].1)?;
     Ok(())
 }
 
@@ -61,18 +70,34 @@ fn read_or_open(path: &Path) -> Result<Register, Box<dyn Error>> {
 }
 
 /// Takes an order. A new plan is charged once it is held in the file.
-fn take(register: &mut Register, plan: &[u8], path: &Path) -> io::Result<()> {
+fn take(register: &mut Register, number: usize, plan: &[u8], path: &Path) -> io::Result<()> {
     let before = register.clone();
-    match register.enter(plan) {
+    match Client::numbered(number).and_then(|client| register.enter(client, plan)) {
         Ok(Entered::New { place }) => {
             write(register, path)?;
-            println!("{plan:?} charged, at place {place}");
+            println!("{plan:?} charged to client {number}, at place {place}");
         }
-        Ok(Entered::Held { place }) => println!("{plan:?} not charged, held at place {place}"),
+        Ok(Entered::Held { place }) => {
+            write(register, path)?;
+            println!("{plan:?} not charged to client {number}, held at place {place}");
+        }
         Err(refusal) => {
             assert!(*register == before, "a refusal changes nothing");
             println!("{plan:?} refused: {refusal}");
         }
+    }
+    Ok(())
+}
+
+/// Withdraws a plan for a client who holds it. What others hold of it stays.
+fn withdraw(register: &mut Register, client: Client, path: &Path) -> io::Result<()> {
+    let number = client.number();
+    match register.strike(client, &WITHDRAWN) {
+        Ok(place) => {
+            write(register, path)?;
+            println!("{WITHDRAWN:?} withdrawn by client {number} from place {place}");
+        }
+        Err(refusal) => println!("{WITHDRAWN:?} not withdrawn by client {number}: {refusal}"),
     }
     Ok(())
 }

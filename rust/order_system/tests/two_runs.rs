@@ -36,13 +36,17 @@ fn check_fails(file: &Path, expected: &str) {
 
 const FIRST: &str = "\
 0 plans are held
-[2, 2, 3, 2, 3, 1] charged, at place 1
-[2, 1, 3, 2, 3, 2] not charged, held at place 1
-[1, 1, 2, 0, 1, 0] charged, at place 1
-[0, 0, 0, 1, 1, 1] charged, at place 1
-[0, 1, 2, 3, 3, 3] refused: the class is not held, and the register is full (number 9)
+[2, 2, 3, 2, 3, 1] charged to client 1, at place 1
+[2, 1, 3, 2, 3, 2] not charged to client 2, held at place 1
+[1, 1, 2, 0, 1, 0] charged to client 1, at place 1
+[0, 0, 0, 1, 1, 1] charged to client 8, at place 1
+[0, 1, 2, 3, 3, 3] refused: nobody holds the class, and the register is full (number 9)
 [2, 2, 3, 2, 3, 4] refused: a cell or a bound is above top (number 7)
-[0, 1, 0, 1, 1, 2] withdrawn from place 2
+[2, 2, 3, 2, 3, 1] refused: the client is not 1 to 8 (number 15)
+[0, 1, 0, 1, 1, 2] not withdrawn by client 2: this client holds none of the class (number 10)
+[0, 1, 0, 1, 1, 2] withdrawn by client 1 from place 2
+[0, 0, 0, 1, 1, 1] held by clients 1 to 8: [0, 0, 0, 0, 0, 0, 0, 1]
+[1, 2, 3, 3, 2, 2] held by clients 1 to 8: [1, 1, 0, 0, 0, 0, 0, 0]
 1 of 2 entries are in bounds
 pruned of 3 values: [1, 0, 0, 1, 1, 1] to [3, 3, 3, 3, 3, 3]
 least [1, 2, 3, 3, 2, 2]; one plan, by rows [1, 0] and columns [0, 2, 1]
@@ -51,31 +55,40 @@ least [0, 0, 1, 1, 2, 1]; two plans, which agree in 2 cells of the first row
 
 const SECOND: &str = "\
 2 plans are held
-[2, 2, 3, 2, 3, 1] not charged, held at place 2
-[2, 1, 3, 2, 3, 2] not charged, held at place 2
-[1, 1, 2, 0, 1, 0] charged, at place 2
-[0, 0, 0, 1, 1, 1] not charged, held at place 1
-[0, 1, 2, 3, 3, 3] refused: the class is not held, and the register is full (number 9)
+[2, 2, 3, 2, 3, 1] not charged to client 1, held at place 2
+[2, 1, 3, 2, 3, 2] not charged to client 2, held at place 2
+[1, 1, 2, 0, 1, 0] charged to client 1, at place 2
+[0, 0, 0, 1, 1, 1] not charged to client 8, held at place 1
+[0, 1, 2, 3, 3, 3] refused: nobody holds the class, and the register is full (number 9)
 [2, 2, 3, 2, 3, 4] refused: a cell or a bound is above top (number 7)
-[0, 1, 0, 1, 1, 2] withdrawn from place 2
+[2, 2, 3, 2, 3, 1] refused: the client is not 1 to 8 (number 15)
+[0, 1, 0, 1, 1, 2] not withdrawn by client 2: this client holds none of the class (number 10)
+[0, 1, 0, 1, 1, 2] withdrawn by client 1 from place 2
+[0, 0, 0, 1, 1, 1] held by clients 1 to 8: [0, 0, 0, 0, 0, 0, 0, 2]
+[1, 2, 3, 3, 2, 2] held by clients 1 to 8: [2, 2, 0, 0, 0, 0, 0, 0]
 1 of 2 entries are in bounds
 pruned of 3 values: [1, 0, 0, 1, 1, 1] to [3, 3, 3, 3, 3, 3]
 least [1, 2, 3, 3, 2, 2]; one plan, by rows [1, 0] and columns [0, 2, 1]
 least [0, 0, 1, 1, 2, 1]; two plans, which agree in 2 cells of the first row
 ";
 
-const LEFT: &str = "     2     3     3     3     2
-  0  0  0  1  1  1
-  1  2  3  3  2  2
-                  \n";
+const LEFT_BY_FIRST: &str = "     2     3     3     3     2
+  0  0  0  1  1  1  0  0  0  0  0  0  0  1
+  1  2  3  3  2  2  1  1  0  0  0  0  0  0
+                                          \n";
+
+const LEFT_BY_SECOND: &str = "     2     3     3     3     2
+  0  0  0  1  1  1  0  0  0  0  0  0  0  2
+  1  2  3  3  2  2  2  2  0  0  0  0  0  0
+                                          \n";
 
 #[test]
 fn a_plan_is_charged_once_over_two_runs() {
     let folder = folder("two_runs");
     let file = folder.join("register.txt");
-    for expected in [FIRST, SECOND] {
+    for (expected, left) in [(FIRST, LEFT_BY_FIRST), (SECOND, LEFT_BY_SECOND)] {
         check_prints(&file, expected);
-        assert_eq!(fs::read_to_string(&file).expect("the file is read"), LEFT);
+        assert_eq!(fs::read_to_string(&file).expect("the file is read"), left);
         let files = fs::read_dir(&folder).expect("the folder is read");
         assert_eq!(files.count(), 1, "no other file is left");
     }
@@ -84,7 +97,14 @@ fn a_plan_is_charged_once_over_two_runs() {
 #[test]
 fn a_file_that_is_no_register_is_left_alone() {
     let file = folder("no_register").join("register.txt");
-    for text in ["", "not a register\n", &LEFT[1..]] {
+    let without_holdings = "     2     3     3     1     1\n  0  0  0  1  1  1\n";
+    let texts = [
+        "",
+        "not a register\n",
+        &LEFT_BY_FIRST[1..],
+        without_holdings,
+    ];
+    for text in texts {
         fs::write(&file, text).expect("the file is written");
         let error = "order_system: the bytes are not laid out as a register (number 5)\n";
         check_fails(&file, error);
@@ -95,8 +115,8 @@ fn a_file_that_is_no_register_is_left_alone() {
 #[test]
 fn a_register_of_other_plans_is_left_alone() {
     let file = folder("other_plans").join("register.txt");
-    let text = "     3     2     3     1     0\n                  \n";
-    fs::write(&file, text).expect("the file is written");
+    let text = format!("     3     2     3     1     0\n{:42}\n", "");
+    fs::write(&file, &text).expect("the file is written");
     let error = "order_system: the file's register is for other plans\n";
     check_fails(&file, error);
     assert_eq!(fs::read_to_string(&file).expect("the file is read"), text);

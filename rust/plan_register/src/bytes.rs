@@ -1,6 +1,7 @@
 //! The calls on a register's bytes. A register of m rows, n columns and a capacity is
-//! 31 + capacity * (3 * m * n + 1) bytes of plain text: line 1 states rows, columns, top,
+//! 31 + capacity * (3 * m * n + 25) bytes of plain text: line 1 states rows, columns, top,
 //! capacity and count, the next lines hold an entry each, ascending, and the others are blank.
+//! An entry's line has its cells and then the holdings of clients 1 to 8.
 #![allow(unsafe_code)]
 
 use crate::sys::{
@@ -17,10 +18,11 @@ use crate::{Counted, Placed};
 /// ```
 /// use plan_register::numbers::{CAPACITY, DONE};
 ///
-/// let mut register = [0; 31 + 2 * 13];
+/// let mut register = [0; 31 + 2 * 37];
 /// assert_eq!(plan_register::open(2, 2, 1, 2, &mut register).number, DONE);
 /// assert_eq!(&register[..31], b"     2     2     1     2     0\n");
-/// assert_eq!(&register[31..], b"            \n            \n");
+/// assert_eq!(&register[31..68], b"                                    \n");
+/// assert_eq!(&register[68..], b"                                    \n");
 /// assert_eq!(plan_register::open(2, 2, 1, 501, &mut register).number, CAPACITY);
 /// ```
 pub fn open(m: usize, n: usize, top: usize, capacity: usize, register: &mut [u8]) -> Placed {
@@ -29,58 +31,71 @@ pub fn open(m: usize, n: usize, top: usize, capacity: usize, register: &mut [u8]
     unsafe { plan_register_open(m, n, top, capacity, lines, register.len()) }
 }
 
-/// Enter: the grid's class is held from then on.
+/// Enter: the client holds one more of the grid's class.
 ///
-/// `grid` has m times n cells of 0 to top, as `register` states them. Number 0 if the class is
-/// new: its representative is now an entry. 101 if it was held already, and no byte changes.
-/// With either the place is the entry's line, the first entry's being 1. Otherwise a refusal,
-/// 5, 6, 7 or 9, with place 0, and `register` keeps its bytes.
+/// `client` is 1 to 8. `grid` has m times n cells of 0 to top, as `register` states them. Number 0
+/// if the class is new: its representative is now an entry, with 1 as this client's holding and 0
+/// as the others'. 101 if some client held it already: this client's holding is 1 more. With either
+/// the place is the entry's line, the first entry's being 1. Otherwise a refusal, 5, 6, 7, 15, 9
+/// or 16, with place 0, and `register` keeps its bytes.
 ///
 /// ```
-/// use plan_register::numbers::{DONE, HELD};
+/// use plan_register::numbers::{CLIENT, DONE, HELD};
 ///
-/// let mut register = *b"     2     2     1     2     0\n            \n            \n";
-/// let entered = plan_register::enter(&mut register, &[1, 0, 0, 1]);
+/// let mut register = [0; 31 + 37];
+/// assert_eq!(plan_register::open(2, 2, 1, 1, &mut register).number, DONE);
+/// let entered = plan_register::enter(&mut register, 1, &[1, 0, 0, 1]);
 /// assert_eq!((entered.number, entered.place), (DONE, 1));
-/// assert_eq!(&register[31..], b"  0  1  1  0\n            \n");
-/// let again = plan_register::enter(&mut register, &[0, 1, 1, 0]);
+/// assert_eq!(&register[31..], b"  0  1  1  0  1  0  0  0  0  0  0  0\n");
+/// let again = plan_register::enter(&mut register, 8, &[0, 1, 1, 0]);
 /// assert_eq!((again.number, again.place), (HELD, 1));
+/// assert_eq!(&register[31..], b"  0  1  1  0  1  0  0  0  0  0  0  1\n");
+/// let refused = plan_register::enter(&mut register, 9, &[0, 1, 1, 0]);
+/// assert_eq!((refused.number, refused.place), (CLIENT, 0));
 /// ```
-pub fn enter(register: &mut [u8], grid: &[u8]) -> Placed {
+pub fn enter(register: &mut [u8], client: usize, grid: &[u8]) -> Placed {
     let lines = register.as_mut_ptr();
     // SAFETY: as `sys` says of every call.
-    unsafe { plan_register_enter(lines, register.len(), grid.as_ptr(), grid.len()) }
+    unsafe { plan_register_enter(lines, register.len(), client, grid.as_ptr(), grid.len()) }
 }
 
-/// Strike: the entry of the grid's class goes, and the later ones move up.
+/// Strike: the client holds one less of the grid's class. Where nobody holds any then, the entry
+/// goes, and the later ones move up.
 ///
-/// `grid` is as for [`enter`]. Number 0 with the line that the entry had. Otherwise a refusal,
-/// 5, 6, 7 or 10, with place 0, and `register` keeps its bytes.
+/// `client` and `grid` are as for [`enter`]. Number 0 with the line that the entry had. Otherwise a
+/// refusal, 5, 6, 7, 15 or 10, with place 0, and `register` keeps its bytes.
 ///
 /// ```
 /// use plan_register::numbers::{DONE, NOT_HELD};
 ///
-/// let mut register = *b"     1     2     3     2     1\n  0  3\n      \n";
-/// let struck = plan_register::strike(&mut register, &[3, 0]);
+/// let mut register = *b"     1     1     3     1     1\n  3  1  0  1  0  0  0  0  0\n";
+/// let struck = plan_register::strike(&mut register, 1, &[3]);
 /// assert_eq!((struck.number, struck.place), (DONE, 1));
-/// assert_eq!(&register, b"     1     2     3     2     0\n      \n      \n");
-/// assert_eq!(plan_register::strike(&mut register, &[3, 0]).number, NOT_HELD);
+/// assert_eq!(&register[31..], b"  3  0  0  1  0  0  0  0  0\n");
+/// assert_eq!(plan_register::strike(&mut register, 1, &[3]).number, NOT_HELD);
+/// let struck = plan_register::strike(&mut register, 3, &[3]);
+/// assert_eq!((struck.number, struck.place), (DONE, 1));
+/// assert_eq!(&register, b"     1     1     3     1     0\n                           \n");
 /// ```
-pub fn strike(register: &mut [u8], grid: &[u8]) -> Placed {
+pub fn strike(register: &mut [u8], client: usize, grid: &[u8]) -> Placed {
     let lines = register.as_mut_ptr();
     // SAFETY: as `sys` says of every call.
-    unsafe { plan_register_strike(lines, register.len(), grid.as_ptr(), grid.len()) }
+    unsafe { plan_register_strike(lines, register.len(), client, grid.as_ptr(), grid.len()) }
 }
 
 /// Count: counts the entries within the bounds, both included. It prunes nothing.
 ///
 /// `low` and `high` have m times n bounds of 0 to top each, as `register` states them. Number 0
-/// with the count of entries. Otherwise a refusal, 5, 6, 7 or 8, with count 0. No byte changes.
+/// with the count of entries, whoever holds them. Otherwise a refusal, 5, 6, 7 or 8, with count 0.
+/// No byte changes.
 ///
 /// ```
 /// use plan_register::numbers::{BOUNDS, DONE};
 ///
-/// let register = *b"     1     2     3     2     2\n  0  3\n  1  1\n";
+/// let register = *b"     1     2     3     2     2
+///   0  3  1  0  0  0  0  0  0  0
+///   1  1  0  0  2  0  0  0  0  1
+/// ";
 /// let counted = plan_register::count(&register, &[0, 1], &[0, 3]);
 /// assert_eq!((counted.number, counted.count), (DONE, 1));
 /// let refused = plan_register::count(&register, &[0, 3], &[0, 1]);
@@ -93,7 +108,10 @@ pub fn strike(register: &mut [u8], grid: &[u8]) -> Placed {
 /// ```
 /// use plan_register::{count, prune};
 ///
-/// let register = *b"     2     1     3     2     2\n  0  3\n  1  1\n";
+/// let register = *b"     2     1     3     2     2
+///   0  3  1  0  0  0  0  0  0  0
+///   1  1  0  0  2  0  0  0  0  1
+/// ";
 /// let (mut low, mut high) = ([0, 0], [3, 1]);
 /// assert_eq!(count(&register, &low, &high).count, 1);
 /// assert_eq!(prune(2, 1, 3, &mut low, &mut high).count, 2);

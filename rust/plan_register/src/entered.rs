@@ -1,12 +1,13 @@
 //! What entering a class into a `Register` comes to.
 
-/// Was the class new? With its place: the line of its entry, the first entry's being 1.
+/// Was the class new? Either way the client holds one more of it. With its place: the line of its
+/// entry, the first entry's being 1.
 #[must_use]
 #[derive(Clone, Copy, Debug, PartialEq, Eq)]
 pub enum Entered {
     /// The class was new, and is now held.
     New { place: usize },
-    /// The class was held already, number 101. Nothing has changed.
+    /// Some client held the class already, number 101. The client's holding is written.
     Held { place: usize },
 }
 

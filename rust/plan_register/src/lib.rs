@@ -16,11 +16,13 @@
 //! | `bounds`            | prune                                                     |
 //! | `bytes`             | open, enter, strike and count                             |
 //! | `placed`            | what the first three return                               |
+//! | `client`            | the clients that enter and strike name                    |
 //! | `counted`           | what prune and count return                               |
 //! | `terminals`         | a shop terminal's represent, same and enter               |
 //! | `terminal_arranged` | what a terminal's represent returns                       |
 //! | `terminal_matched`  | what a terminal's same returns                            |
 //! | `register`          | a register that owns its bytes                            |
+//! | `entry`             | an entry of it: a grid and its eight holdings             |
 //! | `entered`           | what it returns for a class entered                       |
 //! | `fields`            | the numbers that it reads from its bytes                  |
 //! | `refusal`           | the numbers of refusals, as errors                        |
@@ -32,8 +34,10 @@ mod agreement;
 mod arranged;
 mod bounds;
 mod bytes;
+mod client;
 mod counted;
 mod entered;
+mod entry;
 mod fields;
 mod grids;
 mod matched;
@@ -51,8 +55,10 @@ pub use agreement::Agreement;
 pub use arranged::Arranged;
 pub use bounds::prune;
 pub use bytes::{count, enter, open, strike};
+pub use client::Client;
 pub use counted::Counted;
 pub use entered::Entered;
+pub use entry::Entry;
 pub use grids::{represent, same};
 pub use matched::Matched;
 pub use placed::Placed;

@@ -1,6 +1,7 @@
 //! The numbers that the calls answer, those of documents 01 and 02.
 //!
-//! 1 to 10 and 14 are refusals: the number of the first question that gets a no. The others are none.
+//! 1 to 10 and 14 to 16 are refusals: the number of the first question that gets a no. The others
+//! are none.
 
 /// The call is done.
 pub const DONE: u32 = 0;
@@ -20,13 +21,17 @@ pub const LENGTH: u32 = 6;
 pub const CELL: u32 = 7;
 /// Refused: a low is above its high.
 pub const BOUNDS: u32 = 8;
-/// Refused: the class is not held, and the register is full.
+/// Refused: nobody holds the class, and the register is full.
 pub const FULL: u32 = 9;
-/// Refused: the class is not held.
+/// Refused: this client holds none of the class.
 pub const NOT_HELD: u32 = 10;
 /// Refused: a terminal's rows are 6 to 8.
 pub const TERMINAL_ROWS: u32 = 14;
-/// Enter: the class was held already.
+/// Refused: the client is not 1 to 8.
+pub const CLIENT: u32 = 15;
+/// Refused: this client's holding of the class is 999 already.
+pub const HOLDING: u32 = 16;
+/// Enter: some client held the class already.
 pub const HELD: u32 = 101;
 /// Prune: no grid within the bounds has allperm.
 pub const NO_GRID: u32 = 102;

@@ -5,7 +5,8 @@ use std::error::Error;
 use std::fmt;
 
 /// The question that a call did not pass. Of several it is the first. They are asked by number, but
-/// 14, which only terminals ask, directly after 1, or after 5 where the rows come from a register.
+/// 14, which only terminals ask, directly after 1, or after 5 where the rows come from a register,
+/// 15 after 7, and 16 after 9.
 ///
 /// ```
 /// use plan_register::{Refusal, Register};
@@ -34,17 +35,21 @@ pub enum Refusal {
     Cell = numbers::CELL,
     /// 8: a low is above its high.
     Bounds = numbers::BOUNDS,
-    /// 9: the class is not held, and the register is full.
+    /// 9: nobody holds the class, and the register is full.
     Full = numbers::FULL,
-    /// 10: the class is not held.
+    /// 10: this client holds none of the class.
     NotHeld = numbers::NOT_HELD,
     /// 14: a terminal's rows are 6 to 8.
     TerminalRows = numbers::TERMINAL_ROWS,
+    /// 15: the client is not 1 to 8.
+    Client = numbers::CLIENT,
+    /// 16: this client's holding of the class is 999 already.
+    Holding = numbers::HOLDING,
 }
 
 impl Refusal {
     /// Every refusal, by number.
-    pub const ALL: [Refusal; 11] = [
+    pub const ALL: [Refusal; 13] = [
         Refusal::Rows,
         Refusal::Columns,
         Refusal::Top,
@@ -56,9 +61,11 @@ impl Refusal {
         Refusal::Full,
         Refusal::NotHeld,
         Refusal::TerminalRows,
+        Refusal::Client,
+        Refusal::Holding,
     ];
 
-    /// The question's number, 1 to 10 or 14.
+    /// The question's number, 1 to 10 or 14 to 16.
     #[must_use]
     pub fn number(self) -> u32 {
         self as u32
@@ -93,9 +100,11 @@ impl Refusal {
             Refusal::Length => "a slice has not its exact length",
             Refusal::Cell => "a cell or a bound is above top",
             Refusal::Bounds => "a low is above its high",
-            Refusal::Full => "the class is not held, and the register is full",
-            Refusal::NotHeld => "the class is not held",
+            Refusal::Full => "nobody holds the class, and the register is full",
+            Refusal::NotHeld => "this client holds none of the class",
             Refusal::TerminalRows => "a terminal's rows are 6 to 8",
+            Refusal::Client => "the client is not 1 to 8",
+            Refusal::Holding => "this client's holding of the class is 999 already",
         }
     }
 }

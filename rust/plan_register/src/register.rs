@@ -1,34 +1,41 @@
 //! A register that owns its bytes.
 
-use crate::fields::{cells, number};
+use crate::fields::{entry, number};
 use crate::numbers::{DONE, HELD};
 use crate::{count, enter, open, strike, terminal_enter};
-use crate::{Entered, Placed, Refusal};
+use crate::{Client, Entered, Entry, Placed, Refusal};
 use std::fmt;
 
 /// Line 1: five fields, each 6 wide, and a line feed.
 const FIRST_LINE: usize = 31;
 const FIELD: usize = 6;
 
-/// A register. Its bytes are always laid out as one, so no call on it is refused by number 5.
+/// An entry's line: the cells and the eight holdings, each 3 wide, and a line feed.
+const fn line_length(m: usize, n: usize) -> usize {
+    3 * (m * n + Client::ALL.len()) + 1
+}
+
+/// A register. Its bytes are always laid out as one, so no call on it is refused by number 5. Its
+/// calls take a [`Client`], so none is refused by number 15.
 ///
 /// Grids and bounds are m times n bytes, row after row, as for the calls on slices.
 ///
 /// ```
-/// use plan_register::{Entered, Refusal, Register};
+/// use plan_register::{Client, Entered, Refusal, Register};
 ///
 /// # fn main() -> Result<(), Refusal> {
+/// let [anna, ben, ..] = Client::ALL;
 /// let mut register = Register::open(2, 2, 1, 2)?;
-/// assert_eq!(register.enter(&[1, 0, 0, 1])?, Entered::New { place: 1 });
-/// assert_eq!(register.enter(&[0, 1, 1, 0])?, Entered::Held { place: 1 });
-/// assert_eq!(register.strike(&[0, 0, 1, 1]), Err(Refusal::NotHeld));
+/// assert_eq!(register.enter(anna, &[1, 0, 0, 1])?, Entered::New { place: 1 });
+/// assert_eq!(register.enter(ben, &[0, 1, 1, 0])?, Entered::Held { place: 1 });
+/// assert_eq!(register.strike(anna, &[0, 0, 1, 1]), Err(Refusal::NotHeld));
 /// assert_eq!(register.count_within(&[0, 0, 0, 0], &[0, 1, 1, 1])?, 1);
-/// assert_eq!(register.enter(&[0, 0, 1, 1])?, Entered::New { place: 1 });
-/// assert_eq!(register.enter(&[0, 1, 0, 1]), Err(Refusal::Full));
+/// assert_eq!(register.enter(ben, &[0, 0, 1, 1])?, Entered::New { place: 1 });
+/// assert_eq!(register.enter(ben, &[0, 1, 0, 1]), Err(Refusal::Full));
 /// assert_eq!(register.count(), 2);
 /// assert_eq!(register.bytes(), b"     2     2     1     2     2
-///   0  0  1  1
-///   0  1  1  0
+///   0  0  1  1  0  1  0  0  0  0  0  0
+///   0  1  1  0  1  1  0  0  0  0  0  0
 /// ");
 /// # Ok(())
 /// # }
@@ -46,7 +53,7 @@ impl Register {
     /// use plan_register::{Refusal, Register};
     ///
     /// let register = Register::open(8, 16, 15, 500).unwrap();
-    /// assert_eq!((register.count(), register.bytes().len()), (0, 192_531));
+    /// assert_eq!((register.count(), register.bytes().len()), (0, 204_531));
     /// assert_eq!(Register::open(9, 16, 15, 500), Err(Refusal::Rows));
     /// ```
     pub fn open(m: usize, n: usize, top: usize, capacity: usize) -> Result<Register, Refusal> {
@@ -55,7 +62,7 @@ impl Register {
             Refusal::Length => {}
             limit => return Err(limit),
         }
-        let mut bytes = vec![0; FIRST_LINE + capacity * (3 * m * n + 1)];
+        let mut bytes = vec![0; FIRST_LINE + capacity * line_length(m, n)];
         match open(m, n, top, capacity, &mut bytes).number {
             DONE => Ok(Register { bytes }),
             number => Err(Refusal::answered(number)),
@@ -67,9 +74,9 @@ impl Register {
     /// ```
     /// use plan_register::{Refusal, Register};
     ///
-    /// let text = "     1     2     3     2     1\n  0  3\n      \n";
+    /// let text = "     1     2     3     1     1\n  0  3  1  0  0  0  0  0  0  2\n";
     /// let register = Register::from_bytes(text.into()).unwrap();
-    /// assert_eq!(register.entry(1), Some(vec![0, 3]));
+    /// assert_eq!(register.entry(1).unwrap().grid, [0, 3]);
     /// assert_eq!(Register::from_bytes(text[1..].into()), Err(Refusal::Layout));
     /// ```
     pub fn from_bytes(bytes: Vec<u8>) -> Result<Register, Refusal> {
@@ -83,8 +90,9 @@ impl Register {
     /// The bytes, plain text.
     ///
     /// ```
-    /// let register = plan_register::Register::open(1, 1, 9, 2).unwrap();
-    /// assert_eq!(register.bytes(), b"     1     1     9     2     0\n   \n   \n");
+    /// let register = plan_register::Register::open(1, 1, 9, 1).unwrap();
+    /// assert_eq!(&register.bytes()[..31], b"     1     1     9     1     0\n");
+    /// assert_eq!(&register.bytes()[31..], b"                           \n");
     /// ```
     #[must_use]
     pub fn bytes(&self) -> &[u8] {
@@ -147,93 +155,109 @@ impl Register {
         number(&self.bytes[field * FIELD..(field + 1) * FIELD])
     }
 
-    /// The entries, ascending.
+    /// The entries, ascending by their grids.
     ///
     /// ```
-    /// let mut register = plan_register::Register::open(1, 2, 3, 5).unwrap();
-    /// for grid in [[2, 1], [3, 0], [0, 0]] {
-    ///     assert!(register.enter(&grid).is_ok());
+    /// use plan_register::{Client, Register};
+    ///
+    /// let [anna, ben, ..] = Client::ALL;
+    /// let mut register = Register::open(1, 2, 3, 5).unwrap();
+    /// for (client, grid) in [(anna, [2, 1]), (anna, [3, 0]), (ben, [0, 0]), (ben, [0, 3])] {
+    ///     assert!(register.enter(client, &grid).is_ok());
     /// }
-    /// assert!(register.entries().eq([[0, 0], [0, 3], [1, 2]]));
+    /// let grids = register.entries().map(|entry| entry.grid);
+    /// assert!(grids.eq([[0, 0], [0, 3], [1, 2]]));
+    /// let of_ben = register.entries().map(|entry| entry.held_by(ben));
+    /// assert!(of_ben.eq([1, 1, 0]));
     /// ```
     #[must_use]
-    pub fn entries(&self) -> impl DoubleEndedIterator<Item = Vec<u8>> + ExactSizeIterator + '_ {
-        let line = 3 * self.rows() * self.columns() + 1;
-        let lines = self.bytes[FIRST_LINE..].chunks_exact(line);
-        lines.take(self.count()).map(cells)
+    pub fn entries(&self) -> impl DoubleEndedIterator<Item = Entry> + ExactSizeIterator + '_ {
+        let (m, n) = (self.rows(), self.columns());
+        let lines = self.bytes[FIRST_LINE..].chunks_exact(line_length(m, n));
+        lines.take(self.count()).map(move |line| entry(line, m * n))
     }
 
     /// The entry with this place, the first entry's being 1. `None` where there is none.
     ///
     /// ```
-    /// let mut register = plan_register::Register::open(1, 2, 3, 5).unwrap();
-    /// let entered = register.enter(&[3, 0]).unwrap();
-    /// assert_eq!(register.entry(entered.place()), Some(vec![0, 3]));
+    /// use plan_register::{Client, Register};
+    ///
+    /// let mut register = Register::open(1, 2, 3, 5).unwrap();
+    /// let entered = register.enter(Client::ALL[2], &[3, 0]).unwrap();
+    /// let entry = register.entry(entered.place()).unwrap();
+    /// assert_eq!((entry.grid, entry.holdings), (vec![0, 3], [0, 0, 1, 0, 0, 0, 0, 0]));
     /// assert_eq!(register.entry(2), None);
     /// ```
     #[must_use]
-    pub fn entry(&self, place: usize) -> Option<Vec<u8>> {
+    pub fn entry(&self, place: usize) -> Option<Entry> {
         self.entries().nth(place.checked_sub(1)?)
     }
 
-    /// Enters the grid's class, as [`enter`] does. Refused by number 6, 7 or 9.
+    /// Enters the grid's class for this client, as [`enter`] does. Refused by number 6, 7, 9 or 16.
     ///
     /// ```
-    /// use plan_register::{Entered, Refusal, Register};
+    /// use plan_register::{Client, Entered, Refusal, Register};
     ///
+    /// let [anna, ben, ..] = Client::ALL;
     /// let mut register = Register::open(1, 2, 3, 1).unwrap();
-    /// assert_eq!(register.enter(&[3, 0]), Ok(Entered::New { place: 1 }));
-    /// assert_eq!(register.enter(&[0, 3]), Ok(Entered::Held { place: 1 }));
-    /// assert_eq!(register.enter(&[0, 0]), Err(Refusal::Full));
-    /// assert_eq!(register.enter(&[0, 4]), Err(Refusal::Cell));
+    /// assert_eq!(register.enter(anna, &[3, 0]), Ok(Entered::New { place: 1 }));
+    /// assert_eq!(register.enter(ben, &[0, 3]), Ok(Entered::Held { place: 1 }));
+    /// assert_eq!(register.enter(ben, &[0, 0]), Err(Refusal::Full));
+    /// assert_eq!(register.enter(ben, &[0, 4]), Err(Refusal::Cell));
     /// ```
-    pub fn enter(&mut self, grid: &[u8]) -> Result<Entered, Refusal> {
-        entered(enter(&mut self.bytes, grid))
+    pub fn enter(&mut self, client: Client, grid: &[u8]) -> Result<Entered, Refusal> {
+        entered(enter(&mut self.bytes, client.number(), grid))
     }
 
-    /// Enters the grid's class at a terminal, as [`terminal_enter`] does: where the register has at
-    /// most 5 rows, as [`Register::enter`]. Refused by number 14, 6, 7 or 9.
+    /// Enters the grid's class for this client at a terminal, as [`terminal_enter`] does: where the
+    /// register has at most 5 rows, as [`Register::enter`]. Refused by number 14, 6, 7, 9 or 16.
     ///
     /// ```
-    /// use plan_register::{Entered, Refusal, Register};
+    /// use plan_register::{Client, Entered, Refusal, Register};
     ///
+    /// let [anna, ..] = Client::ALL;
     /// let mut register = Register::open(1, 2, 3, 1).unwrap();
-    /// assert_eq!(register.terminal_enter(&[3, 0]), Ok(Entered::New { place: 1 }));
-    /// assert_eq!(register.enter(&[0, 3]), Ok(Entered::Held { place: 1 }));
+    /// assert_eq!(register.terminal_enter(anna, &[3, 0]), Ok(Entered::New { place: 1 }));
+    /// assert_eq!(register.enter(anna, &[0, 3]), Ok(Entered::Held { place: 1 }));
     /// let mut large = Register::open(6, 1, 3, 1).unwrap();
-    /// assert_eq!(large.terminal_enter(&[0; 6]), Err(Refusal::TerminalRows));
+    /// assert_eq!(large.terminal_enter(anna, &[0; 6]), Err(Refusal::TerminalRows));
     /// ```
-    pub fn terminal_enter(&mut self, grid: &[u8]) -> Result<Entered, Refusal> {
-        entered(terminal_enter(&mut self.bytes, grid))
+    pub fn terminal_enter(&mut self, client: Client, grid: &[u8]) -> Result<Entered, Refusal> {
+        entered(terminal_enter(&mut self.bytes, client.number(), grid))
     }
 
-    /// Strikes the grid's class, as [`strike`] does: the line that its entry had. Refused by
-    /// number 6, 7 or 10.
+    /// Strikes the grid's class for this client, as [`strike`] does: the line that its entry had.
+    /// The entry goes when nobody holds any of the class. Refused by number 6, 7 or 10.
     ///
     /// ```
-    /// use plan_register::{Refusal, Register};
+    /// use plan_register::{Client, Refusal, Register};
     ///
+    /// let [anna, ben, ..] = Client::ALL;
     /// let mut register = Register::open(1, 2, 3, 1).unwrap();
-    /// assert!(register.enter(&[0, 3]).is_ok());
-    /// assert_eq!(register.strike(&[3, 0]), Ok(1));
-    /// assert_eq!(register.strike(&[3, 0]), Err(Refusal::NotHeld));
+    /// assert!(register.enter(anna, &[0, 3]).is_ok());
+    /// assert!(register.enter(ben, &[0, 3]).is_ok());
+    /// assert_eq!(register.strike(anna, &[3, 0]), Ok(1));
+    /// assert_eq!(register.strike(anna, &[3, 0]), Err(Refusal::NotHeld));
+    /// assert_eq!(register.count(), 1);
+    /// assert_eq!(register.strike(ben, &[3, 0]), Ok(1));
+    /// assert_eq!(register.count(), 0);
     /// ```
-    pub fn strike(&mut self, grid: &[u8]) -> Result<usize, Refusal> {
-        let struck = strike(&mut self.bytes, grid);
+    pub fn strike(&mut self, client: Client, grid: &[u8]) -> Result<usize, Refusal> {
+        let struck = strike(&mut self.bytes, client.number(), grid);
         match struck.number {
             DONE => Ok(struck.place as usize),
             number => Err(Refusal::answered(number)),
         }
     }
 
-    /// Counts the entries within the bounds, both included, as [`count`] does. Refused by number
-    /// 6, 7 or 8.
+    /// Counts the entries within the bounds, both included, as [`count`] does, whoever holds them.
+    /// Refused by number 6, 7 or 8.
     ///
     /// ```
-    /// use plan_register::{Refusal, Register};
+    /// use plan_register::{Client, Refusal, Register};
     ///
     /// let mut register = Register::open(2, 1, 3, 5).unwrap();
-    /// assert!(register.enter(&[0, 3]).is_ok());
+    /// assert!(register.enter(Client::ALL[0], &[0, 3]).is_ok());
     /// assert_eq!(register.count_within(&[0, 0], &[3, 3]), Ok(1));
     /// assert_eq!(register.count_within(&[0, 0], &[3, 2]), Ok(0));
     /// assert_eq!(register.count_within(&[2, 0], &[1, 1]), Err(Refusal::Bounds));
@@ -243,14 +267,15 @@ impl Register {
     /// them on several registers of the same rows, columns and top.
     ///
     /// ```
-    /// use plan_register::{prune, Refusal, Register};
+    /// use plan_register::{prune, Client, Refusal, Register};
     ///
     /// # fn main() -> Result<(), Refusal> {
+    /// let client = Client::numbered(1)?;
     /// let mut spring = Register::open(2, 2, 3, 5)?;
-    /// spring.enter(&[1, 1, 2, 1])?;
-    /// spring.enter(&[1, 2, 1, 2])?;
+    /// spring.enter(client, &[1, 1, 2, 1])?;
+    /// spring.enter(client, &[1, 2, 1, 2])?;
     /// let mut autumn = Register::open(2, 2, 3, 5)?;
-    /// autumn.enter(&[2, 1, 1, 0])?;
+    /// autumn.enter(client, &[2, 1, 1, 0])?;
     ///
     /// let (mut low, mut high) = ([1, 0, 0, 0], [3, 3, 1, 2]);
     /// assert_eq!(prune(2, 2, 3, &mut low, &mut high).number, 0);
@@ -283,7 +308,7 @@ fn entered(placed: Placed) -> Result<Entered, Refusal> {
 
 impl fmt::Debug for Register {
     fn fmt(&self, formatter: &mut fmt::Formatter) -> fmt::Result {
-        let entries: Vec<Vec<u8>> = self.entries().collect();
+        let entries: Vec<Entry> = self.entries().collect();
         formatter
             .debug_struct("Register")
             .field("rows", &self.rows())

@@ -55,6 +55,7 @@ unsafe extern "C" {
     pub fn plan_register_enter(
         register: *mut u8,
         register_length: usize,
+        client: usize,
         grid: *const u8,
         grid_length: usize,
     ) -> Placed;
@@ -62,6 +63,7 @@ unsafe extern "C" {
     pub fn plan_register_strike(
         register: *mut u8,
         register_length: usize,
+        client: usize,
         grid: *const u8,
         grid_length: usize,
     ) -> Placed;
@@ -98,6 +100,7 @@ unsafe extern "C" {
     pub fn plan_register_terminal_enter(
         register: *mut u8,
         register_length: usize,
+        client: usize,
         grid: *const u8,
         grid_length: usize,
     ) -> Placed;

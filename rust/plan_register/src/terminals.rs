@@ -62,29 +62,33 @@ pub fn terminal_same(m: usize, n: usize, top: usize, a: &[u8], b: &[u8]) -> Term
     unsafe { plan_register_terminal_same(m, n, top, a.as_ptr(), a.len(), b.as_ptr(), b.len()) }
 }
 
-/// A terminal's enter: the grid's class is held from then on.
+/// A terminal's enter: the client holds one more of the grid's class.
 ///
-/// `grid` has m times n cells of 0 to top, as `register` states them; m is at most 5. Number 0 if
-/// the class is new: its representative is now an entry. 101 if it was held already, and no byte
-/// changes. With either the place is the entry's line, the first entry's being 1. Otherwise a
-/// refusal, 5, 14, 6, 7 or 9, with place 0, and `register` keeps its bytes.
+/// `client` is 1 to 8. `grid` has m times n cells of 0 to top, as `register` states them; m is at
+/// most 5. Number 0 if the class is new: its representative is now an entry, with 1 as this
+/// client's holding and 0 as the others'. 101 if some client held it already: this client's holding
+/// is 1 more. With either the place is the entry's line, the first entry's being 1. Otherwise a
+/// refusal, 5, 14, 6, 7, 15, 9 or 16, with place 0, and `register` keeps its bytes.
 ///
 /// ```
 /// use plan_register::numbers::{DONE, HELD, TERMINAL_ROWS};
 ///
-/// let mut register = *b"     2     2     1     2     0\n            \n            \n";
-/// let entered = plan_register::terminal_enter(&mut register, &[1, 0, 0, 1]);
+/// let mut register = [0; 31 + 37];
+/// assert_eq!(plan_register::open(2, 2, 1, 1, &mut register).number, DONE);
+/// let entered = plan_register::terminal_enter(&mut register, 2, &[1, 0, 0, 1]);
 /// assert_eq!((entered.number, entered.place), (DONE, 1));
-/// assert_eq!(&register[31..], b"  0  1  1  0\n            \n");
-/// let again = plan_register::enter(&mut register, &[0, 1, 1, 0]);
+/// assert_eq!(&register[31..], b"  0  1  1  0  0  1  0  0  0  0  0  0\n");
+/// let again = plan_register::enter(&mut register, 2, &[0, 1, 1, 0]);
 /// assert_eq!((again.number, again.place), (HELD, 1));
+/// assert_eq!(&register[31..], b"  0  1  1  0  0  2  0  0  0  0  0  0\n");
 ///
-/// let mut large = *b"     6     1     1     1     0\n                  \n";
-/// let refused = plan_register::terminal_enter(&mut large, &[0; 6]);
+/// let mut large = [0; 31 + 43];
+/// assert_eq!(plan_register::open(6, 1, 1, 1, &mut large).number, DONE);
+/// let refused = plan_register::terminal_enter(&mut large, 2, &[0; 6]);
 /// assert_eq!(refused.number, TERMINAL_ROWS);
 /// ```
-pub fn terminal_enter(register: &mut [u8], grid: &[u8]) -> Placed {
-    let lines = register.as_mut_ptr();
+pub fn terminal_enter(register: &mut [u8], client: usize, grid: &[u8]) -> Placed {
+    let (lines, length) = (register.as_mut_ptr(), register.len());
     // SAFETY: as `sys` says of every call.
-    unsafe { plan_register_terminal_enter(lines, register.len(), grid.as_ptr(), grid.len()) }
+    unsafe { plan_register_terminal_enter(lines, length, client, grid.as_ptr(), grid.len()) }
 }

@@ -28,17 +28,29 @@ open 4, place 0
 open 0, place 0
 enter 0, place 1
 enter 101, place 1
+enter 101, place 1
 enter 9, place 0
 enter 6, place 0
+enter 15, place 0
      2     2     1     1     1
-  0  1  1  0
+  0  1  1  0  2  0  0  0  0  0  0  1
 count 0, count 1
 count 8, count 0
 strike 5, place 0
 strike 0, place 1
 strike 10, place 0
+strike 15, place 0
+     2     2     1     1     1
+  0  1  1  0  2  0  0  0  0  0  0  0
+strike 0, place 1
+strike 0, place 1
      2     2     1     1     0
-            \n\
+                                    \n\
+enter 0, place 1
+enter 101, 998 times
+enter 16, place 0
+     2     2     1     1     1
+  0  1  1  0  0  0  0  0999  0  0  0
 terminal represent 14: 0 1 2 3 4
  0 1 2 3 4 5 6 7 8 9 10 11 12 13 14 15
  9 9 9 9 9 9
@@ -56,8 +68,9 @@ terminal enter 0, place 1
 enter 101, place 1
 terminal enter 101, place 1
 terminal enter 9, place 0
+terminal enter 15, place 0
      2     2     1     1     1
-  0  1  1  0
+  0  1  1  0  1  1  1  0  0  0  0  0
 open 0, place 0
 terminal enter 14, place 0
 enter 0, place 1

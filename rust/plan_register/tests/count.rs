@@ -3,7 +3,7 @@
 
 mod common;
 
-use common::calls::{answer, check_answer, check_count, holding};
+use common::calls::{answer, check_answer, check_count, holding, with_drawn_holdings};
 use common::forms::form_for;
 use common::represented;
 use plan_register::prune;
@@ -89,9 +89,10 @@ fn bounds_of_every_shape() {
         let class = |random: &mut Random| represented(m, n, top, &random.cells(m * n, top));
         let classes: Vec<Vec<u8>> = (0..12).map(|_| class(&mut random)).collect();
         let contents = holding(m, n, top, 20, &classes);
+        let contents = with_drawn_holdings(&mut random, contents);
         let register = contents.bytes();
         for _ in 0..14 {
-            let form = form_for(&mut random, m, n, top, &contents.entries);
+            let form = form_for(&mut random, m, n, top, &contents.grids());
             check(&register, contents.entries.len(), &form, &mut met);
         }
     }

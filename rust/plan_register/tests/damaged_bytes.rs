@@ -2,18 +2,17 @@
 
 mod common;
 
-use common::calls::{distinct_grids, holding};
+use common::calls::{distinct_grids, holding, with_drawn_holdings};
 use common::question_5::{check, check_layout, likely_byte};
-use reference::examples::register;
-use reference::examples::shapes_up_to;
+use reference::examples::{held_register, register, shapes_up_to};
 use reference::random::Random;
 
 /// Small registers, to be damaged.
 fn registers() -> Vec<Vec<u8>> {
     let two_digits = [vec![0, 9, 10], vec![9, 15, 15], vec![10, 0, 11]];
     vec![
-        register(2, 2, 12, 3, &["00/01", "01/10"]),
-        register(1, 1, 9, 2, &["1", "8"]),
+        held_register(2, 2, 12, 3, &[("00/01", [0, 12]), ("01/10", [999, 1])]),
+        held_register(1, 1, 9, 2, &[("1", [1]), ("8", [100])]),
         register(1, 3, 15, 1, &[]),
         register(2, 1, 3, 2, &["0/1", "2/3"]),
         register(1, 2, 0, 1, &["00"]),
@@ -41,7 +40,7 @@ fn every_byte_changed_to_every_value() {
             }
         }
     }
-    // Another top, or a cell that keeps the order.
+    // Another top, a cell that keeps the order, or another holding.
     assert!(still_registers > 50, "{still_registers}");
 }
 
@@ -96,7 +95,8 @@ fn one_byte_changed_in_every_shape() {
     for (m, n) in shapes_up_to(128) {
         let top = random.between(1, 15) as u8;
         let entries = distinct_grids(&mut random, m * n, top, 2);
-        let whole = holding(m, n, top, 3, &entries).bytes();
+        let contents = holding(m, n, top, 3, &entries);
+        let whole = with_drawn_holdings(&mut random, contents).bytes();
         assert!(check_layout(&whole));
         // Each byte twice.
         for k in (31..whole.len()).flat_map(|k| [k, k]) {
@@ -114,7 +114,8 @@ fn one_byte_changed_in_every_shape() {
 fn bytes_of_a_large_register() {
     let mut random = Random::new(94);
     let entries = distinct_grids(&mut random, 128, 15, 490);
-    let whole = holding(8, 16, 15, 500, &entries).bytes();
+    let contents = holding(8, 16, 15, 500, &entries);
+    let whole = with_drawn_holdings(&mut random, contents).bytes();
     let mut met = [0, 0];
     for _ in 0..100 {
         let mut bytes = whole.clone();

@@ -1,10 +1,11 @@
-//! Registers with other cells, other limits, and fields that are not laid out.
+//! Registers with other cells, other holdings, other limits, and fields that are not laid out.
 
 mod common;
 
 use common::calls::holding;
 use common::question_5::{check, check_layout};
 use reference::examples::register;
+use reference::holdings::Holdings;
 use reference::layout::number;
 
 #[test]
@@ -16,6 +17,49 @@ fn cells_of_every_value_with_every_top() {
                 bytes[31 + 3 * k..34 + 3 * k].copy_from_slice(&number(value, 3));
                 assert_eq!(check(&bytes), value <= top.into());
             }
+        }
+    }
+}
+
+#[test]
+fn holdings_of_every_value() {
+    // A holding is 0 to 999, whatever top is, and one at least is not 0.
+    for (k, others) in (0..8).flat_map(|k| [(k, 0), (k, 999)]) {
+        let mut contents = holding(1, 3, 0, 1, &[vec![0; 3]]);
+        for value in 0..=999 {
+            let mut holdings = [others; 8];
+            holdings[k] = value;
+            contents.entries[0].holdings = Holdings(holdings);
+            assert_eq!(check(&contents.bytes()), value + others > 0);
+        }
+    }
+}
+
+#[test]
+fn an_entry_that_nobody_holds() {
+    // In any line, and also where the entry is no representative.
+    let grids: Vec<Vec<u8>> = (0..4).map(|first| vec![first, 3 - first]).collect();
+    for which in 0..16u8 {
+        let mut contents = holding(1, 2, 3, 5, &grids);
+        for (k, entry) in contents.entries.iter_mut().enumerate() {
+            if which >> k & 1 == 1 {
+                entry.holdings = Holdings::default();
+            }
+        }
+        assert_eq!(check(&contents.bytes()), which == 0);
+    }
+}
+
+#[test]
+fn holdings_that_reach_into_the_next_field() {
+    let whole = holding(1, 1, 9, 1, &[vec![5]]).bytes();
+    for shifted in [
+        "1000 0", "100 0 ", "  1000", " 1 000", "1    0", "10   0", "    01",
+    ] {
+        for k in 0..7 {
+            let mut bytes = whole.clone();
+            bytes[34 + 3 * k..40 + 3 * k].copy_from_slice(shifted.as_bytes());
+            assert!(!check(&bytes), "{shifted:?} at {k}");
         }
     }
 }
@@ -47,7 +91,8 @@ fn fields_that_are_not_laid_out() {
     for width in [6, 3] {
         let starts: Vec<usize> = match width {
             6 => (0..5).map(|k| 6 * k).collect(),
-            _ => (0..6).map(|k| 31 + 10 * (k / 3) + 3 * (k % 3)).collect(),
+            // Three cells and eight holdings on each of two lines.
+            _ => (0..22).map(|k| 31 + 34 * (k / 11) + 3 * (k % 11)).collect(),
         };
         for start in starts {
             for field in not_laid_out(width) {
@@ -85,6 +130,13 @@ fn limits_in_line_1() {
     }
 }
 
+/// The register with these numbers in line 1.
+fn with_line_1(mut register: Vec<u8>, numbers: [u64; 5]) -> Vec<u8> {
+    let fields = numbers.map(|value| number(value, 6));
+    register[..30].copy_from_slice(&fields.concat());
+    register
+}
+
 #[test]
 fn other_numbers_in_line_1() {
     // The bytes are as long as before, whatever line 1 states.
@@ -103,12 +155,14 @@ fn other_numbers_in_line_1() {
     let tops = (1..=15).filter(|&top| top != 3).map(|top| (2, top));
     assert_eq!(still_registers, tops.collect::<Vec<_>>());
     // The same length with other rows and columns, or with fewer and longer lines.
-    for (m, n, capacity) in [(1, 4, 4), (4, 1, 4), (2, 2, 4), (1, 17, 1), (17, 1, 1)] {
-        let mut bytes = register(2, 2, 3, 4, &[]);
-        let head = [m, n, 3, capacity, 0]
-            .map(|value| number(value, 6))
-            .concat();
-        bytes[..30].copy_from_slice(&head);
+    for (m, n, capacity) in [(1, 4, 4), (4, 1, 4), (2, 2, 4), (1, 41, 1), (41, 1, 1)] {
+        let bytes = with_line_1(register(2, 2, 3, 4, &[]), [m, n, 3, capacity, 0]);
         assert_eq!(check(&bytes), m * n == 4);
     }
+    // Four lines of 31 bytes, or one of 124.
+    let four = register(1, 2, 3, 4, &[]);
+    let one = register(3, 11, 3, 1, &[]);
+    assert_eq!(four.len(), one.len());
+    assert!(!check(&with_line_1(four, [3, 11, 3, 1, 0])));
+    assert!(!check(&with_line_1(one, [1, 2, 3, 4, 0])));
 }

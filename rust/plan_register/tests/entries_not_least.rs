@@ -3,9 +3,11 @@
 
 mod common;
 
-use common::calls::{answer, check_call, check_count, distinct_grids, holding};
+use common::calls::{
+    answer, check_call, check_count, distinct_grids, holding, with_drawn_holdings,
+};
 use common::pruned::Pruned;
-use plan_register::{prune, Entered, Refusal, Register};
+use plan_register::{prune, Client, Entered, Refusal, Register};
 use reference::calls::Call;
 use reference::examples::cells;
 use reference::grid::{arrangements, least};
@@ -23,15 +25,18 @@ fn a_class_is_held_by_its_representative_alone() {
         assert_eq!(check_call(&mut register, &call), answer(number, place));
         register.clone()
     };
-    assert_eq!(check(Call::Strike(cells("10/01")), 10, 0), before);
+    assert_eq!(check(Call::Strike(1, cells("10/01")), 10, 0), before);
     let three = [cells("00/01"), cells("01/10"), cells("10/01")];
-    let entered = check(Call::Enter(cells("10/01")), 0, 2);
+    let entered = check(Call::Enter(1, cells("10/01")), 0, 2);
     assert_eq!(entered, holding(2, 2, 1, 3, &three).bytes());
-    check(Call::Enter(cells("10/01")), 101, 2);
-    check(Call::TerminalEnter(cells("10/01")), 101, 2);
-    check(Call::Enter(cells("11/11")), 9, 0);
-    assert_eq!(check(Call::Strike(cells("10/01")), 0, 2), before);
-    let entered = check(Call::TerminalEnter(cells("10/01")), 0, 2);
+    check(Call::Enter(2, cells("10/01")), 101, 2);
+    check(Call::TerminalEnter(3, cells("10/01")), 101, 2);
+    check(Call::Enter(1, cells("11/11")), 9, 0);
+    check(Call::Strike(3, cells("10/01")), 0, 2);
+    check(Call::Strike(1, cells("10/01")), 0, 2);
+    check(Call::Strike(1, cells("10/01")), 10, 0);
+    assert_eq!(check(Call::Strike(2, cells("10/01")), 0, 2), before);
+    let entered = check(Call::TerminalEnter(1, cells("10/01")), 0, 2);
     assert_eq!(entered, holding(2, 2, 1, 3, &three).bytes());
 }
 
@@ -58,10 +63,13 @@ fn an_entry_may_lie_in_bounds_of_which_prune_says_102() {
 fn register_takes_such_bytes() {
     let bytes = holding(2, 2, 1, 3, &[cells("10/01")]).bytes();
     let mut register = Register::from_bytes(bytes).unwrap();
-    assert_eq!(register.strike(&cells("10/01")), Err(Refusal::NotHeld));
-    let entered = register.enter(&cells("10/01"));
+    let [client, ..] = Client::ALL;
+    let struck = register.strike(client, &cells("10/01"));
+    assert_eq!(struck, Err(Refusal::NotHeld));
+    let entered = register.enter(client, &cells("10/01"));
     assert_eq!(entered, Ok(Entered::New { place: 1 }));
-    assert!(register.entries().eq([cells("01/10"), cells("10/01")]));
+    let grids = register.entries().map(|entry| entry.grid);
+    assert!(grids.eq([cells("01/10"), cells("10/01")]));
 }
 
 /// How often that came up which only such entries bring up.
@@ -81,10 +89,10 @@ impl Met {
     /// Notes what the answer to the call on this register brought up.
     fn note(&mut self, before: &Contents, call: &Call, answer: Answer) {
         match call {
-            Call::Enter(grid) | Call::TerminalEnter(grid) if answer.number == 0 => {
+            Call::Enter(_, grid) | Call::TerminalEnter(_, grid) if answer.number == 0 => {
                 self.entered += usize::from(another_stands_in(before, grid));
             }
-            Call::Strike(grid) if answer.number == 10 => {
+            Call::Strike(_, grid) if answer.number == 10 => {
                 self.not_held += usize::from(another_stands_in(before, grid));
             }
             Call::Count(form) if answer.number == 0 => {
@@ -105,8 +113,8 @@ fn another_stands_in(contents: &Contents, grid: &[u8]) -> bool {
     let (m, n) = (contents.rows as usize, contents.columns as usize);
     let least = least(m, n, grid);
     let in_class = arrangements(m, n, grid);
-    let mut entries = contents.entries.iter();
-    entries.any(|entry| *entry != least && in_class.contains(entry))
+    let mut grids = contents.grids().into_iter();
+    grids.any(|entry| entry != least && in_class.contains(&entry))
 }
 
 /// Checks lists of calls, which the pool makes so, on registers with random entries.
@@ -117,7 +125,8 @@ fn check_lists(seed: u64, call: fn(&Pool, &mut Random) -> Call) {
         let (m, n) = (random.between(2, 3) as usize, random.between(1, 3) as usize);
         let (top, capacity) = (random.between(1, 2) as u8, random.between(4, 8) as usize);
         let entries = distinct_grids(&mut random, m * n, top, 4);
-        let mut register = holding(m, n, top, capacity, &entries).bytes();
+        let contents = holding(m, n, top, capacity, &entries);
+        let mut register = with_drawn_holdings(&mut random, contents).bytes();
         let mut pool = Pool::drawn(&mut random, m, n, top, 3);
         pool.grids.extend(entries);
         for _ in 0..30 {

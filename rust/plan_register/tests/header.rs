@@ -32,6 +32,8 @@ fn the_header_has_the_numbers_of_the_wrapper() {
         ("FULL", numbers::FULL),
         ("NOT_HELD", numbers::NOT_HELD),
         ("TERMINAL_ROWS", numbers::TERMINAL_ROWS),
+        ("CLIENT", numbers::CLIENT),
+        ("HOLDING", numbers::HOLDING),
         ("HELD", numbers::HELD),
         ("NO_GRID", numbers::NO_GRID),
         ("TWO_CLASSES", numbers::TWO_CLASSES),
@@ -44,7 +46,7 @@ fn the_header_has_the_numbers_of_the_wrapper() {
 fn the_numbers_are_those_of_documents_01_and_02() {
     let values = constants(HEADER, "PLAN_REGISTER_", " = ").into_iter();
     let values: Vec<u32> = values.map(|(_, value)| value).collect();
-    let refusals = [1, 2, 3, 4, 5, 6, 7, 8, 9, 10, 14];
+    let refusals = [1, 2, 3, 4, 5, 6, 7, 8, 9, 10, 14, 15, 16];
     assert_eq!(values, [&[0], &refusals[..], &[101, 102, 103]].concat());
     assert_eq!(refusals, Refusal::ALL.map(Refusal::number));
 }

@@ -38,18 +38,22 @@ fn full_registers() {
         let mut classes = representatives(&mut random, top, CAPACITY + 1);
         let new = classes.remove(random.below(CAPACITY as u64 + 1) as usize);
         let mut book = book(top, &classes);
-        assert_eq!(book.check_enter(&new), answer(9, 0));
-        assert_eq!(book.check_strike(&new), answer(10, 0));
+        assert_eq!(book.check_enter(8, &new), answer(9, 0));
+        assert_eq!(book.check_strike(8, &new), answer(10, 0));
         for k in [0, 1, 249, 498, 499] {
             let grid = shuffled(&mut random, M, N, &classes[k]);
             let place = k as u32 + 1;
-            assert_eq!(book.check_enter(&grid), answer(101, place));
-            assert_eq!(book.check_strike(&grid), answer(0, place));
-            assert_eq!(book.check_strike(&grid), answer(10, 0));
-            assert_eq!(book.check_enter(&new).number, 0);
-            assert_eq!(book.check_enter(&grid), answer(9, 0));
-            assert_eq!(book.check_strike(&new).number, 0);
-            assert_eq!(book.check_enter(&grid), answer(0, place));
+            // Client 1 holds one; client 8 takes one and gives it back.
+            assert_eq!(book.check_enter(8, &grid), answer(101, place));
+            assert_eq!(book.check_strike(8, &grid), answer(0, place));
+            assert_eq!(book.check_strike(8, &grid), answer(10, 0));
+            assert_eq!(book.check_enter(8, &new), answer(9, 0));
+            assert_eq!(book.check_strike(1, &grid), answer(0, place));
+            assert_eq!(book.check_strike(1, &grid), answer(10, 0));
+            assert_eq!(book.check_enter(8, &new).number, 0);
+            assert_eq!(book.check_enter(1, &grid), answer(9, 0));
+            assert_eq!(book.check_strike(8, &new).number, 0);
+            assert_eq!(book.check_enter(1, &grid), answer(0, place));
         }
     }
 }
@@ -59,12 +63,14 @@ fn top_0_has_one_class() {
     let mut book = book(0, &[]);
     assert_eq!(book.bytes, opened(M, N, 0, CAPACITY));
     let zeros = vec![0; M * N];
-    assert_eq!(book.check_strike(&zeros), answer(10, 0));
-    assert_eq!(book.check_enter(&zeros), answer(0, 1));
-    assert_eq!(book.check_enter(&zeros), answer(101, 1));
+    assert_eq!(book.check_strike(4, &zeros), answer(10, 0));
+    assert_eq!(book.check_enter(4, &zeros), answer(0, 1));
+    assert_eq!(book.check_enter(4, &zeros), answer(101, 1));
     let form = (zeros.clone(), zeros.clone());
     assert_eq!(check_count(&book.bytes, &form), answer(0, 1));
-    assert_eq!(book.check_strike(&zeros), answer(0, 1));
+    assert_eq!(book.check_strike(4, &zeros), answer(0, 1));
+    assert_eq!(book.check_strike(4, &zeros), answer(0, 1));
+    assert_eq!(book.bytes, opened(M, N, 0, CAPACITY));
 }
 
 #[test]
@@ -76,11 +82,11 @@ fn from_empty_to_full_and_back() {
         let empty = opened(M, N, top, CAPACITY);
         let mut register = empty.clone();
         for grid in in_any_order(&mut random, &classes) {
-            assert_eq!(plan_register::enter(&mut register, &grid).number, 0);
+            assert_eq!(plan_register::enter(&mut register, 1, &grid).number, 0);
         }
         assert!(register == bytes);
         for grid in in_any_order(&mut random, &classes) {
-            assert_eq!(plan_register::strike(&mut register, &grid).number, 0);
+            assert_eq!(plan_register::strike(&mut register, 1, &grid).number, 0);
         }
         assert!(register == empty);
     }
@@ -107,9 +113,10 @@ fn long_lists() {
             let from = [0, 250, CAPACITY][random.below(3) as usize];
             let class = &classes[from + random.below(6) as usize];
             let grid = shuffled(&mut random, M, N, class);
+            let client = random.between(1, 2);
             let answer = match random.once_in(4) {
-                true => book.check_strike(&grid),
-                false => book.check_enter(&grid),
+                true => book.check_strike(client, &grid),
+                false => book.check_enter(client, &grid),
             };
             met[answer.number as usize] += 1;
         }

@@ -1,10 +1,10 @@
-//! Long lists of enter, strike and count against the reference: the answer and all bytes after
-//! every call.
+//! Long lists of enter, strike and count by all eight clients against the reference: the answer and
+//! all bytes after every call.
 
 mod common;
 
 use common::book::Book;
-use common::calls::{check_call, holding, opened};
+use common::calls::{check_call, holding, opened, with_drawn_holdings};
 use common::met::{Met, ANSWERS};
 use common::shapes_of;
 use reference::calls::Call;
@@ -83,10 +83,10 @@ fn enters_and_strikes_on_every_shape() {
         let pool = Pool::drawn(&mut random, m, n, top, capacity + 2);
         let mut book = Book::holding(holding(m, n, top, capacity, &[]));
         for _ in 0..60 {
-            let grid = pool.grid(&mut random);
+            let (client, grid) = (random.between(1, 8), pool.grid(&mut random));
             let answer = match random.once_in(3) {
-                true => book.check_strike(&grid),
-                false => book.check_enter(&grid),
+                true => book.check_strike(client, &grid),
+                false => book.check_enter(client, &grid),
             };
             met[answer.number as usize] += 1;
         }
@@ -105,12 +105,12 @@ fn lists_on_full_registers_of_every_capacity() {
         let classes: Vec<Vec<u8>> = pool.grids.iter().map(|grid| least(2, 2, grid)).collect();
         let mut contents = holding(2, 2, 15, capacity, &classes);
         contents.entries.truncate(capacity);
-        let mut register = contents.bytes();
+        let mut register = with_drawn_holdings(&mut random, contents).bytes();
         for _ in 0..60 {
             make(&mut random, &pool, &mut register, &mut met);
         }
     }
-    met.check(&ANSWERS, 20);
+    met.check(&[&ANSWERS[..], &[("enter", 16)]].concat(), 20);
 }
 
 #[test]
@@ -141,7 +141,7 @@ fn the_bytes_do_not_depend_on_the_order_of_the_calls() {
     let enters = |order: Vec<u8>| {
         let mut register = opened(3, 4, 2, 12);
         for k in order {
-            let call = Call::Enter(pool.grids[usize::from(k)].clone());
+            let call = Call::Enter(u64::from(k % 8) + 1, pool.grids[usize::from(k)].clone());
             check_call(&mut register, &call);
         }
         register

@@ -6,6 +6,7 @@ use common::calls::{answer, placed};
 use common::limits::{every_numbers, lendable, Numbers, BIT_63};
 use common::Lent;
 use plan_register::open;
+use reference::examples::register;
 use reference::layout::Contents;
 use reference::questions::{self, Asked};
 use reference::register::Answer;
@@ -13,7 +14,7 @@ use std::collections::BTreeSet;
 
 /// The length of a register, wrapping around as the calls' own numbers would.
 fn length([m, n, _, capacity]: Numbers) -> usize {
-    let line = m.wrapping_mul(n).wrapping_mul(3).wrapping_add(1);
+    let line = m.wrapping_mul(n).wrapping_mul(3).wrapping_add(25);
     capacity.wrapping_mul(line).wrapping_add(31)
 }
 
@@ -89,7 +90,7 @@ fn what_the_slice_held_does_not_matter() {
         assert_eq!(check_open(numbers, length(numbers), byte), answer(0, 0));
     }
     // A register in use, and one of other numbers but of the same length.
-    let used = *b"     2     2     3     2     2\n  0  0  0  1\n  0  1  1  0\n";
+    let used = register(2, 2, 3, 2, &["00/01", "01/10"]);
     for (m, n) in [(2, 2), (1, 4), (4, 1)] {
         let mut lent = Lent::holding(&used);
         assert_eq!(open(m, n, 1, 2, lent.slice_mut()).number, 0);
@@ -108,15 +109,28 @@ fn what_the_slice_held_does_not_matter() {
 fn the_edges_of_document_01() {
     let number = |numbers: Numbers, length: usize| check_open(numbers, length, b'#').number;
     assert_eq!(number([0, 0, 16, 0], 31), 1);
-    assert_eq!(number([8, 16, 15, 500], 192_531), 0);
-    assert_eq!(number([8, 16, 15, 500], 192_530), 6);
-    assert_eq!(number([8, 16, 15, 500], 192_532), 6);
+    assert_eq!(number([8, 16, 15, 500], 204_531), 0);
+    assert_eq!(number([8, 16, 15, 500], 204_530), 6);
+    assert_eq!(number([8, 16, 15, 500], 204_532), 6);
     assert_eq!(number([9, 16, 15, 500], length([9, 16, 15, 500])), 1);
     assert_eq!(number([8, 17, 15, 500], length([8, 17, 15, 500])), 2);
-    assert_eq!(number([8, 16, 16, 500], 192_531), 3);
-    assert_eq!(number([8, 16, 15, 501], 192_531 + 385), 4);
+    assert_eq!(number([8, 16, 16, 500], 204_531), 3);
+    assert_eq!(number([8, 16, 15, 501], 204_531 + 409), 4);
     assert_eq!(number([8, 16, 15, 0], 31), 4);
-    assert_eq!(number([1, 1, 0, 1], 35), 0);
+    assert_eq!(number([1, 1, 0, 1], 31 + 28), 0);
+}
+
+#[test]
+fn lines_without_room_for_holdings_are_6() {
+    for m in 1..=8 {
+        for n in 1..=16 {
+            let numbers = [m, n, 15, 4];
+            let without = 31 + 4 * (3 * m * n + 1);
+            assert_eq!(check_open(numbers, without, b'#'), answer(6, 0));
+            let for_seven = 31 + 4 * (3 * (m * n + 7) + 1);
+            assert_eq!(check_open(numbers, for_seven, b'#'), answer(6, 0));
+        }
+    }
 }
 
 #[test]

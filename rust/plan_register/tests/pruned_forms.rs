@@ -31,7 +31,7 @@ fn every_form_of_tiny_shapes_on_several_registers() {
     ] {
         let grids = every_grid(m * n, top);
         let pool = Pool { m, n, top, grids };
-        let registers = [(1, 0), (1, 3), (4, 12), (500, 1000)]
+        let registers = [(1, 0), (1, 1), (1, 3), (2, 3), (4, 12), (500, 1000)]
             .map(|(capacity, calls)| reached(&mut random, &pool, capacity, calls));
         for form in every_form(m * n, top) {
             let form = Pruned::once(m, n, top, form);
@@ -199,7 +199,7 @@ fn forms_on_registers_of_other_shapes_and_tops() {
 fn bounds_pruned_with_other_rows_and_columns_may_lose_an_entry() {
     // 01/20/20 is least in its class. Read as 012/020 it has no allperm.
     let mut register = opened(3, 2, 2, 1);
-    let entered = made(&mut register, &Call::Enter(cells("01/20/20")));
+    let entered = made(&mut register, &Call::Enter(5, cells("01/20/20")));
     assert_eq!(entered, answer(0, 1));
     assert_eq!(entries(&register), [cells("01/20/20")]);
     let sent = (cells("012/000"), cells("012/022"));

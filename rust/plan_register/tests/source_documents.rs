@@ -6,7 +6,7 @@ use common::calls::{answer, check_answer, check_call, opened};
 use common::{check_one_class, check_parting, check_prune, check_pruned, represented};
 use plan_register::{represent, same, Counted};
 use reference::calls::Call;
-use reference::examples::{cells, plan};
+use reference::examples::{cells, plan, register};
 use reference::forms::written;
 
 /// Checks the representative of a written grid, with top 3.
@@ -64,29 +64,35 @@ fn m10_has_no_grid_with_allperm() {
 
 #[test]
 fn the_printed_run() {
-    let mut register = opened(2, 2, 1, 2);
+    let mut bytes = opened(2, 2, 1, 2);
     let form = (cells("00/00"), cells("01/11"));
     for (call, number, place) in [
-        (Call::Enter(cells("10/01")), 0, 1),
-        (Call::Enter(cells("01/10")), 101, 1),
-        (Call::Strike(cells("00/11")), 10, 0),
+        (Call::Enter(1, cells("10/01")), 0, 1),
+        (Call::Enter(1, cells("01/10")), 101, 1),
+        (Call::Strike(1, cells("00/11")), 10, 0),
         (Call::Count(form), 0, 1),
-        (Call::Enter(cells("00/11")), 0, 1),
-        (Call::Enter(cells("01/01")), 9, 0),
+        (Call::Enter(1, cells("00/11")), 0, 1),
+        (Call::Enter(1, cells("01/01")), 9, 0),
     ] {
-        assert_eq!(check_call(&mut register, &call), answer(number, place));
+        assert_eq!(check_call(&mut bytes, &call), answer(number, place));
     }
-    let printed = b"     2     2     1     2     2\n  0  0  1  1\n  0  1  1  0\n";
-    assert_eq!(register, printed);
+    let printed = b"     2     2     1     2     2
+  0  0  1  1  1  0  0  0  0  0  0  0
+  0  1  1  0  2  0  0  0  0  0  0  0
+";
+    assert_eq!(bytes, printed);
 }
 
 #[test]
 fn a_strike_leaves_no_last_line_behind() {
-    let before = b"     2     2     1     2     2\n  0  0  1  1\n  0  1  1  0\n";
-    let left = b"     2     2     1     2     1\n  0  1  1  0\n            \n";
-    check_answer(before, &Call::Strike(cells("11/00")), answer(0, 1), left);
-    let left = b"     2     2     1     2     1\n  0  0  1  1\n            \n";
-    check_answer(before, &Call::Strike(cells("10/01")), answer(0, 2), left);
+    let before = register(2, 2, 1, 2, &["00/11", "01/10"]);
+    let check = |text: &str, place: u32, other: &str| {
+        let call = Call::Strike(1, cells(text));
+        let left = register(2, 2, 1, 2, &[other]);
+        check_answer(&before, &call, answer(0, place), &left);
+    };
+    check("11/00", 1, "01/10");
+    check("10/01", 2, "00/11");
 }
 
 #[test]

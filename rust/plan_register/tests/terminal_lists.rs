@@ -3,13 +3,14 @@
 
 mod common;
 
-use common::calls::{check_call, holding, made, opened};
+use common::calls::{check_call, holding, made, opened, with_drawn_holdings};
 use common::met::{Met, ANSWERS, TERMINAL_ANSWERS};
 use common::shapes_of;
 use plan_register::{enter, strike, terminal_enter};
 use reference::calls::Call;
 use reference::examples::every_grid;
-use reference::grid::least;
+use reference::grid::{compare, least};
+use reference::holdings::Holdings;
 use reference::lists::Pool;
 use reference::machine::Machine;
 use reference::random::Random;
@@ -106,35 +107,43 @@ fn lists_on_full_registers_of_every_capacity() {
         let classes: Vec<Vec<u8>> = pool.grids.iter().map(|grid| least(2, 2, grid)).collect();
         let mut contents = holding(2, 2, 15, capacity, &classes);
         contents.entries.truncate(capacity);
-        let mut register = contents.bytes();
+        let mut register = with_drawn_holdings(&mut random, contents).bytes();
         for _ in 0..60 {
             let call = pool.call_of_either_set(&mut random);
             met.note(&call, check_call(&mut register, &call));
         }
     }
-    met.check(&answers_up_to_5_rows(), 10);
+    let with_16 = [("enter", 16), ("terminal enter", 16)];
+    met.check(&[&answers_up_to_5_rows()[..], &with_16].concat(), 10);
 }
 
 #[test]
 fn from_empty_to_full_through_both_sets() {
-    let grids = every_grid(3, 15);
-    let classes: Vec<Vec<u8>> = grids.into_iter().filter(|grid| grid.is_sorted()).collect();
+    let grids = every_grid(3, 15).into_iter();
+    let mut classes: Vec<Vec<u8>> = grids.filter(|grid| grid.is_sorted()).collect();
+    classes.sort_by(|a, b| compare(a, b));
     let mut register = opened(1, 3, 15, 500);
+    let mut full = holding(1, 3, 15, 500, &classes[..500]);
     for (k, grid) in classes[..500].iter().enumerate() {
+        let client = k % 8 + 1;
         let placed = match k % 2 {
-            0 => terminal_enter(&mut register, grid),
-            _ => enter(&mut register, grid),
+            0 => terminal_enter(&mut register, client, grid),
+            _ => enter(&mut register, client, grid),
         };
         assert_eq!(placed.number, 0);
+        full.entries[k].holdings = Holdings::one_of(client as u64);
     }
-    assert_eq!(register, holding(1, 3, 15, 500, &classes[..500]).bytes());
-    let entered = terminal_enter(&mut register, &classes[500]);
+    assert_eq!(register, full.bytes());
+    let entered = terminal_enter(&mut register, 1, &classes[500]);
     assert_eq!((entered.number, entered.place), (9, 0));
-    for grid in &classes[..500] {
-        assert_eq!(terminal_enter(&mut register, grid).number, 101);
+    for (k, grid) in classes[..500].iter().enumerate() {
+        assert_eq!(terminal_enter(&mut register, 3, grid).number, 101);
+        full.entries[k].holdings = full.entries[k].holdings.with_one_more(3);
     }
-    for grid in &classes[..500] {
-        assert_eq!(strike(&mut register, grid).number, 0);
+    assert_eq!(register, full.bytes());
+    for (k, grid) in classes[..500].iter().enumerate() {
+        assert_eq!(strike(&mut register, 3, grid).number, 0);
+        assert_eq!(strike(&mut register, k % 8 + 1, grid).number, 0);
     }
     assert_eq!(register, opened(1, 3, 15, 500));
 }
@@ -184,7 +193,9 @@ fn the_largest_register_of_a_terminal() {
 fn the_bytes_do_not_depend_on_the_order_of_the_calls_or_their_set() {
     let mut random = Random::new(227);
     let pool = Pool::drawn(&mut random, 4, 4, 2, 12);
-    let enters: Vec<Call> = pool.grids.iter().cloned().map(Call::Enter).collect();
+    let enters = pool.grids.iter().zip((1..=8).cycle());
+    let enters = enters.map(|(grid, client)| Call::Enter(client, grid.clone()));
+    let enters: Vec<Call> = enters.collect();
     let left = |calls: &[Call]| {
         let mut register = opened(4, 4, 2, 12);
         for call in calls {

@@ -4,11 +4,12 @@
 mod common;
 
 use common::calls::{answer, check_answer, check_call, holding};
-use common::faults::{check, registers, sets_of, slices};
+use common::faults::{check, clients, holdings, registers, sets_of_enter, slices};
 use common::limits::{BIT_32, BIT_63, TERMINAL_ROWS};
 use common::numbers::Numbers;
 use common::sets::TERMINAL;
-use plan_register::{terminal_enter, terminal_represent, terminal_same, Refusal, Register};
+use plan_register::{terminal_enter, terminal_represent, terminal_same};
+use plan_register::{Client, Entered, Refusal, Register};
 use reference::calls::Call;
 use reference::layout::Contents;
 use std::collections::BTreeSet;
@@ -138,29 +139,32 @@ fn last_row(m: usize, row: [u8; 3]) -> Vec<u8> {
     [vec![0; 3 * (m - 1)], row.to_vec()].concat()
 }
 
-/// A register of so many rows, 3 columns and top 3, full with two entries.
-fn full(m: usize) -> Contents {
-    holding(
-        m,
-        3,
-        3,
-        2,
-        &[last_row(m, [0, 1, 1]), last_row(m, [0, 2, 3])],
-    )
+/// A register of so many rows, 3 columns and top 3, full with two entries, the second held as the
+/// questions ask that are to fail.
+fn full(failed: &[u32], m: usize) -> Contents {
+    let grids = [last_row(m, [0, 1, 1]), last_row(m, [0, 2, 3])];
+    let mut contents = holding(m, 3, 3, 2, &grids);
+    contents.entries[1].holdings = holdings(failed);
+    contents
 }
 
 #[test]
-fn enter_answers_the_first_no_of_5_14_6_7_9() {
-    for (failed, number) in sets_of([5, 14, 6, 7, 9], 101) {
+fn enter_answers_the_first_no_of_5_14_6_7_15_9_16() {
+    let sets = sets_of_enter([5, 14, 6, 7, 15, 9, 16]);
+    assert_eq!(sets.len(), 96);
+    for (failed, number) in sets {
         let rows = if failed.contains(&14) { 6..=8 } else { 1..=5 };
         for m in rows {
             let row = match failed.contains(&9) {
                 true => [3, 0, 3],
                 false => [3, 0, 2],
             };
-            for register in registers(&failed, &full(m)) {
+            for register in registers(&failed, &full(&failed, m)) {
                 for grid in slices(&failed, &last_row(m, row)) {
-                    check(&register, &Call::TerminalEnter(grid), number);
+                    for client in clients(&failed) {
+                        let call = Call::TerminalEnter(client, grid.clone());
+                        check(&register, &call, number);
+                    }
                 }
             }
         }
@@ -172,14 +176,14 @@ fn enter_asks_every_length_and_every_cell() {
     let register = holding(5, 16, 14, 2, &[vec![0; 80]]).bytes();
     let large = holding(6, 16, 14, 2, &[vec![0; 96]]).bytes();
     for length in 0..200 {
-        let call = Call::TerminalEnter(vec![0; length]);
+        let call = Call::TerminalEnter(1, vec![0; length]);
         check(&register, &call, if length == 80 { 101 } else { 6 });
         check(&large, &call, 14);
     }
     for k in 0..80 {
         let mut grid = vec![0; 80];
         grid[k] = 15;
-        check(&register, &Call::TerminalEnter(grid), 7);
+        check(&register, &Call::TerminalEnter(1, grid), 7);
     }
 }
 
@@ -188,46 +192,63 @@ fn where_a_terminal_is_refused_the_order_system_is_not() {
     for m in 6..=8 {
         let mut register = holding(m, 1, 3, 2, &[]).bytes();
         let grid: Vec<u8> = (0..m as u8).map(|cell| cell % 4).collect();
-        let at_terminal = Call::TerminalEnter(grid.clone());
+        let at_terminal = Call::TerminalEnter(1, grid.clone());
         check_answer(&register, &at_terminal, answer(14, 0), &register);
         assert_eq!(
-            check_call(&mut register, &Call::Enter(grid.clone())),
+            check_call(&mut register, &Call::Enter(1, grid.clone())),
             answer(0, 1)
         );
         // Held, and full: still 14, and nothing changes.
         check_answer(&register, &at_terminal, answer(14, 0), &register);
-        check_call(&mut register, &Call::Enter(vec![0; m]));
+        check_call(&mut register, &Call::Enter(1, vec![0; m]));
         check_answer(&register, &at_terminal, answer(14, 0), &register);
-        let new = Call::TerminalEnter(vec![3; m]);
+        let new = Call::TerminalEnter(1, vec![3; m]);
         check_answer(&register, &new, answer(14, 0), &register);
-        assert_eq!(check_call(&mut register, &Call::Strike(grid)), answer(0, 2));
+        let strike = Call::Strike(1, grid);
+        assert_eq!(check_call(&mut register, &strike), answer(0, 2));
+    }
+}
+
+#[test]
+fn a_register_that_owns_its_bytes_refuses_6_to_8_rows_too() {
+    for m in 6..=8 {
+        let mut register = Register::open(m, 2, 1, 1).unwrap();
+        let before = register.clone();
+        let grid = vec![0; 2 * m];
+        for grid in [&grid[..], &grid[1..], &[2], &[]] {
+            let entered = register.terminal_enter(Client::ALL[0], grid);
+            assert_eq!(entered, Err(Refusal::TerminalRows));
+        }
+        assert_eq!(register, before);
     }
 }
 
 #[test]
 fn a_register_that_owns_its_bytes_refuses_too() {
-    for m in 1..=8 {
+    for m in 1..=5 {
         let mut register = Register::open(m, 2, 1, 1).unwrap();
         let before = register.clone();
-        let grid = vec![0; 2 * m];
-        if m <= 5 {
-            assert_eq!(register.terminal_enter(&grid[1..]), Err(Refusal::Length));
-            assert_eq!(register.terminal_enter(&vec![2; 2 * m]), Err(Refusal::Cell));
-            assert_eq!(register, before);
-            assert!(register.terminal_enter(&grid).is_ok());
-            assert_eq!(register.terminal_enter(&vec![1; 2 * m]), Err(Refusal::Full));
-        } else {
-            for grid in [&grid[..], &grid[1..], &[2], &[]] {
-                assert_eq!(register.terminal_enter(grid), Err(Refusal::TerminalRows));
-            }
-            assert_eq!(register, before);
+        let [zeros, ones, twos] = [0, 1, 2].map(|cell| vec![cell; 2 * m]);
+        let enter = |register: &mut Register, grid: &[u8]| {
+            let entered = register.terminal_enter(Client::ALL[0], grid);
+            entered.map(Entered::place)
+        };
+        assert_eq!(enter(&mut register, &zeros[1..]), Err(Refusal::Length));
+        assert_eq!(enter(&mut register, &twos), Err(Refusal::Cell));
+        assert_eq!(register, before);
+        for _ in 0..999 {
+            assert_eq!(enter(&mut register, &zeros), Ok(1));
         }
+        let before = register.clone();
+        assert_eq!(enter(&mut register, &ones), Err(Refusal::Full));
+        assert_eq!(enter(&mut register, &zeros), Err(Refusal::Holding));
+        assert_eq!(register, before);
     }
 }
 
 #[test]
 fn no_bytes_at_all() {
-    assert_eq!(terminal_enter(&mut [], &[]).number, 5);
+    assert_eq!(terminal_enter(&mut [], 0, &[]).number, 5);
     assert_eq!(terminal_represent(0, 0, 0, &[], &mut []).number, 1);
     assert_eq!(terminal_represent(6, 0, 0, &[], &mut []).number, 14);
     assert_eq!(terminal_represent(5, 0, 0, &[], &mut []).number, 2);

@@ -5,7 +5,8 @@ use crate::checks::check_prints;
 use crate::lines::{count, enter, line_1, strike};
 use crate::outputs::printed;
 use reference::grid::compare;
-use reference::layout::Contents;
+use reference::holdings::{Holdings, MOST};
+use reference::layout::{Contents, Entry};
 use reference::planbook::prune_and_count;
 
 /// The lines so far, what is printed for them, and what the register then holds.
@@ -32,33 +33,45 @@ impl Book {
         }
     }
 
-    /// A further line that enters the grid. Returns the number that answers it.
-    pub fn enter(&mut self, grid: &[u8], representative: &[u8]) -> u64 {
+    /// A further line that enters the grid for a client of 1 to 8. Returns the number that answers
+    /// it.
+    pub fn enter(&mut self, client: u64, grid: &[u8], representative: &[u8]) -> u64 {
         let (before, held) = self.looked_up(representative);
         let full = self.contents.count() == self.contents.capacity;
-        let (number, place) = match (held, full) {
-            (true, _) => (101, before + 1),
-            (false, true) => (9, 0),
-            (false, false) => (0, before + 1),
+        let entries = &mut self.contents.entries;
+        let (number, place) = match held {
+            Some(holdings) if holdings.of(client) == MOST => (16, 0),
+            Some(holdings) => {
+                entries[before].holdings = holdings.with_one_more(client);
+                (101, before + 1)
+            }
+            None if full => (9, 0),
+            None => {
+                let entry = Entry {
+                    grid: representative.to_vec(),
+                    holdings: Holdings::one_of(client),
+                };
+                entries.insert(before, entry);
+                (0, before + 1)
+            }
         };
-        if number == 0 {
-            let entries = &mut self.contents.entries;
-            entries.insert(before, representative.to_vec());
-        }
-        self.add(enter(grid), [1, number, place as u64])
+        self.add(enter(client, grid), [1, number, place as u64])
     }
 
-    /// A further line that strikes the grid. Returns the number that answers it.
-    pub fn strike(&mut self, grid: &[u8], representative: &[u8]) -> u64 {
+    /// A further line that strikes the grid for a client of 1 to 8. Returns the number that answers
+    /// it.
+    pub fn strike(&mut self, client: u64, grid: &[u8], representative: &[u8]) -> u64 {
         let (before, held) = self.looked_up(representative);
         let (number, place) = match held {
-            true => (0, before + 1),
-            false => (10, 0),
+            Some(holdings) if holdings.of(client) > 0 => {
+                let entries = &mut self.contents.entries;
+                entries[before].holdings = holdings.with_one_less(client);
+                entries.retain(|entry| !entry.holdings.are_all_0());
+                (0, before + 1)
+            }
+            _ => (10, 0),
         };
-        if held {
-            self.contents.entries.remove(before);
-        }
-        self.add(strike(grid), [2, number, place as u64])
+        self.add(strike(client, grid), [2, number, place as u64])
     }
 
     /// A further line that counts the entries in the bounds. Returns the number that answers it.
@@ -90,14 +103,13 @@ impl Book {
         answer[1]
     }
 
-    /// The number of entries before the representative, and whether it is an entry.
-    fn looked_up(&self, representative: &[u8]) -> (usize, bool) {
+    /// The number of entries before the representative, and its holdings if it is an entry.
+    fn looked_up(&self, representative: &[u8]) -> (usize, Option<Holdings>) {
         let entries = &self.contents.entries;
-        let is_before = |entry: &&Vec<u8>| compare(entry, representative).is_lt();
+        let is_before = |entry: &&Entry| compare(&entry.grid, representative).is_lt();
         let before = entries.iter().filter(is_before).count();
-        let held = entries
-            .get(before)
-            .is_some_and(|entry| entry == representative);
-        (before, held)
+        let entry = entries.get(before);
+        let entry = entry.filter(|entry| entry.grid == representative);
+        (before, entry.map(|entry| entry.holdings))
     }
 }

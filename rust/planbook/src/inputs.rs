@@ -1,6 +1,7 @@
 //! Inputs: random ones, edited ones.
 
 use crate::lines::{count, enter, line_1, strike};
+use reference::holdings::CLIENTS;
 use reference::lists::Pool;
 use reference::random::Random;
 
@@ -15,11 +16,11 @@ pub fn drawn(random: &mut Random, pool: &Pool, capacity: u64, count: usize) -> V
 }
 
 /// A command line that is laid as it should be, on grids of the pool. Now and then a cell is
-/// above top or a low above its high.
+/// above top, a low above its high, or the client none of 1 to 8.
 pub fn drawn_command(random: &mut Random, pool: &Pool) -> Vec<u8> {
     match random.below(8) {
-        0..=2 => enter(&sent_grid(random, pool)),
-        3..=4 => strike(&sent_grid(random, pool)),
+        0..=2 => enter(sent_client(random), &sent_grid(random, pool)),
+        3..=4 => strike(sent_client(random), &sent_grid(random, pool)),
         _ => {
             let (mut low, mut high) = pool.form(random);
             if random.once_in(8) {
@@ -29,6 +30,15 @@ pub fn drawn_command(random: &mut Random, pool: &Pool) -> Vec<u8> {
             raise(random, pool.top, &mut high);
             count(&low, &high)
         }
+    }
+}
+
+/// A client's number, most often 1 or 2, so that strikes find what was entered.
+fn sent_client(random: &mut Random) -> u64 {
+    match random.below(24) {
+        0 => [0, 9, 257, 999_999][random.below(4) as usize],
+        1..=16 => random.between(1, 2),
+        _ => random.between(1, CLIENTS),
     }
 }
 

@@ -10,26 +10,28 @@ pub fn line_1(numbers: [u64; 4]) -> Vec<u8> {
     ended(numbers.iter().flat_map(|&value| number(value, 6)).collect())
 }
 
-/// A command line: the command and its cells.
-pub fn command(command: u64, cells: &[u64]) -> Vec<u8> {
+/// A command line: the command, the client if it names one, and its cells.
+pub fn command(command: u64, client: Option<u64>, cells: &[u64]) -> Vec<u8> {
+    let head = [command].into_iter().chain(client);
+    let head = head.flat_map(|value| number(value, 6));
     let cells = cells.iter().flat_map(|&cell| number(cell, 3));
-    ended(number(command, 6).into_iter().chain(cells).collect())
+    ended(head.chain(cells).collect())
 }
 
-/// The command line that enters the grid.
-pub fn enter(grid: &[u8]) -> Vec<u8> {
-    command(1, &numbers(grid))
+/// The command line that enters the grid for the client.
+pub fn enter(client: u64, grid: &[u8]) -> Vec<u8> {
+    command(1, Some(client), &numbers(grid))
 }
 
-/// The command line that strikes the grid.
-pub fn strike(grid: &[u8]) -> Vec<u8> {
-    command(2, &numbers(grid))
+/// The command line that strikes the grid for the client.
+pub fn strike(client: u64, grid: &[u8]) -> Vec<u8> {
+    command(2, Some(client), &numbers(grid))
 }
 
 /// The command line that counts the entries in the bounds: low and high of each cell in turn.
 pub fn count(low: &[u8], high: &[u8]) -> Vec<u8> {
     let in_turn: Vec<u8> = low.iter().zip(high).flat_map(|(&l, &h)| [l, h]).collect();
-    command(3, &numbers(&in_turn))
+    command(3, None, &numbers(&in_turn))
 }
 
 /// The command line that counts all entries of so many cells.

@@ -42,10 +42,11 @@ pub fn lines(cells: usize) -> Vec<Vec<u8>> {
     let mut lines: Vec<Vec<u8>> = Vec::new();
     lines.extend([1, 2, 3].iter().flat_map(|&k| around(&good(k, cells))));
     lines.extend([1, 2, 3].iter().flat_map(|&k| other_counts(k, cells)));
-    for line in [good(1, cells), good(3, cells)] {
+    lines.extend(other_clients(cells));
+    for (line, first_cell) in [(good(1, cells), 12), (good(3, cells), 6)] {
         lines.extend(OTHER_COMMANDS.map(|name| with_field(&line, 0, &number(name, 6))));
         lines.extend(NO_NUMBERS.map(|field| with_field(&line, 0, field)));
-        for at in [6, line.len() - 4] {
+        for at in [first_cell, line.len() - 4] {
             lines.extend(NO_CELLS.map(|field| with_field(&line, at, field)));
         }
         lines.push(ended(vec![b' '; line.len() - 1]));
@@ -60,7 +61,31 @@ pub fn lines(cells: usize) -> Vec<Vec<u8>> {
 
 /// A command line of zeros that is laid as it should be.
 fn good(name: u64, cells: usize) -> Vec<u8> {
-    command(name, &vec![0; count(name, cells)])
+    command(name, client(name), &vec![0; count(name, cells)])
+}
+
+/// The client of a command line that is laid as it should be.
+fn client(name: u64) -> Option<u64> {
+    match name {
+        3 => None,
+        _ => Some(1),
+    }
+}
+
+/// Commands 1 and 2 without a client or with a field that holds none, and command 3 with one.
+fn other_clients(cells: usize) -> Vec<Vec<u8>> {
+    let mut lines = Vec::new();
+    for name in [1, 2] {
+        let line = good(name, cells);
+        lines.extend(NO_NUMBERS.map(|field| with_field(&line, 6, field)));
+        // Without the client, and as long as with it.
+        lines.push(command(name, None, &vec![0; cells]));
+        lines.push(command(name, None, &vec![0; cells + 2]));
+    }
+    // With a client, and as long as without it.
+    lines.push(command(3, Some(1), &vec![0; 2 * cells]));
+    lines.push(command(3, Some(1), &vec![0; 2 * cells - 2]));
+    lines
 }
 
 /// How many cells the command has, for grids of so many.
@@ -88,7 +113,7 @@ fn other_counts(name: u64, cells: usize) -> Vec<Vec<u8>> {
     [0, right / 2, right - 1, right + 1, 2 * right, 3 * right]
         .iter()
         .filter(|&&count| count != right)
-        .map(|&count| command(name, &vec![0; count]))
+        .map(|&count| command(name, client(name), &vec![0; count]))
         .collect()
 }
 

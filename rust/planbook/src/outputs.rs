@@ -6,15 +6,18 @@ use std::collections::BTreeMap;
 /// The bytes of a printed line.
 const PRINTED: usize = 19;
 
-/// Every number that answers a command that is laid as it should be.
-pub const ANSWERS: [(u64, u64); 11] = [
+/// Every number that answers a command that is laid as it should be, but for 16, which takes 999
+/// enters.
+pub const ANSWERS: [(u64, u64); 13] = [
     (1, 0),
     (1, 7),
     (1, 9),
+    (1, 15),
     (1, 101),
     (2, 0),
     (2, 7),
     (2, 10),
+    (2, 15),
     (3, 0),
     (3, 7),
     (3, 8),

@@ -43,7 +43,11 @@ fn pieces_of_any_length() {
 
 #[test]
 fn the_largest_inputs_in_pieces() {
-    let input = [line_1([2, 2, 1, 2]), b"     1  1  0  0  1\n".repeat(4000)].concat();
+    let input = [
+        line_1([2, 2, 1, 2]),
+        b"     1     1  1  0  0  1\n".repeat(4000),
+    ]
+    .concat();
     for length in [LIMIT - 1, LIMIT, LIMIT + 1] {
         for piece in [999, 4_096, 10_000, LIMIT - 1, LIMIT] {
             check_pieces(&input[..length].chunks(piece).collect::<Vec<_>>());

@@ -75,8 +75,8 @@ fn an_unended_line_at_the_end_leaves_no_trace() {
     let pool = Pool::drawn(&mut random, 2, 2, 1, 5);
     let good = drawn(&mut random, &pool, 2, 12).concat();
     let output = check(&good);
-    let register = output.len() - 31 - 2 * 13;
-    let enter = enter(&pool.grids[0]);
+    let register = output.len() - 31 - 2 * 37;
+    let enter = enter(1, &pool.grids[0]);
     for k in 1..enter.len() {
         let expected = [&output[..register], &refusal(12), &output[register..]].concat();
         check_both(&[&good[..], &enter[..k]].concat(), &expected);

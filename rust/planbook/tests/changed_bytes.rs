@@ -30,28 +30,28 @@ fn check_command(before: &[Vec<u8>], line: &[u8], count_all: &[u8]) -> Met {
 
 #[test]
 fn changed_enters() {
-    let (line, held) = (enter(&[1, 0, 12, 10]), enter(&cells("01/10")));
+    let (line, held) = (enter(1, &[1, 0, 12, 10]), enter(1, &cells("01/10")));
     let before = [line_1([2, 2, 12, 60]), held, line.clone()];
     let met = check_command(&before, &line, &count_all(4, 12));
-    for answer in [(0, 12), (1, 0), (1, 7), (1, 101), (2, 0), (3, 0)] {
+    for answer in [(0, 12), (1, 0), (1, 7), (1, 15), (1, 101), (2, 0), (3, 0)] {
         assert!(met.contains_key(&answer), "{met:?}");
     }
-    assert!(met[&(0, 12)] > 18 * 240, "{met:?}");
+    assert!(met[&(0, 12)] > 24 * 240, "{met:?}");
 }
 
 #[test]
 fn changed_strikes() {
-    let before = [line_1([2, 2, 12, 2]), enter(&cells("01/10"))];
-    let met = check_command(&before, &strike(&[0, 1, 1, 0]), &count_all(4, 12));
-    for answer in [(0, 12), (1, 0), (2, 0), (2, 7), (2, 10), (3, 0)] {
+    let before = [line_1([2, 2, 12, 2]), enter(1, &cells("01/10"))];
+    let met = check_command(&before, &strike(1, &[0, 1, 1, 0]), &count_all(4, 12));
+    for answer in [(0, 12), (1, 0), (2, 0), (2, 7), (2, 10), (2, 15), (3, 0)] {
         assert!(met.contains_key(&answer), "{met:?}");
     }
-    assert!(met[&(0, 12)] > 18 * 240, "{met:?}");
+    assert!(met[&(0, 12)] > 24 * 240, "{met:?}");
 }
 
 #[test]
 fn changed_counts() {
-    let before = [line_1([2, 2, 12, 3]), enter(&cells("01/10"))];
+    let before = [line_1([2, 2, 12, 3]), enter(1, &cells("01/10"))];
     let line = count(&[0, 0, 0, 0], &[1, 12, 10, 5]);
     let met = check_command(&before, &line, &count_all(4, 12));
     for answer in [(0, 12), (3, 0), (3, 7), (3, 8)] {
@@ -62,8 +62,8 @@ fn changed_counts() {
 
 #[test]
 fn changed_lines_of_one_cell() {
-    let before = [line_1([1, 1, 15, 16]), enter(&[7])];
-    for line in [enter(&[13]), strike(&[7]), count(&[2], &[11])] {
+    let before = [line_1([1, 1, 15, 16]), enter(1, &[7])];
+    for line in [enter(1, &[13]), strike(1, &[7]), count(&[2], &[11])] {
         let met = check_command(&before, &line, &count_all(1, 15));
         assert!(met[&(0, 12)] > 9 * 240, "{met:?}");
     }
@@ -84,7 +84,7 @@ fn check_line_1(line: &[u8], bytes: &[u8], commands: &[u8]) -> usize {
 #[test]
 fn changed_lines_1() {
     let every_byte: Vec<u8> = (0..=255).collect();
-    let commands = [enter(&cells("10/01")), enter(&cells("0"))].concat();
+    let commands = [enter(1, &cells("10/01")), enter(1, &cells("0"))].concat();
     let ended = check_line_1(&line_1([2, 2, 1, 2]), &every_byte, &commands);
     // The other runs have a digit for one of the first spaces or for a number of one digit.
     assert!((25 * 245..25 * 256).contains(&ended), "{ended}");
@@ -92,7 +92,7 @@ fn changed_lines_1() {
 
 #[test]
 fn likely_changes_of_a_line_1_of_long_numbers() {
-    let commands = enter(&[0; 128]);
+    let commands = enter(1, &[0; 128]);
     let ended = check_line_1(&line_1([5, 16, 15, 270]), LIKELY, &commands);
     assert!(ended > 400, "{ended}");
 }

@@ -41,7 +41,7 @@ fn runs() -> Vec<(String, &'static str)> {
 fn the_program_prints_what_the_guide_says() {
     let runs = runs();
     assert_eq!(runs.len(), GUIDE.matches("```text\noutput:\n").count());
-    assert_eq!(runs.len(), 12);
+    assert_eq!(runs.len(), 14);
     for (input, output) in runs {
         check_both(input.as_bytes(), output.as_bytes());
     }

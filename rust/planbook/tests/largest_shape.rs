@@ -18,26 +18,26 @@ const M: usize = 8;
 const N: usize = 16;
 
 /// The most lines of a register of this shape.
-const CAPACITY: u64 = 170;
+const CAPACITY: u64 = 160;
 
 /// The most enters of an input.
-const ENTERS: usize = 167;
+const ENTERS: usize = 165;
 
 /// The representatives of the grids, which are of as many classes, by a run that enters them all.
 /// Checks that the register is laid out and holds each class once.
 fn representatives(top: u8, grids: &[Vec<u8>]) -> Vec<Vec<u8>> {
     let mut input = line_1([M as u64, N as u64, top.into(), CAPACITY]);
-    input.extend(grids.iter().flat_map(|grid| enter(grid)));
+    input.extend(grids.iter().flat_map(|grid| enter(1, grid)));
     let output = Output::read(&input, &run(&input));
     assert!(output.printed.iter().all(|line| line[..2] == [1, 0]));
     let contents = Contents::read(&output.register).expect("the register is laid out");
     assert_eq!(contents.entries.len(), grids.len());
-    let keys = contents.entries.iter().map(|entry| class_key(M, N, entry));
-    let keys: Vec<_> = keys.collect();
+    let entries = contents.grids();
+    let keys: Vec<_> = entries.iter().map(|grid| class_key(M, N, grid)).collect();
     let held = |grid: &Vec<u8>| {
         let key = class_key(M, N, grid);
         let at = keys.iter().position(|other| *other == key);
-        contents.entries[at.expect("the class is held")].clone()
+        entries[at.expect("the class is held")].clone()
     };
     grids.iter().map(held).collect()
 }
@@ -71,10 +71,10 @@ fn add(
 ) -> u64 {
     let k = random.below(grids.len() as u64) as usize;
     let (grid, representative) = (shuffled(random, M, N, &grids[k]), &representatives[k]);
-    let top = book.contents.top as u8;
+    let (top, client) = (book.contents.top as u8, random.between(1, 3));
     let (low, high) = match random.below(8) {
-        0..=3 => return book.enter(&grid, representative),
-        4..=5 => return book.strike(&grid, representative),
+        0..=3 => return book.enter(client, &grid, representative),
+        4..=5 => return book.strike(client, &grid, representative),
         6 => around(random, top, representative),
         _ if random.once_in(3) => close(random, M, N, top),
         _ => ordered(vec![0; M * N], vec![top; M * N]),
@@ -110,14 +110,18 @@ fn symmetric_grids_of_7_and_8_rows() {
         let representative = least(m, n, &design.cells);
         let mut book = Book::opened([m as u64, n as u64, top.into(), 2]);
         let mut copy = || shuffled(&mut random, m, n, &design.cells);
-        assert_eq!(book.strike(&copy(), &representative), 10);
-        assert_eq!(book.enter(&design.cells, &representative), 0);
-        for _ in 0..5 {
-            assert_eq!(book.enter(&copy(), &representative), 101);
+        assert_eq!(book.strike(1, &copy(), &representative), 10);
+        assert_eq!(book.enter(1, &design.cells, &representative), 0);
+        for client in 4..=8 {
+            assert_eq!(book.enter(client, &copy(), &representative), 101);
         }
         assert_eq!(book.count(&representative, &representative), 0);
-        assert_eq!(book.strike(&copy(), &representative), 0);
-        assert_eq!(book.enter(&copy(), &representative), 0);
+        for client in 4..=8 {
+            assert_eq!(book.strike(client, &copy(), &representative), 0);
+        }
+        assert_eq!(book.strike(4, &copy(), &representative), 10);
+        assert_eq!(book.strike(1, &copy(), &representative), 0);
+        assert_eq!(book.enter(4, &copy(), &representative), 0);
         book.check();
     }
 }
@@ -139,10 +143,11 @@ fn one_cell_makes_another_class() {
     let entries = representatives(15, &grids);
     let mut book = book(15, 30);
     for (grid, entry) in grids.iter().zip(&entries) {
-        assert_eq!(book.enter(grid, entry), 0);
+        assert_eq!(book.enter(1, grid, entry), 0);
     }
     for (grid, entry) in grids.iter().zip(&entries) {
-        assert_eq!(book.enter(&shuffled(&mut random, M, N, grid), entry), 101);
+        let grid = shuffled(&mut random, M, N, grid);
+        assert_eq!(book.enter(2, &grid, entry), 101);
     }
     book.check();
 }
@@ -152,7 +157,7 @@ fn check_whole_input(random: &mut Random, grids: &[Vec<u8>], entries: &[Vec<u8>]
     let mut book = book(15, CAPACITY);
     for k in 0..ENTERS {
         let k = k % grids.len();
-        book.enter(&shuffled(random, M, N, &grids[k]), &entries[k]);
+        book.enter(1, &shuffled(random, M, N, &grids[k]), &entries[k]);
     }
     assert_eq!(book.contents.entries.len(), grids.len());
     book.malformed(&ended(vec![b'x'; LIMIT - 1 - book.input.len()]));
@@ -168,9 +173,9 @@ fn check_whole_input(random: &mut Random, grids: &[Vec<u8>], entries: &[Vec<u8>]
 #[test]
 fn whole_inputs_of_enters() {
     let mut random = Random::new(215);
-    let grids = drawn_grids(&mut random, M, N, 15, ENTERS);
+    let grids = drawn_grids(&mut random, M, N, 15, CAPACITY as usize);
     let entries = representatives(15, &grids);
-    for classes in [ENTERS, 84] {
+    for classes in [CAPACITY as usize, 84] {
         let (grids, entries) = (&grids[..classes], &entries[..classes]);
         let time = check_whole_input(&mut random, grids, entries);
         println!("{ENTERS} enters of 8 x 16, of {classes} classes, in 65,536 bytes: {time}");

@@ -30,7 +30,7 @@ fn first_no([m, n, top, capacity]: [u64; 4]) -> u64 {
         _ if n == 0 || n > 16 => 2,
         _ if top > 15 => 3,
         _ if capacity == 0 || capacity > 500 => 4,
-        _ if 31 + capacity * (3 * m * n + 1) > 65_536 => 13,
+        _ if 31 + capacity * (3 * m * n + 25) > 65_536 => 13,
         _ => 0,
     }
 }
@@ -45,14 +45,14 @@ fn with_commands(numbers: [u64; 4]) -> Vec<u8> {
     let above = vec![top as u8 + 1; cells as usize];
     [
         line_1(numbers),
-        enter(&tops),
-        enter(&zeros),
-        enter(&above),
-        strike(&above),
+        enter(1, &tops),
+        enter(1, &zeros),
+        enter(1, &above),
+        strike(1, &above),
         b"\n".to_vec(),
         count_all(zeros.len(), top as u8),
         count_all(zeros.len(), top as u8 + 1),
-        strike(&tops),
+        strike(1, &tops),
     ]
     .concat()
 }
@@ -105,7 +105,7 @@ fn the_same_limits_without_commands() {
     for (numbers, output) in combinations.iter().zip(check_each(&inputs)) {
         let [m, n, _, capacity] = *numbers;
         match first_no(*numbers) {
-            0 => assert_eq!(output.len() as u64, 31 + capacity * (3 * m * n + 1)),
+            0 => assert_eq!(output.len() as u64, 31 + capacity * (3 * m * n + 25)),
             number => assert_eq!(output, refusal(number), "{numbers:?}"),
         }
     }
@@ -123,11 +123,11 @@ fn with_value(top: u64, value: u64, k: usize) -> Vec<[u64; 3]> {
     };
     let input = [
         line_1([2, 3, top, 2]),
-        command(1, &grid),
-        command(2, &grid),
-        command(3, &bounds(0, value)),
-        command(3, &bounds(value, top)),
-        command(3, &bounds(value, value)),
+        command(1, Some(1), &grid),
+        command(2, Some(1), &grid),
+        command(3, None, &bounds(0, value)),
+        command(3, None, &bounds(value, top)),
+        command(3, None, &bounds(value, value)),
     ];
     let input = input.concat();
     Output::read(&input, &check(&input)).printed
@@ -153,7 +153,7 @@ fn cells_at_top_and_above() {
 
 #[test]
 fn a_bound_above_top_is_asked_before_a_low_above_its_high() {
-    let input = |cells: &[u64]| [line_1([2, 1, 3, 1]), command(3, cells)].concat();
+    let input = |cells: &[u64]| [line_1([2, 1, 3, 1]), command(3, None, cells)].concat();
     let empty = check(&line_1([2, 1, 3, 1]));
     for (cells, printed) in [
         ([3, 2, 0, 4], "     3     7     0\n"),
@@ -166,5 +166,38 @@ fn a_bound_above_top_is_asked_before_a_low_above_its_high() {
         ([2, 3, 0, 2], "     3     0     0\n"),
     ] {
         check_both(&input(&cells), &[printed.as_bytes(), &empty].concat());
+    }
+}
+
+#[test]
+fn clients_past_their_limits_are_15_behind_7_and_before_9_and_10() {
+    for client in [0, 9, 10, 256, 257, 65_537, 999_999] {
+        let input = [
+            line_1([1, 2, 3, 1]),
+            enter(client, &[0, 0]),
+            enter(8, &[0, 0]),
+            enter(client, &[0, 0]),
+            enter(client, &[0, 1]),
+            enter(client, &[0, 4]),
+            strike(client, &[0, 0]),
+            strike(client, &[0, 1]),
+            strike(client, &[0, 4]),
+            strike(8, &[0, 0]),
+        ];
+        let input = input.concat();
+        let output = Output::read(&input, &check(&input));
+        let expected = [
+            [1, 15, 0],
+            [1, 0, 1],
+            [1, 15, 0],
+            [1, 15, 0],
+            [1, 7, 0],
+            [2, 15, 0],
+            [2, 15, 0],
+            [2, 7, 0],
+            [2, 0, 1],
+        ];
+        assert_eq!(output.printed, expected, "{client}");
+        assert_eq!(output.register, check(&line_1([1, 2, 3, 1])));
     }
 }

@@ -62,7 +62,7 @@ fn check_command(head: &[u8], line: &[u8], count_all: &[u8]) {
 fn command_lines_of_another_length() {
     for (m, n) in [(1, 1), (2, 2), (3, 4)] {
         let (head, zeros) = (line_1([m, n, 1, 2]), vec![0; (m * n) as usize]);
-        for line in [enter(&zeros), strike(&zeros), count(&zeros, &zeros)] {
+        for line in [enter(1, &zeros), strike(1, &zeros), count(&zeros, &zeros)] {
             check_command(&head, &line, &count_all(zeros.len(), 1));
         }
     }
@@ -73,7 +73,7 @@ fn lines_1_of_another_length() {
     let line = line_1([2, 2, 1, 2]);
     let mut inputs = Vec::new();
     for other in cut_and_lengthened(&line) {
-        inputs.push([&other[..], b"\n     1  1  0  0  1\n"].concat());
+        inputs.push([&other[..], b"\n     1     1  1  0  0  1\n"].concat());
         inputs.push(other);
     }
     for output in check_each(&inputs) {
@@ -96,7 +96,7 @@ fn every_beginning_and_every_end_of_the_printed_input() {
 fn a_missing_line_feed_at_the_end_is_12() {
     let head = line_1([2, 2, 1, 2]);
     let zeros = [0; 4];
-    for line in [enter(&zeros), strike(&zeros), count(&zeros, &zeros)] {
+    for line in [enter(1, &zeros), strike(1, &zeros), count(&zeros, &zeros)] {
         let ended = check(&[&head[..], &line].concat());
         let unended = check(&[&head[..], &line[..line.len() - 1]].concat());
         assert_ne!(ended[..19], refusal(12));
@@ -143,6 +143,7 @@ fn lines_between() {
         " \n",
         "      \n",
         "                  \n",
+        "                        \n",
         "\r\n",
         "\t\n",
         "\n\n\n",

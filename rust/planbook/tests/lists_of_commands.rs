@@ -86,7 +86,8 @@ fn lists_of_thousands_of_commands() {
         ((2, 4), 2, 100),
     ];
     let long = |(shape, top, capacity): ((usize, usize), u8, u64)| {
-        let longest = 7 + 6 * shape.0 * shape.1;
+        let cells = shape.0 * shape.1;
+        let longest = (13 + 3 * cells).max(7 + 6 * cells);
         list(&mut random, shape, top, capacity, 65_511 / longest)
     };
     check_met(&check_lists(&shapes.map(long)), &ANSWERS, 40);
@@ -99,12 +100,13 @@ fn registers_of_every_capacity_are_filled() {
         let pool = Pool::drawn(&mut random, 2, 3, 15, capacity as usize + 3);
         let mut input = line_1([2, 3, 15, capacity]);
         for grid in &pool.grids {
-            input.extend(enter(&shuffled(&mut random, 2, 3, grid)));
+            let client = random.between(1, 2);
+            input.extend(enter(client, &shuffled(&mut random, 2, 3, grid)));
         }
         input.extend(count_all(6, 15));
         for _ in 0..20 {
-            input.extend(strike(&pool.grid(&mut random)));
-            input.extend(enter(&pool.grid(&mut random)));
+            input.extend(strike(random.between(1, 2), &pool.grid(&mut random)));
+            input.extend(enter(random.between(1, 8), &pool.grid(&mut random)));
         }
         input
     };
@@ -114,21 +116,23 @@ fn registers_of_every_capacity_are_filled() {
     check_met(&check_lists(&inputs), &answers, 20);
 }
 
-/// Commands on a design, shuffled anew in each: it is held by one line, and struck once.
+/// Commands on a design, shuffled anew in each: it is held by one line until nobody holds any.
 fn on_design(random: &mut Random, design: &Design) -> Vec<u8> {
     let (m, n) = (design.m, design.n);
     let mut copy = || shuffled(random, m, n, &design.cells);
     [
         line_1([m as u64, n as u64, design.top.into(), 2]),
-        strike(&copy()),
-        enter(&copy()),
-        enter(&copy()),
+        strike(1, &copy()),
+        enter(1, &copy()),
+        enter(2, &copy()),
         count(&design.cells, &design.cells),
         count_all(m * n, design.top),
-        strike(&copy()),
-        strike(&copy()),
-        enter(&design.cells),
-        enter(&copy()),
+        strike(1, &copy()),
+        strike(1, &copy()),
+        strike(2, &copy()),
+        strike(2, &copy()),
+        enter(8, &design.cells),
+        enter(8, &copy()),
     ]
     .concat()
 }
@@ -145,7 +149,7 @@ fn grids_with_much_symmetry() {
         let printed = Output::read(input, &output).printed;
         let numbers: Vec<u64> = printed.iter().map(|line| line[1]).collect();
         assert_eq!(numbers[..3], [10, 0, 101]);
-        assert_eq!(numbers[4..], [0, 0, 10, 0, 101]);
+        assert_eq!(numbers[4..], [0, 0, 10, 0, 10, 0, 101]);
     }
 }
 
@@ -157,7 +161,8 @@ fn the_order_of_enters_leaves_no_trace() {
         let mut input = line_1([3, 4, 2, 12]);
         for k in random.permutation(12) {
             let grid = &pool.grids[usize::from(k)];
-            input.extend(enter(&shuffled(&mut random, 3, 4, grid)));
+            let client = u64::from(k % 8) + 1;
+            input.extend(enter(client, &shuffled(&mut random, 3, 4, grid)));
         }
         input
     };

@@ -44,12 +44,66 @@ fn every_cell_of_likely_bytes() {
         .filter(|&byte| byte != b'\n')
         .collect();
     let fields = every_field(&bytes, 3);
-    for name in [b"     1", b"     2"] {
-        let line = |field: &Vec<u8>| ended([&name[..], field].concat());
+    for head in [b"     1     1", b"     2     8"] {
+        let line = |field: &Vec<u8>| ended([&head[..], field].concat());
         let printed = check_lines(&fields.iter().map(line).collect::<Vec<_>>());
         // The cells 0 to 255 alone are laid as they should be.
         assert_eq!(times(&printed, 0), fields.len() - 256);
     }
+}
+
+#[test]
+fn every_client_that_ends_in_likely_bytes() {
+    let bytes: Vec<u8> = LIKELY
+        .iter()
+        .copied()
+        .filter(|&byte| byte != b'\n')
+        .collect();
+    let fields = every_field(&bytes, 3);
+    for head in [b"     1   ", b"     2   ", b"     1  7", b"     2407"] {
+        let line = |field: &Vec<u8>| ended([&head[..], field, b"  0"].concat());
+        let printed = check_lines(&fields.iter().map(line).collect::<Vec<_>>());
+        // The numbers of three digits, or fewer where spaces are before them.
+        assert_eq!(times(&printed, 0), fields.len() - 1000);
+    }
+}
+
+#[test]
+fn every_client_up_to_9999_and_some_above() {
+    let numbers: Vec<u64> = (0..=9_999)
+        .chain(65_530..65_550)
+        .chain(99_990..100_010)
+        .chain(999_900..=999_999)
+        .collect();
+    for name in [1, 2] {
+        for (cell, refused) in [(0, 15), (16, 7)] {
+            let line = |&number: &u64| command(name, Some(number), &[cell]);
+            let lines: Vec<_> = numbers.iter().map(line).collect();
+            for (number, line) in numbers.iter().zip(check_lines(&lines)) {
+                assert_eq!(line[0], name);
+                let passes = (1..=8).contains(number) && cell == 0;
+                assert_eq!(line[1..] == [refused, 0], !passes, "{number}: {line:?}");
+            }
+        }
+    }
+}
+
+#[test]
+fn every_byte_around_the_digit_of_a_client() {
+    // The digit at each place of the field, and one byte at the other five.
+    let mut lines = Vec::new();
+    for byte in (0..=255).filter(|&byte| byte != b'\n') {
+        for place in 0..6 {
+            for digit in b"189" {
+                let field = with_field(&[byte; 6], place, &[*digit]);
+                lines.push(ended([b"     1", &field[..], b"  0"].concat()));
+            }
+        }
+    }
+    let printed = check_lines(&lines);
+    // Spaces before the digit, zeros behind it, or the digits 1 to 9 around it.
+    assert_eq!(times(&printed, 1), 3 + 3 + 9 * 6 * 3);
+    assert_eq!(times(&printed, 0), lines.len() - times(&printed, 1));
 }
 
 #[test]
@@ -64,20 +118,23 @@ fn every_bound_of_likely_bytes() {
     }
 }
 
-/// The cells of a command with a number among them.
-type CellsWith = fn(u64) -> Vec<u64>;
+/// The cells of a command with a number among them, behind its client if it has one.
+type CellsWith = fn(u64) -> (Option<u64>, Vec<u64>);
 
 #[test]
 fn every_number_as_a_cell_and_as_a_bound() {
     let sent: [(u64, CellsWith); 4] = [
-        (1, |value| vec![value]),
-        (2, |value| vec![value]),
-        (3, |value| vec![value, 15]),
-        (3, |value| vec![0, value]),
+        (1, |value| (Some(1), vec![value])),
+        (2, |value| (Some(1), vec![value])),
+        (3, |value| (None, vec![value, 15])),
+        (3, |value| (None, vec![0, value])),
     ];
     for (name, cells) in sent {
         let lines: Vec<_> = (0..=999)
-            .map(|value| command(name, &cells(value)))
+            .map(|value| {
+                let (client, cells) = cells(value);
+                command(name, client, &cells)
+            })
             .collect();
         for (value, line) in check_lines(&lines).into_iter().enumerate() {
             match value {
@@ -96,13 +153,12 @@ fn every_command_up_to_9999_and_some_above() {
         .chain(99_990..100_010)
         .chain(999_900..=999_999)
         .collect();
-    for cells in [vec![0], vec![0, 0]] {
+    for (client, cells, right) in [(Some(1), vec![0], [1, 2]), (None, vec![0, 0], [3, 3])] {
         let lines: Vec<_> = numbers
             .iter()
-            .map(|&number| command(number, &cells))
+            .map(|&number| command(number, client, &cells))
             .collect();
         let printed = check_lines(&lines);
-        let right = if cells.len() == 1 { [1, 2] } else { [3, 3] };
         for (number, line) in numbers.iter().zip(printed) {
             let is_command = right.contains(number);
             assert_eq!(line[0], if is_command { *number } else { 0 });
@@ -119,7 +175,7 @@ fn every_byte_around_the_digit_of_a_command() {
         for place in 0..6 {
             for digit in b"123" {
                 let field = with_field(&[byte; 6], place, &[*digit]);
-                lines.push(ended([&field[..], b"  0"].concat()));
+                lines.push(ended([&field[..], b"     1  0"].concat()));
                 lines.push(ended([&field[..], b"  0  0"].concat()));
             }
         }

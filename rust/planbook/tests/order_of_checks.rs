@@ -42,7 +42,7 @@ fn with_faults(faults: &[u64], more: u64, way: usize) -> Vec<u8> {
     if faults.contains(&12) {
         spoil(&mut input, way);
     }
-    input.extend(enter(&[0; 6]));
+    input.extend(enter(1, &[0; 6]));
     input.extend(b"x\n\n     1");
     if faults.contains(&11) {
         input.resize(LIMIT + 1, b'\n');
@@ -66,7 +66,7 @@ fn the_first_fault_of_every_set_decides() {
             let input = with_faults(&faults, more, way);
             match faults.first() {
                 Some(&number) => check_both(&input, &refusal(number)),
-                None => assert_eq!(check(&input).len(), 4 * 19 + 31 + 4 * 19),
+                None => assert_eq!(check(&input).len(), 4 * 19 + 31 + 4 * 43),
             }
         }
     }
@@ -97,12 +97,12 @@ fn numbers_of_zero() {
     ] {
         check_both(&line_1(numbers), &refusal(number));
     }
-    assert_eq!(check(&line_1([1, 1, 0, 1])).len(), 31 + 4);
+    assert_eq!(check(&line_1([1, 1, 0, 1])).len(), 31 + 28);
 }
 
 #[test]
 fn commands_are_not_looked_at_before_the_checks() {
-    let good = enter(&[0; 6]).repeat(10);
+    let good = enter(1, &[0; 6]).repeat(10);
     for (numbers, number) in [
         ([9, 3, 1, 4], 1),
         ([2, 17, 1, 4], 2),

@@ -1,8 +1,8 @@
 //! Runs whose output is written out: document 01's, the examples, marked plans.
 
 use planbook::check;
-use planbook::lines::{count, enter, line_1};
-use reference::examples::{plan, register};
+use planbook::lines::{count, enter, line_1, strike};
+use reference::examples::{held_register, plan};
 use reference::forms::written;
 
 /// Document 01's input, as it is stored beside the program.
@@ -16,26 +16,30 @@ fn printed(input: &[u8]) -> String {
     String::from_utf8(check(input)).expect("the output is text")
 }
 
-/// What is printed where these grids of one shape are entered in turn.
-fn entered(top: u64, capacity: u64, grids: &[&str]) -> String {
-    let (m, n, _) = plan(grids[0]);
+/// What is printed where these clients enter these grids of one shape in turn.
+fn entered(top: u64, capacity: u64, enters: &[(u64, &str)]) -> String {
+    let (m, n, _) = plan(enters[0].1);
     let mut input = line_1([m as u64, n as u64, top, capacity]);
-    input.extend(grids.iter().flat_map(|grid| enter(&plan(grid).2)));
+    for (client, grid) in enters {
+        input.extend(enter(*client, &plan(grid).2));
+    }
     printed(&input)
 }
 
-/// The register with this one entry, as text.
-fn holding(top: u64, capacity: u64, entry: &str) -> String {
+/// The register with this one entry, of which client 1 holds so many, as text.
+fn holding(top: u64, capacity: u64, entry: &str, held: u64) -> String {
     let (m, n, _) = plan(entry);
-    let bytes = register(m as u64, n as u64, top, capacity, &[entry]);
+    let bytes = held_register(m as u64, n as u64, top, capacity, &[(entry, [held])]);
     String::from_utf8(bytes).expect("a register is text")
 }
 
 /// Checks that all of these grids, entered in turn, leave this one entry, at place 1.
 fn check_one_class(top: u64, entry: &str, grids: &[&str]) {
     let again = "     1   101     1\n".repeat(grids.len() - 1);
-    let expected = "     1     0     1\n".to_string() + &again + &holding(top, 3, entry);
-    assert_eq!(entered(top, 3, grids), expected);
+    let register = holding(top, 3, entry, grids.len() as u64);
+    let expected = "     1     0     1\n".to_string() + &again + &register;
+    let enters: Vec<(u64, &str)> = grids.iter().map(|&grid| (1, grid)).collect();
+    assert_eq!(entered(top, 3, &enters), expected);
 }
 
 /// What is printed for these bounds after this grid is entered, without the register.
@@ -43,7 +47,7 @@ fn counted(grid: &str, bounds: &str) -> String {
     let (m, n, grid) = plan(grid);
     let (low, high) = written(bounds).2;
     let head = line_1([m as u64, n as u64, 3, 1]);
-    let output = printed(&[head, enter(&grid), count(&low, &high)].concat());
+    let output = printed(&[head, enter(1, &grid), count(&low, &high)].concat());
     output[19..38].to_string()
 }
 
@@ -53,29 +57,71 @@ fn the_run_that_document_01_prints() {
 }
 
 #[test]
-fn two_arrangements_of_marked_plan_1_are_charged_once() {
+fn two_arrangements_of_marked_plan_1_are_held_on_one_line() {
     let expected = "     1     0     1
      1   101     1
      2     3     3     2     1
-  1  2  3  3  2  2
-                  \n";
+  1  2  3  3  2  2  1  1  0  0  0  0  0  0
+                                          \n";
     let example = include_bytes!("../../../examples/two_by_three.txt");
     assert_eq!(printed(example), expected);
-    assert_eq!(entered(3, 2, &["223/231", "123/322"]), expected);
-    assert_eq!(entered(3, 2, &["123/322", "223/231"]), expected);
+    let (one, other) = ("223/231", "123/322");
+    assert_eq!(entered(3, 2, &[(1, one), (2, other)]), expected);
+    assert_eq!(entered(3, 2, &[(2, other), (1, one)]), expected);
 }
 
 #[test]
-fn two_arrangements_of_marked_plan_2_are_charged_once() {
+fn two_arrangements_of_marked_plan_2_are_held_on_one_line() {
     let expected = "     1     0     1
      1   101     1
      2     2     1     2     1
-  0  1  1  0
-            \n";
+  0  1  1  0  2  0  0  0  0  0  0  0
+                                    \n";
     let example = include_bytes!("../../../examples/two_by_two.txt");
     assert_eq!(printed(example), expected);
-    assert_eq!(entered(1, 2, &["10/01", "01/10"]), expected);
-    assert_eq!(entered(1, 2, &["01/10", "10/01"]), expected);
+    assert_eq!(entered(1, 2, &[(1, "10/01"), (1, "01/10")]), expected);
+    assert_eq!(entered(1, 2, &[(1, "01/10"), (1, "10/01")]), expected);
+}
+
+#[test]
+fn a_strike_by_one_client_takes_nothing_from_another() {
+    let grid = [1, 0, 0, 1];
+    let lines = [
+        line_1([2, 2, 1, 1]),
+        enter(1, &grid),
+        enter(8, &grid),
+        strike(1, &grid),
+        strike(1, &grid),
+        strike(9, &grid),
+    ];
+    let expected = "     1     0     1
+     1   101     1
+     2     0     1
+     2    10     0
+     2    15     0
+     2     2     1     1     1
+  0  1  1  0  0  0  0  0  0  0  0  1
+";
+    assert_eq!(printed(&lines.concat()), expected);
+}
+
+#[test]
+fn a_holding_of_999_is_the_most() {
+    let grid = [0];
+    let lines = [line_1([1, 1, 1, 1]), enter(7, &grid).repeat(1001)];
+    let lines = [lines.concat(), enter(6, &grid), strike(7, &grid)];
+    let again = "     1   101     1\n";
+    let expected = [
+        "     1     0     1\n",
+        &again.repeat(998),
+        "     1    16     0\n",
+        "     1    16     0\n",
+        again,
+        "     2     0     1\n",
+        "     1     1     1     1     1\n",
+        "  0  0  0  0  0  0  1998  0\n",
+    ];
+    assert_eq!(printed(&lines.concat()), expected.concat());
 }
 
 #[test]
@@ -93,10 +139,11 @@ fn the_two_plans_of_marked_plan_6_are_in_two_classes() {
      1     0     2
      1   101     1
      2     2     1     2     2
-  0  0  1  1
-  0  1  0  1
+  0  0  1  1  1  0  1  0  0  0  0  0
+  0  1  0  1  0  1  0  0  0  0  0  0
 ";
-    assert_eq!(entered(1, 2, &["00/11", "01/01", "11/00"]), expected);
+    let enters = [(1, "00/11"), (2, "01/01"), (3, "11/00")];
+    assert_eq!(entered(1, 2, &enters), expected);
 }
 
 #[test]

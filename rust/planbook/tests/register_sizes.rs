@@ -11,7 +11,7 @@ use reference::random::Random;
 
 /// The length of a register.
 fn length(m: u64, n: u64, capacity: u64) -> u64 {
-    31 + capacity * (3 * m * n + 1)
+    31 + capacity * (3 * m * n + 25)
 }
 
 /// The largest capacity up to 500 of a register within 65,536 bytes.
@@ -37,12 +37,16 @@ fn the_largest_registers_of_every_shape() {
         for value in [15, 0, 9, 10, 1, 9] {
             let (k, other) = (random.below(cells as u64), random.below(cells as u64));
             let least = with_cell(cells, cells - 1, value);
-            book.enter(&with_cell(cells, k as usize, value), &least);
-            book.enter(&with_cell(cells, other as usize, value), &least);
+            book.enter(1, &with_cell(cells, k as usize, value), &least);
+            book.enter(8, &with_cell(cells, other as usize, value), &least);
         }
         assert_eq!(book.contents.entries.len(), 5);
         let least = with_cell(cells, cells - 1, 10);
-        assert_eq!(book.strike(&with_cell(cells, 0, 10), &least), 0);
+        assert_eq!(book.strike(8, &with_cell(cells, 0, 10), &least), 0);
+        assert_eq!(book.strike(8, &with_cell(cells, 0, 10), &least), 10);
+        assert_eq!(book.contents.entries.len(), 5);
+        assert_eq!(book.strike(1, &with_cell(cells, 0, 10), &least), 0);
+        assert_eq!(book.contents.entries.len(), 4);
         assert_eq!(book.count(&vec![0; cells], &vec![15; cells]), 0);
         book.check();
         if m <= 5 {
@@ -60,19 +64,19 @@ fn one_line_more_is_13() {
         if capacity < 500 {
             assert!(length(m, n, capacity + 1) > LIMIT as u64);
             let head = line_1([m, n, 15, capacity + 1]);
-            let commands = enter(&vec![0; (m * n) as usize]);
+            let commands = enter(1, &vec![0; (m * n) as usize]);
             check_both(&[head, commands].concat(), &refusal(13));
             refused += 1;
         }
     }
-    assert_eq!(refused, 46);
+    assert_eq!(refused, 56);
 }
 
 #[test]
 fn capacities_far_above_are_13_up_to_500_and_4_from_there() {
     for (capacity, number) in [
-        (171, 13),
-        (172, 13),
+        (161, 13),
+        (162, 13),
         (499, 13),
         (500, 13),
         (501, 4),
@@ -80,32 +84,35 @@ fn capacities_far_above_are_13_up_to_500_and_4_from_there() {
     ] {
         check_both(&line_1([8, 16, 15, capacity]), &refusal(number));
     }
-    assert_eq!(check(&line_1([8, 16, 15, 170])).len(), 65_481);
+    assert_eq!(check(&line_1([8, 16, 15, 160])).len(), 65_471);
 }
 
 #[test]
-fn a_register_of_500_entries_of_40_cells() {
+fn a_register_of_500_entries_of_35_cells() {
     let mut random = Random::new(252);
-    let mut book = Book::opened([4, 10, 15, 500]);
+    let mut book = Book::opened([5, 7, 15, 500]);
     let mut grids = Vec::new();
     while grids.len() < 505 {
-        let grid = random.cells(40, 15);
-        let least = reference::grid::least(4, 10, &grid);
+        let grid = random.cells(35, 15);
+        let least = reference::grid::least(5, 7, &grid);
         if grids.iter().all(|(_, other)| *other != least) {
             grids.push((grid, least));
         }
     }
     for (grid, least) in &grids[..500] {
-        assert_eq!(book.enter(grid, least), 0);
+        assert_eq!(book.enter(1, grid, least), 0);
     }
     for (grid, least) in &grids[500..] {
-        assert_eq!(book.enter(grid, least), 9);
-        assert_eq!(book.strike(grid, least), 10);
+        assert_eq!(book.enter(1, grid, least), 9);
+        assert_eq!(book.strike(1, grid, least), 10);
     }
     let (grid, least) = &grids[250];
-    assert_eq!(book.enter(&shuffled(&mut random, 4, 10, grid), least), 101);
-    assert_eq!(book.strike(grid, least), 0);
-    assert_eq!(book.enter(&grids[500].0, &grids[500].1), 0);
+    let arranged = shuffled(&mut random, 5, 7, grid);
+    assert_eq!(book.enter(2, &arranged, least), 101);
+    assert_eq!(book.strike(1, grid, least), 0);
+    assert_eq!(book.enter(1, &grids[500].0, &grids[500].1), 9);
+    assert_eq!(book.strike(2, grid, least), 0);
+    assert_eq!(book.enter(1, &grids[500].0, &grids[500].1), 0);
     assert!(book.input.len() <= LIMIT);
     book.check();
     assert_eq!(book.contents.entries.len(), 500);
@@ -115,8 +122,8 @@ fn a_register_of_500_entries_of_40_cells() {
 fn small_registers_are_filled_and_emptied() {
     // 1 row, 1 column: 16 classes.
     let all: Vec<u8> = (0..=15).collect();
-    let line = |value: &u8| enter(&[*value]);
-    let gone = |value: &u8| strike(&[*value]);
+    let line = |value: &u8| enter(1, &[*value]);
+    let gone = |value: &u8| strike(1, &[*value]);
     let fill: Vec<u8> = all.iter().rev().flat_map(line).collect();
     let clear: Vec<u8> = all.iter().flat_map(gone).collect();
     for capacity in [1, 15, 16, 17, 500] {

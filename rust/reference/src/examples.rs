@@ -1,6 +1,7 @@
 //! Grids for tests: written ones, every one of a small shape, and registers of written ones.
 
-use crate::layout::Contents;
+use crate::holdings::Holdings;
+use crate::layout::{Contents, Entry};
 
 /// The rows, columns and cells of a grid that is written with a slash between rows.
 pub fn plan(text: &str) -> (usize, usize, Vec<u8>) {
@@ -37,13 +38,38 @@ pub fn shapes_up_to(count: usize) -> Vec<(usize, usize)> {
 }
 
 /// The bytes of a register with these written entries, as they stand here, and of any numbers.
+/// Client 1 holds one of each.
 pub fn register(m: u64, n: u64, top: u64, capacity: u64, entries: &[&str]) -> Vec<u8> {
+    let held: Vec<_> = entries.iter().map(|&text| (text, [1])).collect();
+    held_register(m, n, top, capacity, &held)
+}
+
+/// The same with these holdings of each entry, client 1's first; clients that are not listed hold
+/// none.
+pub fn held_register<const N: usize>(
+    m: u64,
+    n: u64,
+    top: u64,
+    capacity: u64,
+    entries: &[(&str, [u64; N])],
+) -> Vec<u8> {
+    let entry = |&(text, listed): &(&str, [u64; N])| Entry {
+        grid: cells(text),
+        holdings: holdings(&listed),
+    };
     let contents = Contents {
         rows: m,
         columns: n,
         top,
         capacity,
-        entries: entries.iter().map(|text| cells(text)).collect(),
+        entries: entries.iter().map(entry).collect(),
     };
     contents.bytes()
+}
+
+/// Holdings of the first clients, client 1's first; those that are not listed hold none.
+fn holdings(listed: &[u64]) -> Holdings {
+    let mut holdings = Holdings::default();
+    holdings.0[..listed.len()].copy_from_slice(listed);
+    holdings
 }

@@ -1,6 +1,7 @@
 //! The register's bytes: how they are laid out and what they hold.
 
 use crate::grid::compare;
+use crate::holdings::{Holdings, CLIENTS};
 use crate::questions;
 
 /// The length of line 1: five numbers, each 6 wide, and a line feed.
@@ -32,22 +33,41 @@ pub fn read_numbers(bytes: &[u8], width: usize) -> Option<Vec<u64>> {
     bytes.chunks(width).map(read_number).collect()
 }
 
-/// The length of a register. The numbers are within the limits.
-pub fn register_length(m: u64, n: u64, capacity: u64) -> u64 {
-    FIRST_LINE as u64 + capacity * (3 * m * n + 1)
+/// The length of each line after line 1: the cells and the eight holdings, each 3 wide, and a line
+/// feed.
+pub fn line_length(m: u64, n: u64) -> u64 {
+    3 * (m * n + CLIENTS) + 1
 }
 
-/// What a register holds: its numbers as opened and its entries, ascending.
+/// The length of a register. The numbers are within the limits.
+pub fn register_length(m: u64, n: u64, capacity: u64) -> u64 {
+    FIRST_LINE as u64 + capacity * line_length(m, n)
+}
+
+/// An entry: a grid and what each client holds of it.
+#[derive(Clone, Debug, PartialEq, Eq)]
+pub struct Entry {
+    pub grid: Vec<u8>,
+    pub holdings: Holdings,
+}
+
+/// What a register holds: its numbers as opened and its entries, ascending by their grids.
 #[derive(Clone, Debug, PartialEq, Eq)]
 pub struct Contents {
     pub rows: u64,
     pub columns: u64,
     pub top: u64,
     pub capacity: u64,
-    pub entries: Vec<Vec<u8>>,
+    pub entries: Vec<Entry>,
 }
 
 impl Contents {
+    /// The grids of the entries.
+    pub fn grids(&self) -> Vec<Vec<u8>> {
+        let grids = self.entries.iter().map(|entry| entry.grid.clone());
+        grids.collect()
+    }
+
     /// The number of entries.
     pub fn count(&self) -> u64 {
         self.entries.len() as u64
@@ -71,7 +91,7 @@ impl Contents {
             bytes.extend(entry_line(entry));
         }
         for _ in self.count()..self.capacity {
-            bytes.extend(blank_line(self.rows * self.columns));
+            bytes.extend(blank_line(self.rows, self.columns));
         }
         bytes
     }
@@ -89,8 +109,8 @@ impl Contents {
         if register.len() as u64 != register_length(rows, columns, capacity) || count > capacity {
             return None;
         }
-        let width = 3 * rows * columns + 1;
-        let lines: Vec<&[u8]> = register[FIRST_LINE..].chunks(width as usize).collect();
+        let width = line_length(rows, columns) as usize;
+        let lines: Vec<&[u8]> = register[FIRST_LINE..].chunks(width).collect();
         let (held, blank) = lines.split_at(count as usize);
         let entries = held
             .iter()
@@ -109,16 +129,18 @@ impl Contents {
     }
 }
 
-/// An entry's line: its cells, each 3 wide, and a line feed.
-fn entry_line(entry: &[u8]) -> Vec<u8> {
-    let mut line: Vec<u8> = entry.iter().flat_map(|&v| number(v.into(), 3)).collect();
+/// An entry's line: its cells and then its holdings, each 3 wide, and a line feed.
+fn entry_line(entry: &Entry) -> Vec<u8> {
+    let cells = entry.grid.iter().map(|&value| value.into());
+    let numbers = cells.chain(entry.holdings.0);
+    let mut line: Vec<u8> = numbers.flat_map(|value| number(value, 3)).collect();
     line.push(b'\n');
     line
 }
 
 /// A line without an entry: spaces and a line feed.
-fn blank_line(cells: u64) -> Vec<u8> {
-    let mut line = vec![b' '; 3 * cells as usize];
+fn blank_line(m: u64, n: u64) -> Vec<u8> {
+    let mut line = vec![b' '; line_length(m, n) as usize - 1];
     line.push(b'\n');
     line
 }
@@ -134,13 +156,16 @@ fn within_limits(rows: u64, columns: u64, top: u64, capacity: u64) -> Option<()>
     questions::capacity(capacity).ok()
 }
 
-/// The entry on the line, its cells at most top.
-fn read_entry(line: &[u8], top: u64) -> Option<Vec<u8>> {
-    let cells = read_numbers(line.strip_suffix(b"\n")?, 3)?;
-    if cells.iter().any(|&value| value > top) {
+/// The entry on the line, its cells at most top and its holdings not all 0.
+fn read_entry(line: &[u8], top: u64) -> Option<Entry> {
+    let numbers = read_numbers(line.strip_suffix(b"\n")?, 3)?;
+    let (cells, holdings) = numbers.split_at(numbers.len() - CLIENTS as usize);
+    let holdings = Holdings(holdings.try_into().ok()?);
+    if cells.iter().any(|&value| value > top) || holdings.are_all_0() {
         return None;
     }
-    Some(cells.iter().map(|&value| value as u8).collect())
+    let grid = cells.iter().map(|&value| value as u8).collect();
+    Some(Entry { grid, holdings })
 }
 
 fn is_blank(line: &[u8]) -> bool {
@@ -150,8 +175,9 @@ fn is_blank(line: &[u8]) -> bool {
     }
 }
 
-fn strictly_ascending(entries: &[Vec<u8>]) -> bool {
+/// By their grids alone: no two entries have one grid.
+fn strictly_ascending(entries: &[Entry]) -> bool {
     entries
         .windows(2)
-        .all(|two| compare(&two[0], &two[1]).is_lt())
+        .all(|two| compare(&two[0].grid, &two[1].grid).is_lt())
 }

@@ -1,9 +1,9 @@
-//! A plain reference for the plan register: document 01 and requests 1 to 3 of document 02.
+//! A plain reference for the plan register: document 01 and requests 1 to 4 of document 02.
 //!
 //! It is written to be seen right: every row permutation is listed, the columns
 //! are sorted, the least arrangement is taken; bounds are pruned by listing every
 //! grid in them, and by the extremal grid where these are too many; the machine
-//! is a set of least grids.
+//! is a set of least grids, each with its eight holdings.
 //!
 //! A module uses only modules above it in this table:
 //!
@@ -11,6 +11,7 @@
 //! |----------------|------------------------------------------------------|
 //! | `permutation`  | orders: the starting one, following, reverse         |
 //! | `grid`         | grids, arrangements, classes                         |
+//! | `holdings`     | what the eight clients hold of a class               |
 //! | `questions`    | the questions, one function each                     |
 //! | `grid_calls`   | represent and same, also those of a terminal         |
 //! | `bounds`       | forms and allperm; prune                             |
@@ -35,6 +36,7 @@ pub mod examples;
 pub mod forms;
 pub mod grid;
 pub mod grid_calls;
+pub mod holdings;
 pub mod layout;
 pub mod lists;
 pub mod machine;

@@ -6,6 +6,7 @@ use crate::calls::Call;
 use crate::designs::{equal_columns, equal_rows, two_rows, zero};
 use crate::forms::{around, close, drawn, ordered, Form};
 use crate::grid::arrangement;
+use crate::holdings::{Holdings, CLIENTS, MOST};
 use crate::random::Random;
 
 /// The grids that the calls of a list send, each in any arrangement.
@@ -33,11 +34,11 @@ impl Pool {
         Pool { m, n, top, grids }
     }
 
-    /// A call that passes questions 6 to 8, most of the time.
+    /// A call that passes questions 6 to 8 and 15, most of the time.
     pub fn call(&self, random: &mut Random) -> Call {
         match random.below(8) {
-            0..=2 => Call::Enter(self.sent(random)),
-            3..=5 => Call::Strike(self.sent(random)),
+            0..=2 => Call::Enter(client(random), self.sent(random)),
+            3..=5 => Call::Strike(client(random), self.sent(random)),
             _ => Call::Count(self.sent_form(random)),
         }
     }
@@ -94,6 +95,43 @@ impl Pool {
         spoil(random, self.top, &mut high);
         (low, high)
     }
+}
+
+/// A client's number; half of the time 1 or 2, so that a client's holding is often above 1, and now
+/// and then one that question 15 refuses.
+pub fn client(random: &mut Random) -> u64 {
+    match random.below(20) {
+        0 => no_client(random),
+        1..=10 => random.between(1, 2),
+        _ => random.between(1, CLIENTS),
+    }
+}
+
+/// A number that question 15 refuses: next to the limits, one whose low bits alone would pass, or
+/// the largest.
+fn no_client(random: &mut Random) -> u64 {
+    let low = random.between(1, CLIENTS);
+    let numbers = [0, CLIENTS + 1, (1 << 8) + low, (1 << 32) + low, u64::MAX];
+    numbers[random.below(numbers.len() as u64) as usize]
+}
+
+/// Holdings that are not all 0: one held by client 1 or 2 alone, or holdings of every width, a few
+/// of them 999.
+pub fn drawn_holdings(random: &mut Random) -> Holdings {
+    if random.once_in(2) {
+        return Holdings::one_of(random.between(1, 2));
+    }
+    let mut holdings = Holdings::default();
+    while holdings.are_all_0() {
+        holdings = Holdings(std::array::from_fn(|_| match random.below(8) {
+            0..=3 => 0,
+            4 => random.between(1, 9),
+            5 => random.between(10, 99),
+            6 => random.between(100, MOST),
+            _ => MOST,
+        }));
+    }
+    holdings
 }
 
 fn symmetric(random: &mut Random, m: usize, n: usize, top: u8) -> Vec<u8> {

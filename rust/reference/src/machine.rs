@@ -2,19 +2,21 @@
 
 use crate::bounds::lies_in;
 use crate::grid::{compare, least};
-use crate::layout::Contents;
+use crate::holdings::{Holdings, MOST};
+use crate::layout::{Contents, Entry};
 use crate::questions;
 use crate::register::{answered, Answer};
-use std::collections::BTreeSet;
+use std::collections::BTreeMap;
 
-/// Rows, columns, top and capacity as opened, and a set of classes, each as its least grid.
+/// Rows, columns, top and capacity as opened, and a set of classes, each as its least grid, with
+/// the eight holdings of each.
 #[derive(Clone, Debug, PartialEq, Eq)]
 pub struct Machine {
     pub rows: u64,
     pub columns: u64,
     pub top: u64,
     pub capacity: u64,
-    pub classes: BTreeSet<Vec<u8>>,
+    pub classes: BTreeMap<Vec<u8>, Holdings>,
 }
 
 impl Machine {
@@ -25,24 +27,26 @@ impl Machine {
             columns,
             top,
             capacity,
-            classes: BTreeSet::new(),
+            classes: BTreeMap::new(),
         }
     }
 
-    /// Enter: class in the set, 101; else capacity classes in the set, 9; else it is added, 0.
-    pub fn enter(&mut self, grid: &[u8]) -> Answer {
-        answered(self.try_enter(grid))
+    /// Enter: this client holds one more of the class. Class in the set, 101; else capacity classes
+    /// in the set, 9; else it is added, 0. With 999 held by this client, 16.
+    pub fn enter(&mut self, client: u64, grid: &[u8]) -> Answer {
+        answered(self.try_enter(client, grid))
     }
 
     /// A terminal's enter: enter with 14 asked first.
-    pub fn terminal_enter(&mut self, grid: &[u8]) -> Answer {
+    pub fn terminal_enter(&mut self, client: u64, grid: &[u8]) -> Answer {
         let asked = questions::terminal_rows(self.rows);
-        answered(asked.and_then(|()| self.try_enter(grid)))
+        answered(asked.and_then(|()| self.try_enter(client, grid)))
     }
 
-    /// Strike: class in the set, it is removed, 0; else 10.
-    pub fn strike(&mut self, grid: &[u8]) -> Answer {
-        answered(self.try_strike(grid))
+    /// Strike: this client holds one less of the class, 0; none held by this client, 10. The class
+    /// is removed when nobody holds any.
+    pub fn strike(&mut self, client: u64, grid: &[u8]) -> Answer {
+        answered(self.try_strike(client, grid))
     }
 
     /// Count: 0 and the number of classes in the set whose least grid lies in the form.
@@ -50,10 +54,15 @@ impl Machine {
         answered(self.try_count(low, high))
     }
 
-    /// The bytes: the four numbers, the size of the set, the least grids ascending.
+    /// The bytes: the four numbers, the size of the set, the least grids ascending, each with its
+    /// holdings.
     pub fn bytes(&self) -> Vec<u8> {
-        let mut entries: Vec<Vec<u8>> = self.classes.iter().cloned().collect();
-        entries.sort_by(|a, b| compare(a, b));
+        let entry = |(grid, &holdings): (&Vec<u8>, &Holdings)| Entry {
+            grid: grid.clone(),
+            holdings,
+        };
+        let mut entries: Vec<Entry> = self.classes.iter().map(entry).collect();
+        entries.sort_by(|a, b| compare(&a.grid, &b.grid));
         let contents = Contents {
             rows: self.rows,
             columns: self.columns,
@@ -64,26 +73,41 @@ impl Machine {
         contents.bytes()
     }
 
-    fn try_enter(&mut self, grid: &[u8]) -> Result<Answer, u32> {
-        let class = self.class(grid)?;
-        let place = self.place(&class);
-        if self.classes.contains(&class) {
-            return Ok(Answer { number: 101, place });
-        }
-        if self.classes.len() as u64 == self.capacity {
-            return Err(9);
-        }
-        self.classes.insert(class);
-        Ok(Answer { number: 0, place })
+    /// What each client holds of the class; nothing where it is not in the set.
+    fn holdings(&self, class: &[u8]) -> Holdings {
+        self.classes.get(class).copied().unwrap_or_default()
     }
 
-    fn try_strike(&mut self, grid: &[u8]) -> Result<Answer, u32> {
-        let class = self.class(grid)?;
-        if !self.classes.contains(&class) {
+    fn try_enter(&mut self, client: u64, grid: &[u8]) -> Result<Answer, u32> {
+        let class = self.class(client, grid)?;
+        let place = self.place(&class);
+        let held = self.holdings(&class);
+        let number = match self.classes.contains_key(&class) {
+            true => 101,
+            false => 0,
+        };
+        if number == 0 && self.classes.len() as u64 == self.capacity {
+            return Err(9);
+        }
+        if held.of(client) == MOST {
+            return Err(16);
+        }
+        self.classes.insert(class, held.with_one_more(client));
+        Ok(Answer { number, place })
+    }
+
+    fn try_strike(&mut self, client: u64, grid: &[u8]) -> Result<Answer, u32> {
+        let class = self.class(client, grid)?;
+        let place = self.place(&class);
+        let held = self.holdings(&class);
+        if held.of(client) == 0 {
             return Err(10);
         }
-        let place = self.place(&class);
-        self.classes.remove(&class);
+        let left = held.with_one_less(client);
+        match left.are_all_0() {
+            true => self.classes.remove(&class),
+            false => self.classes.insert(class, left),
+        };
         Ok(Answer { number: 0, place })
     }
 
@@ -94,20 +118,21 @@ impl Machine {
         let in_form = |class: &&Vec<u8>| lies_in(low, high, class);
         Ok(Answer {
             number: 0,
-            place: self.classes.iter().filter(in_form).count() as u64,
+            place: self.classes.keys().filter(in_form).count() as u64,
         })
     }
 
-    /// The class of the grid as its least grid, once questions 6 and 7 got a yes.
-    fn class(&self, grid: &[u8]) -> Result<Vec<u8>, u32> {
+    /// The class of the grid as its least grid, once questions 6, 7 and 15 got a yes.
+    fn class(&self, client: u64, grid: &[u8]) -> Result<Vec<u8>, u32> {
         questions::lengths(&[grid], self.rows * self.columns)?;
         questions::cells(&[grid], self.top)?;
+        questions::client(client)?;
         Ok(least(self.rows as usize, self.columns as usize, grid))
     }
 
     /// 1 plus the number of classes in the set with a smaller least grid.
     fn place(&self, class: &[u8]) -> u64 {
         let smaller = |other: &&Vec<u8>| compare(other, class).is_lt();
-        1 + self.classes.iter().filter(smaller).count() as u64
+        1 + self.classes.keys().filter(smaller).count() as u64
     }
 }

@@ -10,8 +10,8 @@ pub const LIMIT: u64 = 65_536;
 
 /// A command line: 1 enter, 2 strike, 3 prune and then count.
 enum Command {
-    Enter(Vec<u8>),
-    Strike(Vec<u8>),
+    Enter(u64, Vec<u8>),
+    Strike(u64, Vec<u8>),
     PruneAndCount(Vec<u8>, Vec<u8>),
 }
 
@@ -73,8 +73,8 @@ fn run(opened: Opened, lines: &[&[u8]]) -> Vec<u8> {
 /// Carries out the command and prints it, its number, and the place or count.
 fn carry_out(shape: [u64; 3], register: &mut [u8], command: &Command) -> Vec<u8> {
     let (name, answer): (u64, Answer) = match command {
-        Command::Enter(grid) => (1, enter(register, grid)),
-        Command::Strike(grid) => (2, strike(register, grid)),
+        Command::Enter(client, grid) => (1, enter(register, *client, grid)),
+        Command::Strike(client, grid) => (2, strike(register, *client, grid)),
         Command::PruneAndCount(low, high) => (3, prune_and_count(shape, register, low, high)),
     };
     printed(name, answer.number, answer.place)
@@ -108,26 +108,42 @@ fn read_line_1(line: &[u8]) -> Option<[u64; 4]> {
     read_numbers(line.strip_suffix(b"\n")?, 6)?.try_into().ok()
 }
 
-/// A command 6 wide, then 3-wide cells, or for 3 low and high of each cell in turn.
-/// `None` where the line is not laid so.
+/// A command 6 wide; then for 1 and 2 a client 6 wide and 3-wide cells, for 3 low and high of each
+/// cell in turn. `None` where the line is not laid so.
 fn read_command(line: &[u8], cells: usize) -> Option<Command> {
     let fields = line.strip_suffix(b"\n")?;
-    let command = read_number(fields.get(..6)?)?;
-    let bytes = read_cells(&fields[6..])?;
+    let (command, rest) = read_6_wide(fields)?;
     match command {
-        1 if bytes.len() == cells => Some(Command::Enter(bytes)),
-        2 if bytes.len() == cells => Some(Command::Strike(bytes)),
-        3 if bytes.len() == 2 * cells => {
-            let low = bytes.iter().step_by(2).copied().collect();
-            let high = bytes.iter().skip(1).step_by(2).copied().collect();
+        1 | 2 => {
+            let (client, rest) = read_6_wide(rest)?;
+            let grid = read_cells(rest, cells)?;
+            Some(match command {
+                1 => Command::Enter(client, grid),
+                _ => Command::Strike(client, grid),
+            })
+        }
+        3 => {
+            let bounds = read_cells(rest, 2 * cells)?;
+            let low = bounds.iter().step_by(2).copied().collect();
+            let high = bounds.iter().skip(1).step_by(2).copied().collect();
             Some(Command::PruneAndCount(low, high))
         }
         _ => None,
     }
 }
 
-/// The 3-wide cells, none above 255.
-fn read_cells(bytes: &[u8]) -> Option<Vec<u8>> {
+/// The number in the first 6 bytes, and the bytes after these.
+fn read_6_wide(bytes: &[u8]) -> Option<(u64, &[u8])> {
+    let (field, rest) = bytes.split_at_checked(6)?;
+    Some((read_number(field)?, rest))
+}
+
+/// So many 3-wide cells, none above 255.
+fn read_cells(bytes: &[u8], count: usize) -> Option<Vec<u8>> {
     let cells = read_numbers(bytes, 3)?;
-    cells.into_iter().map(|v| u8::try_from(v).ok()).collect()
+    let cells: Vec<u8> = cells
+        .into_iter()
+        .map(|value| u8::try_from(value).ok())
+        .collect::<Option<_>>()?;
+    (cells.len() == count).then_some(cells)
 }

@@ -1,7 +1,8 @@
 //! The questions of document 01, one function each but for question 5, which is `layout`'s, and
-//! question 14 of document 02. A yes is `Ok`; a no is `Err` with the question's number.
+//! questions 14 to 16 of document 02. A yes is `Ok`; a no is `Err` with the question's number.
 
 use crate::grid::rank;
+use crate::holdings::{CLIENTS, MOST};
 
 /// The answer to a question: a yes, or the number of a no.
 pub type Asked = Result<(), u32>;
@@ -50,17 +51,27 @@ pub fn bounds(low: &[u8], high: &[u8]) -> Asked {
     ask(low.iter().zip(high).all(|(&l, &h)| rank(l) <= rank(h)), 8)
 }
 
-/// 9. Is the class held, or the count below capacity?
+/// 9. Is the class held, by any client, or the count below capacity?
 pub fn held_or_room(held: bool, count: u64, capacity: u64) -> Asked {
     ask(held || count < capacity, 9)
 }
 
-/// 10. Is the class held?
-pub fn held(held: bool) -> Asked {
-    ask(held, 10)
+/// 10. Is the class held by this client, whose holding this is?
+pub fn held_by_client(holding: u64) -> Asked {
+    ask(holding > 0, 10)
 }
 
 /// 14. Are a terminal's rows not 6 to 8? Asked directly after 1, or 5 where a register states them.
 pub fn terminal_rows(m: u64) -> Asked {
     ask(!(6..=8).contains(&m), 14)
+}
+
+/// 15. Is the client 1 to 8? Asked after 7.
+pub fn client(client: u64) -> Asked {
+    ask((1..=CLIENTS).contains(&client), 15)
+}
+
+/// 16. Is this client's holding below 999? Asked after 9.
+pub fn one_more(holding: u64) -> Asked {
+    ask(holding < MOST, 16)
 }

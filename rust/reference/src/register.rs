@@ -2,7 +2,8 @@
 
 use crate::bounds::lies_in;
 use crate::grid::{compare, least};
-use crate::layout::{register_length, Contents};
+use crate::holdings::Holdings;
+use crate::layout::{register_length, Contents, Entry};
 use crate::questions;
 
 /// What a call returns: the number and the place, for count the count.
@@ -22,19 +23,21 @@ pub fn open(m: u64, n: u64, top: u64, capacity: u64, register: &mut [u8]) -> Ans
     answered(try_open(m, n, top, capacity, register))
 }
 
-/// Enter: 0 if the grid's class is new and now held, 101 if it was held. It passes 5, 6, 7, 9.
-pub fn enter(register: &mut [u8], grid: &[u8]) -> Answer {
-    answered(try_enter(register, grid))
+/// Enter: this client holds one more of the grid's class. 0 if the class is new, 101 if anyone held
+/// it. It passes 5, 6, 7, 15, 9, 16.
+pub fn enter(register: &mut [u8], client: u64, grid: &[u8]) -> Answer {
+    answered(try_enter(register, client, grid))
 }
 
-/// A terminal's enter: as enter. It passes 5, 14, 6, 7, 9.
-pub fn terminal_enter(register: &mut [u8], grid: &[u8]) -> Answer {
-    answered(try_terminal_enter(register, grid))
+/// A terminal's enter: as enter. It passes 5, 14, 6, 7, 15, 9, 16.
+pub fn terminal_enter(register: &mut [u8], client: u64, grid: &[u8]) -> Answer {
+    answered(try_terminal_enter(register, client, grid))
 }
 
-/// Strike: the entry of the grid's class goes. It passes 5, 6, 7, 10.
-pub fn strike(register: &mut [u8], grid: &[u8]) -> Answer {
-    answered(try_strike(register, grid))
+/// Strike: this client holds one less of the grid's class, whose entry goes when nobody holds any.
+/// It passes 5, 6, 7, 15, 10.
+pub fn strike(register: &mut [u8], client: u64, grid: &[u8]) -> Answer {
+    answered(try_strike(register, client, grid))
 }
 
 /// Count: 0 and the number of entries in the form. It passes 5, 6, 7, 8.
@@ -62,46 +65,62 @@ fn try_open(m: u64, n: u64, top: u64, capacity: u64, register: &mut [u8]) -> Res
     })
 }
 
-fn try_enter(register: &mut [u8], grid: &[u8]) -> Result<Answer, u32> {
+fn try_enter(register: &mut [u8], client: u64, grid: &[u8]) -> Result<Answer, u32> {
     let contents = Contents::asked(register)?;
-    enter_into(contents, register, grid)
+    enter_into(contents, register, client, grid)
 }
 
-fn try_terminal_enter(register: &mut [u8], grid: &[u8]) -> Result<Answer, u32> {
+fn try_terminal_enter(register: &mut [u8], client: u64, grid: &[u8]) -> Result<Answer, u32> {
     let contents = Contents::asked(register)?;
     questions::terminal_rows(contents.rows)?;
-    enter_into(contents, register, grid)
+    enter_into(contents, register, client, grid)
 }
 
-/// Enters the grid's class into the register with these contents, once 6, 7 and 9 got a yes.
-fn enter_into(mut contents: Contents, register: &mut [u8], grid: &[u8]) -> Result<Answer, u32> {
-    questions::lengths(&[grid], contents.rows * contents.columns)?;
-    questions::cells(&[grid], contents.top)?;
-    let class = least_grid(&contents, grid);
-    let held = contents.entries.contains(&class);
-    questions::held_or_room(held, contents.count(), contents.capacity)?;
+/// Enters the grid's class into the register with these contents, once the questions from 6 on got
+/// a yes.
+fn enter_into(
+    mut contents: Contents,
+    register: &mut [u8],
+    client: u64,
+    grid: &[u8],
+) -> Result<Answer, u32> {
+    let class = asked_class(&contents, client, grid)?;
+    let line = line_of(&contents, &class);
+    questions::held_or_room(line.is_some(), contents.count(), contents.capacity)?;
     let before = entries_before(&contents, &class);
-    let place = 1 + before as u64;
-    if held {
-        return Ok(Answer { number: 101, place });
-    }
-    contents.entries.insert(before, class);
+    let number = match line {
+        Some(line) => {
+            let holdings = contents.entries[line].holdings;
+            questions::one_more(holdings.of(client))?;
+            contents.entries[line].holdings = holdings.with_one_more(client);
+            101
+        }
+        None => {
+            let entry = Entry {
+                grid: class,
+                holdings: Holdings::one_of(client),
+            };
+            contents.entries.insert(before, entry);
+            0
+        }
+    };
     register.copy_from_slice(&contents.bytes());
-    Ok(Answer { number: 0, place })
+    let place = 1 + before as u64;
+    Ok(Answer { number, place })
 }
 
-fn try_strike(register: &mut [u8], grid: &[u8]) -> Result<Answer, u32> {
+fn try_strike(register: &mut [u8], client: u64, grid: &[u8]) -> Result<Answer, u32> {
     let mut contents = Contents::asked(register)?;
-    questions::lengths(&[grid], contents.rows * contents.columns)?;
-    questions::cells(&[grid], contents.top)?;
-    let class = least_grid(&contents, grid);
-    questions::held(contents.entries.contains(&class))?;
-    let before = entries_before(&contents, &class);
-    contents.entries.remove(before);
+    let class = asked_class(&contents, client, grid)?;
+    let line = line_of(&contents, &class).ok_or(10u32)?;
+    let holdings = contents.entries[line].holdings;
+    questions::held_by_client(holdings.of(client))?;
+    contents.entries[line].holdings = holdings.with_one_less(client);
+    contents.entries.retain(|entry| !entry.holdings.are_all_0());
     register.copy_from_slice(&contents.bytes());
     Ok(Answer {
         number: 0,
-        place: 1 + before as u64,
+        place: 1 + line as u64,
     })
 }
 
@@ -110,19 +129,30 @@ fn try_count(register: &[u8], low: &[u8], high: &[u8]) -> Result<Answer, u32> {
     questions::lengths(&[low, high], contents.rows * contents.columns)?;
     questions::cells(&[low, high], contents.top)?;
     questions::bounds(low, high)?;
-    let in_form = |entry: &&Vec<u8>| lies_in(low, high, entry);
+    let in_form = |entry: &&Entry| lies_in(low, high, &entry.grid);
     Ok(Answer {
         number: 0,
         place: contents.entries.iter().filter(in_form).count() as u64,
     })
 }
 
-fn least_grid(contents: &Contents, grid: &[u8]) -> Vec<u8> {
-    least(contents.rows as usize, contents.columns as usize, grid)
+/// The least grid of the grid's class, once 6, 7 and 15 got a yes.
+fn asked_class(contents: &Contents, client: u64, grid: &[u8]) -> Result<Vec<u8>, u32> {
+    questions::lengths(&[grid], contents.rows * contents.columns)?;
+    questions::cells(&[grid], contents.top)?;
+    questions::client(client)?;
+    let (m, n) = (contents.rows as usize, contents.columns as usize);
+    Ok(least(m, n, grid))
+}
+
+/// Where the class's entry stands, the first at 0, if anyone holds the class.
+fn line_of(contents: &Contents, class: &[u8]) -> Option<usize> {
+    let mut entries = contents.entries.iter();
+    entries.position(|entry| entry.grid == class)
 }
 
 /// The number of entries that come before the grid.
 fn entries_before(contents: &Contents, grid: &[u8]) -> usize {
-    let before = |entry: &&Vec<u8>| compare(entry, grid).is_lt();
+    let before = |entry: &&Entry| compare(&entry.grid, grid).is_lt();
     contents.entries.iter().filter(before).count()
 }

@@ -201,12 +201,19 @@ fn call(text: &str) -> Call {
     let mut grids = grids(text).into_iter();
     let mut next = || grids.next().expect("a grid");
     match text.split_whitespace().next() {
-        Some("enter") => Call::Enter(next()),
-        Some("strike") => Call::Strike(next()),
+        Some("enter") => Call::Enter(client(text), next()),
+        Some("strike") => Call::Strike(client(text), next()),
         Some("countIn") => Call::Count((next(), next())),
-        Some("terminalEnter") => Call::TerminalEnter(next()),
+        Some("terminalEnter") => Call::TerminalEnter(client(text), next()),
         _ => panic!("a call: {text}"),
     }
+}
+
+/// The client of a call: the number after its name.
+fn client(text: &str) -> u64 {
+    let (before, _) = text.split_once('(').expect("a grid");
+    let client = before.split_whitespace().nth(1).expect("a client");
+    client.parse().expect("a client's number")
 }
 
 /// The grids or bounds in a text, each in parentheses.
@@ -226,18 +233,18 @@ mod tests {
 
     #[test]
     fn calls_are_read_by_their_names() {
-        let text = "enter (1 ∷ 0 ∷ [])
-          ∷ terminalEnter (0 ∷ 15 ∷ [])
-          ∷ terminalEnter ([])
-          ∷ strike (2 ∷ [])
+        let text = "enter 1 (1 ∷ 0 ∷ [])
+          ∷ terminalEnter 8 (0 ∷ 15 ∷ [])
+          ∷ terminalEnter 257 ([])
+          ∷ strike 0 (2 ∷ [])
           ∷ countIn (0 ∷ []) (1 ∷ [])
           ∷ []";
         let calls: Vec<Call> = call_texts(text).into_iter().map(call).collect();
         let expected = [
-            Call::Enter(vec![1, 0]),
-            Call::TerminalEnter(vec![0, 15]),
-            Call::TerminalEnter(vec![]),
-            Call::Strike(vec![2]),
+            Call::Enter(1, vec![1, 0]),
+            Call::TerminalEnter(8, vec![0, 15]),
+            Call::TerminalEnter(257, vec![]),
+            Call::Strike(0, vec![2]),
             Call::Count((vec![0], vec![1])),
         ];
         assert_eq!(calls, expected);

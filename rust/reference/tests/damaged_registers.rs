@@ -2,7 +2,7 @@
 
 mod common;
 
-use common::register;
+use common::{held_register, register};
 use reference::grid::compare;
 use reference::layout::{number, read_number, Contents};
 use reference::random::Random;
@@ -41,11 +41,15 @@ fn laid_out_again(text: &str) -> Option<()> {
     let mut again = laid(&head, 6) + "\n";
     let mut last: Option<Vec<u8>> = None;
     for line in &lines[1..=count as usize] {
-        let entry = loose_numbers(line, 3)?;
-        if entry.len() as u64 != m * n || entry.iter().any(|&v| v > top) {
+        let numbers = loose_numbers(line, 3)?;
+        if numbers.len() as u64 != m * n + 8 {
             return None;
         }
-        again += &(laid(&entry, 3) + "\n");
+        let (entry, holdings) = numbers.split_at((m * n) as usize);
+        if entry.iter().any(|&v| v > top) || holdings.iter().sum::<u64>() == 0 {
+            return None;
+        }
+        again += &(laid(&numbers, 3) + "\n");
         let entry: Vec<u8> = entry.iter().map(|&v| v as u8).collect();
         if last.is_some_and(|last| !compare(&last, &entry).is_lt()) {
             return None;
@@ -53,7 +57,7 @@ fn laid_out_again(text: &str) -> Option<()> {
         last = Some(entry);
     }
     for _ in count..capacity {
-        again += &(" ".repeat(3 * (m * n) as usize) + "\n");
+        again += &(" ".repeat(3 * (m * n) as usize + 24) + "\n");
     }
     (again == text).then_some(())
 }
@@ -61,8 +65,20 @@ fn laid_out_again(text: &str) -> Option<()> {
 /// The registers that are damaged here: (rows, columns, top, capacity, entries).
 fn registers() -> Vec<Vec<u8>> {
     vec![
-        register(2, 2, 12, 3, &["00/01", "01/10"]),
-        register(1, 1, 9, 2, &["1", "8"]),
+        held_register(
+            2,
+            2,
+            12,
+            3,
+            &[("00/01", [0, 12, 0]), ("01/10", [999, 1, 7])],
+        ),
+        held_register(
+            1,
+            1,
+            9,
+            2,
+            &[("1", [0, 0, 0, 0, 0, 0, 0, 1]), ("8", [100; 8])],
+        ),
         register(1, 3, 15, 1, &[]),
         register(2, 1, 3, 2, &["0/1", "2/3"]),
         register(1, 2, 0, 1, &["00"]),
@@ -82,9 +98,9 @@ fn check_calls(bytes: &[u8], valid: bool) {
     let mut entered_at_terminal = bytes.to_vec();
     let mut struck = bytes.to_vec();
     let answers = [
-        enter(&mut entered, &grid),
-        terminal_enter(&mut entered_at_terminal, &grid),
-        strike(&mut struck, &grid),
+        enter(&mut entered, 1, &grid),
+        terminal_enter(&mut entered_at_terminal, 1, &grid),
+        strike(&mut struck, 1, &grid),
         count(bytes, &grid, &grid),
     ];
     for answer in answers {
@@ -127,8 +143,8 @@ fn every_change_of_one_byte() {
             }
         }
     }
-    // Another top, or a cell that keeps the order.
-    assert!(still_valid > 10);
+    // Another top, a cell that keeps the order, or another holding.
+    assert!(still_valid > 100);
 }
 
 #[test]
@@ -170,6 +186,92 @@ fn entries_twice_or_descending() {
     assert!(!check(&register(1, 2, 3, 3, &["00", "02", "01"])));
     assert!(check(&register(1, 2, 3, 3, &["00", "01", "02"])));
     assert!(check(&register(1, 2, 3, 3, &["10", "20", "30"])));
+}
+
+/// The register of 1 by 1 with the entry 5 whose line ends in these 24 bytes of holdings.
+fn with_holdings(holdings: &str) -> Vec<u8> {
+    assert_eq!(holdings.len(), 24);
+    format!("     1     1     9     1     1\n  5{holdings}\n").into_bytes()
+}
+
+#[test]
+fn holdings_wrongly_laid() {
+    for holdings in [
+        "  1  0  0  0  0  0  0  0",
+        "  0  0  0  0  0  0  0  1",
+        "999999999999999999999999",
+        " 10  0  0100  0  0  0  0",
+    ] {
+        assert!(check(&with_holdings(holdings)), "{holdings:?}");
+    }
+    for holdings in [
+        // A leading zero, a blank field, a letter, a sign, another space, digits to the left.
+        " 01  0  0  0  0  0  0  0",
+        "  1 00  0  0  0  0  0  0",
+        "  1  0  0  0  0  0  0000",
+        "  1     0  0  0  0  0  0",
+        "  1  0  0  0  0  0  0   ",
+        "                        ",
+        "  1  0  0  x  0  0  0  0",
+        " +1  0  0  0  0  0  0  0",
+        " -1  0  0  0  0  0  0  0",
+        "  1\t 0  0  0  0  0  0  0",
+        "1    0  0  0  0  0  0  0",
+        " 1   0  0  0  0  0  0  0",
+        // 1000 has no room: its digits reach into the next field.
+        "1000 0  0  0  0  0  0  0",
+        "  1  0  0  0  0  1000  0",
+    ] {
+        assert!(!check(&with_holdings(holdings)), "{holdings:?}");
+    }
+}
+
+#[test]
+fn an_entry_that_nobody_holds() {
+    assert!(!check(&with_holdings("  0  0  0  0  0  0  0  0")));
+    for (first, second, valid) in [(1, 1, true), (0, 1, false), (1, 0, false), (0, 0, false)] {
+        let entries = [("01", [first]), ("02", [second])];
+        assert_eq!(check(&held_register(1, 2, 3, 3, &entries)), valid);
+    }
+    // Also where the entry is no representative.
+    assert!(check(&held_register(1, 2, 3, 3, &[("30", [1])])));
+    assert!(!check(&held_register(1, 2, 3, 3, &[("30", [0])])));
+}
+
+#[test]
+fn equal_cells_with_other_holdings() {
+    for second in [[0, 1], [1, 0], [2, 0]] {
+        let entries = [("01", [1, 0]), ("01", second)];
+        assert!(!check(&held_register(1, 2, 3, 3, &entries)), "{second:?}");
+    }
+    // Holdings have no part in the order.
+    assert!(check(&held_register(
+        1,
+        2,
+        3,
+        3,
+        &[("01", [9]), ("02", [1])]
+    )));
+    assert!(check(&held_register(
+        1,
+        2,
+        3,
+        3,
+        &[("01", [1]), ("02", [9])]
+    )));
+    assert!(!check(&held_register(
+        1,
+        2,
+        3,
+        3,
+        &[("02", [1]), ("01", [9])]
+    )));
+}
+
+#[test]
+fn lines_without_holdings() {
+    assert!(!check(b"     1     2     3     2     1\n  0  3\n      \n"));
+    assert!(!check(b"     1     2     3     1     0\n      \n"));
 }
 
 #[test]

@@ -21,7 +21,11 @@ const OUTPUT: &str = include_str!("../../../crates/planbook/stdout");
 const LINE_1: &str = "     2     2     1     2\n";
 
 /// That register, empty.
-const EMPTY: &str = "     2     2     1     2     0\n            \n            \n";
+const EMPTY: &str = concat!(
+    "     2     2     1     2     0\n",
+    "                                    \n",
+    "                                    \n"
+);
 
 /// What is printed for the input.
 fn run(input: impl AsRef<[u8]>) -> String {
@@ -111,7 +115,7 @@ fn a_line_1_that_is_not_laid_so_is_12_and_ends_the_run() {
     for line in bad {
         assert_eq!(run(line), ended(12), "{line:?}");
         if line.ends_with('\n') {
-            let more = line.to_string() + "     1  1  0  0  1\n";
+            let more = line.to_string() + "     1     1  1  0  0  1\n";
             assert_eq!(run(more), ended(12), "{line:?}");
         }
     }
@@ -164,22 +168,22 @@ fn any_well_laid_numbers_go_on_to_questions_1_to_4_and_13() {
 #[test]
 fn numbers_of_command_lines_are_laid_out_as_in_the_register() {
     let bad: [&[u8]; 16] = [
-        b"     1  1  0  0   \n",
-        b"        1  0  0  1\n",
-        b"     1 01  0  0  1\n",
-        b"     1  1 00  0  1\n",
-        b"    01  1  0  0  1\n",
-        b"     1  1  0  0 1 \n",
-        b"     1 1   0  0  1\n",
-        b"    1   1  0  0  1\n",
-        b"     1 +1  0  0  1\n",
-        b"     1 -1  0  0  1\n",
-        b"    +1  1  0  0  1\n",
-        b"     1\t 1  0  0  1\n",
-        b"     1  1  0  0 \r1\n",
-        b"     1  1  0  0  \xff\n",
-        b"     1  1  0  0  \xb9\n",
-        b"     1  1  0  0  a\n",
+        b"     1     1  1  0  0   \n",
+        b"           1  1  0  0  1\n",
+        b"     1     1 01  0  0  1\n",
+        b"     1     1  1 00  0  1\n",
+        b"    01     1  1  0  0  1\n",
+        b"     1     1  1  0  0 1 \n",
+        b"     1     1 1   0  0  1\n",
+        b"    1      1  1  0  0  1\n",
+        b"     1     1 +1  0  0  1\n",
+        b"     1     1 -1  0  0  1\n",
+        b"    +1     1  1  0  0  1\n",
+        b"     1     1\t 1  0  0  1\n",
+        b"     1     1  1  0  0 \r1\n",
+        b"     1     1  1  0  0  \xff\n",
+        b"     1     1  1  0  0  \xb9\n",
+        b"     1     1  1  0  0  a\n",
     ];
     for line in bad {
         assert_eq!(commands(line), ended(12), "{line:?}");
@@ -187,23 +191,89 @@ fn numbers_of_command_lines_are_laid_out_as_in_the_register() {
 }
 
 #[test]
+fn a_client_that_is_no_well_laid_number_is_12() {
+    let bad = [
+        "      ",
+        "    01",
+        "000001",
+        "    00",
+        "1     ",
+        "    1 ",
+        "  1  1",
+        "    +1",
+        "    -1",
+        "   1.0",
+        "\t    1",
+        "    1\r",
+        "     x",
+        "    \u{b9}",
+    ];
+    for command in [1, 2] {
+        for client in bad {
+            let line = format!("{command:>6}{client}  1  0  0  1\n");
+            assert_eq!(commands(line.as_bytes()), ended(12), "{line:?}");
+        }
+    }
+}
+
+#[test]
+fn a_well_laid_number_that_is_no_client_is_15_under_its_command() {
+    for client in [0, 9, 10, 255, 256, 257, 65_537, 999_999] {
+        for command in [1, 2] {
+            let line = format!("{command:>6}{client:>6}  1  0  0  1\n");
+            let printed = format!("{command:>6}    15     0\n");
+            assert_eq!(commands(line.as_bytes()), printed);
+            // 7 is asked first, and a cell above 255 is no call.
+            let line = format!("{command:>6}{client:>6}  1  0  0  2\n");
+            let printed = format!("{command:>6}     7     0\n");
+            assert_eq!(commands(line.as_bytes()), printed);
+            let line = format!("{command:>6}{client:>6}  1  0  0256\n");
+            assert_eq!(commands(line.as_bytes()), ended(12));
+        }
+    }
+}
+
+#[test]
+fn clients_1_to_8_hold_each_their_own() {
+    let mut input = LINE_1.to_string();
+    let mut expected = String::new();
+    for client in 1..=8 {
+        input += &format!("     1{client:>6}  1  0  0  1\n");
+        expected += ["     1     0     1\n", "     1   101     1\n"][usize::from(client > 1)];
+    }
+    for client in [2, 2, 8] {
+        input += &format!("     2{client:>6}  0  1  1  0\n");
+    }
+    expected += "     2     0     1\n     2    10     0\n     2     0     1\n";
+    expected += "     2     2     1     2     1\n";
+    expected += "  0  1  1  0  1  0  1  1  1  1  1  0\n";
+    expected += "                                    \n";
+    assert_eq!(run(input), expected);
+}
+
+#[test]
 fn a_command_line_of_another_length_is_12() {
-    let bad: [&[u8]; 16] = [
+    let bad: [&[u8]; 20] = [
         b"\n",
         b" \n",
-        b"                  \n",
+        b"                        \n",
         b"     1\n",
-        b"     1  1  0  0\n",
-        b"     1  1  0  0  1  0\n",
-        b"     1  1  0  0  1 \n",
-        b"     1  1  0  0  1\r\n",
-        b"     1  1  0  0  1",
-        b"     2  1  0  0\n",
-        b"     2  1  0  0  1  0\n",
-        b"     2  0  0  0  1  0  1  0  1\n",
+        b"     1     1\n",
+        b"     1     1  1  0  0\n",
+        b"     1     1  1  0  0  1  0\n",
+        b"     1     1  1  0  0  1 \n",
+        b"     1     1  1  0  0  1\r\n",
+        b"     1     1  1  0  0  1",
+        b"     2     1  1  0  0\n",
+        b"     2     1  1  0  0  1  0\n",
+        b"     2     1  0  0  0  1  0  1  0  1\n",
         b"     3  0  0  0  1\n",
         b"     3  0  0  0  1  0  1  0\n",
         b"     3  0  0  0  1  0  1  0  1  0\n",
+        // Command 3 has no client, and commands 1 and 2 have one.
+        b"     3     1  0  0  0  1  0  1  0  1\n",
+        b"     1  1  0  0  1\n",
+        b"     2  1  0  0  1\n",
         b"     1  0  0  0  1  0  1  0  1\n",
     ];
     for line in bad {
@@ -214,13 +284,13 @@ fn a_command_line_of_another_length_is_12() {
 #[test]
 fn another_command_or_a_cell_above_255_is_12() {
     for command in [0, 4, 5, 10, 11, 12, 31, 100_001, 999_999] {
-        let line = format!("{command:>6}  1  0  0  1\n");
+        let line = format!("{command:>6}     1  1  0  0  1\n");
         assert_eq!(commands(line.as_bytes()), ended(12));
         let line = format!("{command:>6}  0  0  0  1  0  1  0  1\n");
         assert_eq!(commands(line.as_bytes()), ended(12));
     }
     for value in [256, 257, 300, 999] {
-        let line = format!("     1  1  0  0{value:>3}\n");
+        let line = format!("     1     1  1  0  0{value:>3}\n");
         assert_eq!(commands(line.as_bytes()), ended(12));
         let line = format!("     3  0  0  0  1  0  1  0{value:>3}\n");
         assert_eq!(commands(line.as_bytes()), ended(12));
@@ -229,22 +299,31 @@ fn another_command_or_a_cell_above_255_is_12() {
 
 #[test]
 fn the_run_goes_on_after_12() {
-    let input = LINE_1.to_string() + "x\n     1  1  0  0  1\n\n     2  0  0  1  1\n     1";
+    let lines = [
+        LINE_1,
+        "x\n",
+        "     1     1  1  0  0  1\n",
+        "\n",
+        "     2     1  0  0  1  1\n",
+        "     1",
+    ];
     let expected = ended(12)
         + "     1     0     1\n"
         + &ended(12)
         + "     2    10     0\n"
         + &ended(12)
-        + "     2     2     1     2     1\n  0  1  1  0\n            \n";
-    assert_eq!(run(input), expected);
+        + "     2     2     1     2     1\n"
+        + "  0  1  1  0  1  0  0  0  0  0  0  0\n"
+        + "                                    \n";
+    assert_eq!(run(lines.concat()), expected);
 }
 
 #[test]
 fn a_cell_of_top_plus_1_to_255_answers_7() {
     for value in [2, 9, 10, 99, 100, 255] {
-        let enter = format!("     1  1  0  0{value:>3}\n");
+        let enter = format!("     1     1  1  0  0{value:>3}\n");
         assert_eq!(commands(enter.as_bytes()), "     1     7     0\n");
-        let strike = format!("     2{value:>3}  0  0  0\n");
+        let strike = format!("     2     1{value:>3}  0  0  0\n");
         assert_eq!(commands(strike.as_bytes()), "     2     7     0\n");
         let count = format!("     3  0  0  0  1  0  1  0{value:>3}\n");
         assert_eq!(commands(count.as_bytes()), "     3     7     0\n");
@@ -268,11 +347,11 @@ fn low_and_high_of_each_cell_in_turn() {
 
 #[test]
 fn a_run_that_ends_looks_at_no_command_line() {
-    let rest = "     1  1  0  0  1\nx\n";
+    let rest = "     1     1  1  0  0  1\nx\n";
     let too_long = LINE_1.to_string() + rest + &"\n".repeat(65_536);
     assert_eq!(run(too_long), ended(11));
     assert_eq!(run("x\n".to_string() + rest), ended(12));
-    assert_eq!(run(line_1(8, 16, 15, 171) + rest), ended(13));
+    assert_eq!(run(line_1(8, 16, 15, 161) + rest), ended(13));
     assert_eq!(run(line_1(9, 2, 1, 2) + rest), ended(1));
     assert_eq!(run(line_1(2, 17, 1, 2) + rest), ended(2));
     assert_eq!(run(line_1(2, 2, 16, 2) + rest), ended(3));
@@ -283,8 +362,8 @@ fn a_run_that_ends_looks_at_no_command_line() {
 fn registers_over_65536_bytes_are_13() {
     for m in 1..=8 {
         for n in 1..=16 {
-            for capacity in [1, 169, 170, 171, 200, 300, 400, 499, 500] {
-                let length = 31 + capacity * (3 * m * n + 1);
+            for capacity in [1, 159, 160, 161, 200, 300, 400, 499, 500] {
+                let length = 31 + capacity * (3 * m * n + 25);
                 let output = transcript(line_1(m, n, 15, capacity).as_bytes());
                 if length > 65_536 {
                     assert_eq!(output, ended(13).as_bytes());
@@ -294,15 +373,15 @@ fn registers_over_65536_bytes_are_13() {
             }
         }
     }
-    assert_eq!(run(line_1(8, 16, 15, 170)).len(), 65_481);
-    assert_eq!(run(line_1(8, 16, 15, 171)), ended(13));
+    assert_eq!(run(line_1(8, 16, 15, 160)).len(), 65_471);
+    assert_eq!(run(line_1(8, 16, 15, 161)), ended(13));
 }
 
 #[test]
 fn the_largest_capacities_that_pass() {
     for m in 1..=8 {
         for n in 1..=16 {
-            let capacity = (65_505 / (3 * m * n + 1)).min(500);
+            let capacity = (65_505 / (3 * m * n + 25)).min(500);
             let output = transcript(line_1(m, n, 0, capacity).as_bytes());
             assert_eq!(output, Machine::opened(m, n, 0, capacity).bytes());
             if capacity < 500 {
@@ -317,31 +396,36 @@ fn the_register_is_printed_without_a_command_too() {
     assert_eq!(run(LINE_1), EMPTY);
     assert_eq!(
         run(line_1(1, 1, 15, 1)),
-        "     1     1    15     1     0\n   \n"
+        "     1     1    15     1     0\n                           \n"
     );
 }
 
+/// A well laid command line: the command, the client (0 where there is none), and the cells.
+type Laid = (u64, u64, Vec<u8>);
+
 /// The numbers of a well laid command line, decided by laying them out again.
-fn well_laid(line: &[u8], cells: usize) -> Option<(u64, Vec<u8>)> {
+fn well_laid(line: &[u8], cells: usize) -> Option<Laid> {
     let text = std::str::from_utf8(line).ok()?.strip_suffix('\n')?;
     let command: u64 = text.get(..6)?.trim().parse().ok()?;
+    let (client, count) = match command {
+        1 | 2 => (Some(text.get(6..12)?.trim().parse::<u64>().ok()?), cells),
+        3 => (None, 2 * cells),
+        _ => return None,
+    };
+    let head = format!("{command:>6}") + &client.map_or(String::new(), |c| format!("{c:>6}"));
     let field = |f: &[u8]| std::str::from_utf8(f).ok()?.trim().parse::<u8>().ok();
-    let bytes = text.as_bytes()[6..]
+    let bytes = text.as_bytes()[head.len()..]
         .chunks(3)
         .map(field)
         .collect::<Option<Vec<u8>>>()?;
     let again: String = bytes.iter().map(|v| format!("{v:>3}")).collect();
-    let count = match command {
-        1 | 2 => cells,
-        3 => 2 * cells,
-        _ => return None,
-    };
-    (format!("{command:>6}{again}") == text && bytes.len() == count).then_some((command, bytes))
+    let laid = (command, client.unwrap_or(0), bytes);
+    (head + &again == text && laid.2.len() == count).then_some(laid)
 }
 
 /// What the machine prints for a command. For 3 it counts the form as sent; 102 is said if no grid
 /// in the form has allperm.
-fn by_machine(machine: &mut Machine, command: u64, bytes: &[u8]) -> String {
+fn by_machine(machine: &mut Machine, (command, client, bytes): &Laid) -> String {
     let (m, n, top) = (
         machine.rows as usize,
         machine.columns as usize,
@@ -350,8 +434,8 @@ fn by_machine(machine: &mut Machine, command: u64, bytes: &[u8]) -> String {
     let low: Vec<u8> = bytes.chunks(2).map(|two| two[0]).collect();
     let high: Vec<u8> = bytes.chunks(2).map(|two| *two.last().unwrap()).collect();
     let Answer { number, place } = match command {
-        1 => machine.enter(bytes),
-        2 => machine.strike(bytes),
+        1 => machine.enter(*client, bytes),
+        2 => machine.strike(*client, bytes),
         _ => match machine.count(&low, &high) {
             Answer { number: 0, .. } if !some_grid(m, n, top, &low, &high) => Answer {
                 number: 102,
@@ -369,7 +453,7 @@ fn expected(mut machine: Machine, lines: &[Vec<u8>]) -> Vec<u8> {
     let mut output = Vec::new();
     for line in lines {
         let printed = match well_laid(line, cells) {
-            Some((command, bytes)) => by_machine(&mut machine, command, &bytes),
+            Some(laid) => by_machine(&mut machine, &laid),
             None => ended(12),
         };
         output.extend(printed.into_bytes());
@@ -391,8 +475,13 @@ fn random_line(random: &mut Random, cells: usize, top: u8) -> Vec<u8> {
         let k = random.below(bytes.len() as u64) as usize;
         bytes[k] = random.below(256) as u8;
     }
+    let client = match command {
+        3 => String::new(),
+        _ if random.once_in(10) => format!("{:>6}", random.below(12)),
+        _ => format!("{:>6}", random.between(1, 8)),
+    };
     let fields: String = bytes.iter().map(|v| format!("{v:>3}")).collect();
-    let mut line = format!("{command:>6}{fields}").into_bytes();
+    let mut line = format!("{command:>6}{client}{fields}").into_bytes();
     if random.once_in(4) {
         let likely = b" 01239\t-x\x80";
         let k = random.below(line.len() as u64) as usize;

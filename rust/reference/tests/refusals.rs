@@ -2,12 +2,13 @@
 
 mod common;
 
-use common::faults::{numbers, refusal, sets_of, slice};
-use common::{cells, register, unopened};
+use common::faults::{client, holding, numbers, possible, refusal, sets_of, slice};
+use common::{cells, held_register, register, unopened};
 use reference::bounds::{prune, Counted};
 use reference::grid_calls::{represent, same, Arranged, Matched};
 use reference::layout::{register_length, Contents};
-use reference::register::{count, enter, open, strike, Answer};
+use reference::machine::Machine;
+use reference::register::{count, enter, open, strike, terminal_enter, Answer};
 
 #[test]
 fn represent_asks_1_2_3_6_7_in_order() {
@@ -93,61 +94,104 @@ fn open_asks_1_2_3_4_6_in_order() {
     }
 }
 
-/// A register of 2 by 3, top 3, that is full with two entries; one byte short where 5 is to fail.
+/// A register of 2 by 3, top 3, that is full with two entries, the first held by clients 2 and 3
+/// and the second by client 1; one byte short where 5 is to fail.
 fn full_register(failed: &[u32]) -> Vec<u8> {
-    let mut bytes = register(2, 3, 3, 2, &["000/111", "001/121"]);
+    let entries = [("000/111", [0, holding(failed), 1]), ("001/121", [1, 0, 0])];
+    let mut bytes = held_register(2, 3, 3, 2, &entries);
     if failed.contains(&5) {
         bytes.pop();
     }
     bytes
 }
 
+/// An arrangement of the first entry, spoiled where 6 or 7 is to fail.
+fn first_entry(failed: &[u32]) -> Vec<u8> {
+    let mut grid = slice(failed, 2, 3, 3);
+    grid[..6].copy_from_slice(&cells("111/000"));
+    if failed.contains(&7) {
+        grid[1] = 4;
+    }
+    grid
+}
+
 #[test]
-fn enter_asks_5_6_7_9_in_order() {
-    for (failed, number) in sets_of(&[5, 6, 7, 9]) {
-        let mut bytes = full_register(&failed);
-        let mut grid = slice(&failed, 2, 3, 3);
-        if !failed.contains(&9) {
-            // A held class, so that the full register has no 9.
-            grid[0..6].copy_from_slice(&cells("111/000"));
-            grid[1] = if failed.contains(&7) { 4 } else { 1 };
-        }
-        let before = bytes.clone();
-        let answer = enter(&mut bytes, &grid);
-        let expected = match number {
-            0 => Answer {
+fn enter_asks_5_6_7_15_9_16_in_order() {
+    let sets = possible(sets_of(&[5, 6, 7, 15, 9, 16]));
+    assert_eq!(sets.len(), 48);
+    for (failed, number) in sets {
+        let before = full_register(&failed);
+        let grid = match failed.contains(&9) {
+            // A class that nobody holds.
+            true => slice(&failed, 2, 3, 3),
+            false => first_entry(&failed),
+        };
+        let mut bytes = before.clone();
+        let answer = enter(&mut bytes, client(&failed), &grid);
+        if number == 0 {
+            let expected = Answer {
                 number: 101,
                 place: 1,
-            },
-            _ => refusal(number),
-        };
-        assert_eq!(answer, expected, "{failed:?}");
-        assert_eq!(bytes, before);
+            };
+            assert_eq!(answer, expected);
+            let entries = [("000/111", [0, 6, 1]), ("001/121", [1, 0, 0])];
+            assert_eq!(bytes, held_register(2, 3, 3, 2, &entries));
+        } else {
+            assert_eq!(answer, refusal(number), "{failed:?}");
+            assert_eq!(bytes, before);
+        }
     }
 }
 
 #[test]
-fn strike_asks_5_6_7_10_in_order() {
-    for (failed, number) in sets_of(&[5, 6, 7, 10]) {
-        let mut bytes = full_register(&failed);
-        let mut grid = slice(&failed, 2, 3, 3);
-        if !failed.contains(&10) {
-            grid[0..6].copy_from_slice(&cells("111/000"));
-            grid[1] = if failed.contains(&7) { 4 } else { 1 };
-        }
-        let before = bytes.clone();
-        let answer = strike(&mut bytes, &grid);
+fn strike_asks_5_6_7_15_10_in_order() {
+    for (failed, number) in sets_of(&[5, 6, 7, 15, 10]) {
+        let before = full_register(&failed);
+        let mut bytes = before.clone();
+        let answer = strike(&mut bytes, client(&failed), &first_entry(&failed));
         if number == 0 {
             let expected = Answer {
                 number: 0,
                 place: 1,
             };
             assert_eq!(answer, expected);
-            assert_eq!(bytes, register(2, 3, 3, 2, &["001/121"]));
+            let entries = [("000/111", [0, 4, 1]), ("001/121", [1, 0, 0])];
+            assert_eq!(bytes, held_register(2, 3, 3, 2, &entries));
         } else {
             assert_eq!(answer, refusal(number), "{failed:?}");
             assert_eq!(bytes, before);
         }
+    }
+}
+
+#[test]
+fn clients_1_to_8_pass_and_others_give_15() {
+    let before = held_register(1, 2, 3, 1, &[("03", [1; 8])]);
+    for client in 1..=8 {
+        let mut bytes = before.clone();
+        assert_eq!(enter(&mut bytes, client, &[3, 0]).number, 101);
+        assert_eq!(terminal_enter(&mut bytes, client, &[3, 0]).number, 101);
+        assert_eq!(strike(&mut bytes, client, &[3, 0]).number, 0);
+        assert_eq!(strike(&mut bytes, client, &[3, 0]).number, 0);
+        assert_eq!(bytes, before);
+    }
+    let mut machine = Machine::opened(1, 2, 3, 1);
+    let empty = machine.bytes();
+    // Next to the limits, and numbers whose low 8, 16 or 32 bits alone would pass.
+    let large = [(1 << 8) + 1, (1 << 16) + 8, (1 << 32) + 1, u64::MAX];
+    for client in [0, 9, 10, 15, 255, 256].into_iter().chain(large) {
+        let mut bytes = before.clone();
+        // A class that is held, and one that is not: the register is full.
+        for grid in [[3, 0], [0, 0]] {
+            assert_eq!(enter(&mut bytes, client, &grid), refusal(15));
+            assert_eq!(terminal_enter(&mut bytes, client, &grid), refusal(15));
+            assert_eq!(strike(&mut bytes, client, &grid), refusal(15));
+            assert_eq!(machine.enter(client, &grid), refusal(15));
+            assert_eq!(machine.terminal_enter(client, &grid), refusal(15));
+            assert_eq!(machine.strike(client, &grid), refusal(15));
+        }
+        assert_eq!(bytes, before);
+        assert_eq!(machine.bytes(), empty);
     }
 }
 
@@ -241,12 +285,12 @@ fn the_limits_pass_and_one_more_does_not() {
 #[test]
 fn the_largest_register_opens_and_serves() {
     let mut bytes = unopened(8, 16, 500);
-    assert_eq!(bytes.len(), 192_531);
+    assert_eq!(bytes.len(), 204_531);
     assert_eq!(open(8, 16, 15, 500, &mut bytes), refusal(0));
-    let first = enter(&mut bytes, &[15; 128]);
+    let first = enter(&mut bytes, 1, &[15; 128]);
     assert_eq!((first.number, first.place), (0, 1));
     assert_eq!(count(&bytes, &[0; 128], &[15; 128]).place, 1);
-    let struck = strike(&mut bytes, &[15; 128]);
+    let struck = strike(&mut bytes, 1, &[15; 128]);
     assert_eq!((struck.number, struck.place), (0, 1));
     assert_eq!(bytes, register(8, 16, 15, 500, &[]));
     for (m, n, top, capacity, number) in [
@@ -278,8 +322,8 @@ fn a_register_of_another_length_gives_5_and_to_open_6() {
         let mut bytes = whole.clone();
         bytes.resize(length, b'\n');
         let before = bytes.clone();
-        assert_eq!(enter(&mut bytes, &[0; 4]), refusal(5));
-        assert_eq!(strike(&mut bytes, &[0; 4]), refusal(5));
+        assert_eq!(enter(&mut bytes, 1, &[0; 4]), refusal(5));
+        assert_eq!(strike(&mut bytes, 1, &[0; 4]), refusal(5));
         assert_eq!(count(&bytes, &[0; 4], &[1; 4]), refusal(5));
         assert_eq!(open(2, 2, 3, 3, &mut bytes), refusal(6));
         assert_eq!(bytes, before);
@@ -297,8 +341,8 @@ fn a_grid_of_another_length_gives_6() {
         assert_eq!(out, [200; 4]);
         assert_eq!(same(2, 2, 3, &grid, &[0; 4]), Matched::starting(6, 0));
         assert_eq!(same(2, 2, 3, &[0; 4], &grid), Matched::starting(6, 0));
-        assert_eq!(enter(&mut bytes, &grid), refusal(6));
-        assert_eq!(strike(&mut bytes, &grid), refusal(6));
+        assert_eq!(enter(&mut bytes, 1, &grid), refusal(6));
+        assert_eq!(strike(&mut bytes, 1, &grid), refusal(6));
         assert_eq!(bytes, before);
     }
 }
@@ -325,13 +369,13 @@ fn a_cell_equal_to_top_passes_and_one_more_gives_7() {
             7
         );
         let mut bytes = register(1, 2, long, 2, &[]);
-        assert_eq!(enter(&mut bytes, &above), refusal(7));
-        assert_eq!(enter(&mut bytes, &at).number, 0);
-        assert_eq!(strike(&mut bytes, &above), refusal(7));
+        assert_eq!(enter(&mut bytes, 1, &above), refusal(7));
+        assert_eq!(enter(&mut bytes, 1, &at).number, 0);
+        assert_eq!(strike(&mut bytes, 1, &above), refusal(7));
         assert_eq!(count(&bytes, &at, &above), refusal(7));
         assert_eq!(count(&bytes, &above, &at), refusal(7));
         assert_eq!(count(&bytes, &at, &at).place, 1);
-        assert_eq!(strike(&mut bytes, &at).number, 0);
+        assert_eq!(strike(&mut bytes, 1, &at).number, 0);
     }
 }
 
@@ -350,7 +394,7 @@ fn a_register_s_own_limits_are_part_of_question_5() {
     for (rows, columns, top, capacity) in good {
         let mut bytes = register(rows, columns, top, capacity, &[]);
         let grid = vec![0; (rows * columns) as usize];
-        assert_eq!(enter(&mut bytes, &grid).number, 0);
+        assert_eq!(enter(&mut bytes, 1, &grid).number, 0);
     }
     for (rows, columns, top, capacity) in bad {
         let bytes = register(rows, columns, top, capacity, &[]);
@@ -358,8 +402,8 @@ fn a_register_s_own_limits_are_part_of_question_5() {
         assert_eq!(Contents::read(&bytes), None);
         let grid = vec![0; (rows * columns) as usize];
         let mut lent = bytes.clone();
-        assert_eq!(enter(&mut lent, &grid), refusal(5));
-        assert_eq!(strike(&mut lent, &grid), refusal(5));
+        assert_eq!(enter(&mut lent, 1, &grid), refusal(5));
+        assert_eq!(strike(&mut lent, 1, &grid), refusal(5));
         assert_eq!(count(&lent, &grid, &grid), refusal(5));
         assert_eq!(lent, bytes);
     }

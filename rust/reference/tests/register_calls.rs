@@ -2,11 +2,12 @@
 
 mod common;
 
-use common::{cells, register, unopened};
+use common::{cells, held_register, register, unopened};
 use reference::bounds::prune;
 use reference::forms::drawn;
 use reference::grid::{arrangement, least};
 use reference::layout::Contents;
+use reference::lists::client;
 use reference::machine::Machine;
 use reference::planbook::prune_and_count;
 use reference::random::Random;
@@ -24,11 +25,13 @@ fn opened(m: u64, n: u64, top: u64, capacity: u64) -> Vec<u8> {
 
 #[test]
 fn open_writes_count_0_and_blank_lines() {
-    let expected = b"     2     2    15     3     0\n            \n            \n            \n";
-    assert_eq!(opened(2, 2, 15, 3), expected);
+    let blank = " ".repeat(36) + "\n";
+    let expected = "     2     2    15     3     0\n".to_string() + &blank.repeat(3);
+    assert_eq!(opened(2, 2, 15, 3), expected.as_bytes());
     let bytes = opened(1, 1, 0, 500);
-    assert!(bytes.starts_with(b"     1     1     0   500     0\n   \n"));
-    assert_eq!(bytes.len(), 31 + 500 * 4);
+    let line_1 = "     1     1     0   500     0\n".to_string();
+    assert!(bytes.starts_with((line_1 + &" ".repeat(27) + "\n").as_bytes()));
+    assert_eq!(bytes.len(), 31 + 500 * 28);
 }
 
 #[test]
@@ -41,37 +44,132 @@ fn open_empties_a_register_in_use() {
 #[test]
 fn enter_keeps_the_entries_ascending() {
     let mut bytes = opened(2, 2, 12, 3);
-    assert_eq!(enter(&mut bytes, &[12, 0, 0, 3]), answer(0, 1));
-    assert_eq!(enter(&mut bytes, &[11, 11, 1, 1]), answer(0, 2));
-    assert_eq!(enter(&mut bytes, &[2, 0, 0, 12]), answer(0, 1));
-    let expected = b"     2     2    12     3     3\n  0  2 12  0\n  0  3 12  0\n  1  1 11 11\n";
-    assert_eq!(bytes, expected);
+    assert_eq!(enter(&mut bytes, 1, &[12, 0, 0, 3]), answer(0, 1));
+    assert_eq!(enter(&mut bytes, 1, &[11, 11, 1, 1]), answer(0, 2));
+    assert_eq!(enter(&mut bytes, 1, &[2, 0, 0, 12]), answer(0, 1));
+    let lines = [
+        "     2     2    12     3     3\n",
+        "  0  2 12  0  1  0  0  0  0  0  0  0\n",
+        "  0  3 12  0  1  0  0  0  0  0  0  0\n",
+        "  1  1 11 11  1  0  0  0  0  0  0  0\n",
+    ];
+    assert_eq!(bytes, lines.concat().as_bytes());
 }
 
 #[test]
-fn a_held_class_gives_101_with_its_place_and_no_byte_changes() {
+fn a_held_class_gives_101_with_its_place_and_the_holding_written() {
     let mut bytes = register(2, 2, 2, 2, &["00/01", "01/10"]);
-    let before = bytes.clone();
     for text in ["01/10", "10/01"] {
-        assert_eq!(enter(&mut bytes, &cells(text)), answer(101, 2));
+        assert_eq!(enter(&mut bytes, 1, &cells(text)), answer(101, 2));
     }
     for text in ["00/01", "00/10", "01/00", "10/00"] {
-        assert_eq!(enter(&mut bytes, &cells(text)), answer(101, 1));
+        assert_eq!(enter(&mut bytes, 8, &cells(text)), answer(101, 1));
     }
-    assert_eq!(enter(&mut bytes, &cells("02/00")), answer(9, 0));
-    assert_eq!(bytes, before);
+    let entries = [
+        ("00/01", [1, 0, 0, 0, 0, 0, 0, 4]),
+        ("01/10", [3, 0, 0, 0, 0, 0, 0, 0]),
+    ];
+    assert_eq!(bytes, held_register(2, 2, 2, 2, &entries));
+    assert_eq!(enter(&mut bytes, 1, &cells("02/00")), answer(9, 0));
+    assert_eq!(bytes, held_register(2, 2, 2, 2, &entries));
+}
+
+#[test]
+fn capacity_counts_lines_and_a_full_register_takes_a_class_that_another_client_holds() {
+    let mut bytes = opened(1, 2, 3, 1);
+    assert_eq!(enter(&mut bytes, 3, &cells("30")), answer(0, 1));
+    assert_eq!(enter(&mut bytes, 5, &cells("31")), answer(9, 0));
+    assert_eq!(enter(&mut bytes, 5, &cells("03")), answer(101, 1));
+    let entries = [("03", [0, 0, 1, 0, 1])];
+    assert_eq!(bytes, held_register(1, 2, 3, 1, &entries));
+    // The line has its place until the last holding is gone.
+    assert_eq!(strike(&mut bytes, 3, &cells("03")), answer(0, 1));
+    assert_eq!(enter(&mut bytes, 3, &cells("31")), answer(9, 0));
+    assert_eq!(strike(&mut bytes, 5, &cells("03")), answer(0, 1));
+    assert_eq!(enter(&mut bytes, 3, &cells("31")), answer(0, 1));
+    assert_eq!(bytes, held_register(1, 2, 3, 1, &[("13", [0, 0, 1])]));
+}
+
+#[test]
+fn a_strike_that_leaves_holdings_answers_the_line_s_place() {
+    let held = |of_client_2: u64, of_client_3: u64| {
+        let entries = [
+            ("00", [1, 0, 0]),
+            ("01", [0, of_client_2, of_client_3]),
+            ("02", [1, 0, 0]),
+        ];
+        held_register(1, 2, 3, 4, &entries)
+    };
+    let mut bytes = held(2, 1);
+    assert_eq!(strike(&mut bytes, 2, &cells("10")), answer(0, 2));
+    assert_eq!(bytes, held(1, 1));
+    assert_eq!(strike(&mut bytes, 3, &cells("10")), answer(0, 2));
+    assert_eq!(bytes, held(1, 0));
+    // Client 3 holds none now, and client 1 never did; client 2 does.
+    for client in [1, 3, 4, 8] {
+        assert_eq!(strike(&mut bytes, client, &cells("10")), answer(10, 0));
+        assert_eq!(bytes, held(1, 0));
+    }
+    assert_eq!(strike(&mut bytes, 2, &cells("10")), answer(0, 2));
+    assert_eq!(bytes, register(1, 2, 3, 4, &["00", "02"]));
+}
+
+#[test]
+fn a_holding_goes_to_999_and_back() {
+    let mut pair = Pair::opened(1, 1, 1, 1);
+    for k in 1..=999 {
+        let expected = if k == 1 { 0 } else { 101 };
+        assert_eq!(pair.enter(4, &[1]), expected);
+    }
+    let full = held_register(1, 1, 1, 1, &[("1", [0, 0, 0, 999])]);
+    assert_eq!(pair.bytes, full);
+    assert_eq!(pair.enter(4, &[1]), 16);
+    assert_eq!(pair.bytes, full);
+    // 9 is asked before 16, and 16 is not asked of another client.
+    assert_eq!(pair.enter(4, &[0]), 9);
+    assert_eq!(pair.enter(3, &[1]), 101);
+    assert_eq!(pair.strike(3, &[1]), 0);
+    assert_eq!(pair.bytes, full);
+    for _ in 0..999 {
+        assert_eq!(pair.machine.classes.len(), 1);
+        assert_eq!(pair.strike(4, &[1]), 0);
+    }
+    assert_eq!(pair.bytes, opened(1, 1, 1, 1));
+    assert_eq!(pair.strike(4, &[1]), 10);
+}
+
+#[test]
+fn equal_bytes_mean_equal_holdings() {
+    // Every list of three enters by two clients of two classes.
+    let enters: Vec<(u64, [u8; 1])> = vec![(1, [0]), (1, [1]), (2, [0]), (2, [1])];
+    let mut met: Vec<(Vec<u8>, [[u64; 2]; 2])> = Vec::new();
+    for list in common::every_grid(3, 3) {
+        let mut bytes = opened(1, 1, 1, 2);
+        let mut held = [[0; 2]; 2];
+        for k in list {
+            let (client, grid) = enters[usize::from(k)];
+            assert!([0, 101].contains(&enter(&mut bytes, client, &grid).number));
+            held[client as usize - 1][usize::from(grid[0])] += 1;
+        }
+        met.push((bytes, held));
+    }
+    for (bytes, held) in &met {
+        for (other, held_there) in &met {
+            assert_eq!(bytes == other, held == held_there);
+        }
+    }
 }
 
 #[test]
 fn strike_moves_the_later_entries_up_and_blanks_the_last_line() {
     let mut bytes = register(2, 2, 2, 4, &["00/01", "00/02", "01/10"]);
-    assert_eq!(strike(&mut bytes, &cells("20/00")), answer(0, 2));
+    assert_eq!(strike(&mut bytes, 1, &cells("20/00")), answer(0, 2));
     assert_eq!(bytes, register(2, 2, 2, 4, &["00/01", "01/10"]));
-    assert_eq!(strike(&mut bytes, &cells("20/00")), answer(10, 0));
-    assert_eq!(strike(&mut bytes, &cells("10/01")), answer(0, 2));
-    assert_eq!(strike(&mut bytes, &cells("00/10")), answer(0, 1));
+    assert_eq!(strike(&mut bytes, 1, &cells("20/00")), answer(10, 0));
+    assert_eq!(strike(&mut bytes, 1, &cells("10/01")), answer(0, 2));
+    assert_eq!(strike(&mut bytes, 1, &cells("00/10")), answer(0, 1));
     assert_eq!(bytes, opened(2, 2, 2, 4));
-    assert_eq!(strike(&mut bytes, &cells("00/10")), answer(10, 0));
+    assert_eq!(strike(&mut bytes, 1, &cells("00/10")), answer(10, 0));
 }
 
 #[test]
@@ -79,17 +177,17 @@ fn the_bytes_do_not_depend_on_the_order_of_the_calls() {
     let plans = ["00/01", "00/11", "01/01", "01/10", "11/11"].map(cells);
     let mut first = opened(2, 2, 1, 6);
     for plan in &plans {
-        assert_eq!(enter(&mut first, plan).number, 0);
+        assert_eq!(enter(&mut first, 1, plan).number, 0);
     }
     let mut random = Random::new(12);
     for _ in 0..20 {
         let mut other = opened(2, 2, 1, 6);
-        assert_eq!(enter(&mut other, &[0; 4]).number, 0);
+        assert_eq!(enter(&mut other, 1, &[0; 4]).number, 0);
         for k in random.permutation(plans.len()) {
-            assert_eq!(enter(&mut other, &plans[usize::from(k)]).number, 0);
+            assert_eq!(enter(&mut other, 1, &plans[usize::from(k)]).number, 0);
         }
         assert_ne!(other, first);
-        assert_eq!(strike(&mut other, &[0; 4]).number, 0);
+        assert_eq!(strike(&mut other, 1, &[0; 4]).number, 0);
         assert_eq!(other, first);
     }
 }
@@ -118,13 +216,14 @@ fn on_entries_that_are_not_least_a_class_is_held_by_its_representative_only() {
     // 10/01 is not least in its class, that is 01/10.
     let bytes = register(2, 2, 1, 3, &["00/01", "10/01"]);
     let mut lent = bytes.clone();
-    assert_eq!(strike(&mut lent, &cells("10/01")), answer(10, 0));
+    assert_eq!(strike(&mut lent, 1, &cells("10/01")), answer(10, 0));
     assert_eq!(lent, bytes);
-    assert_eq!(enter(&mut lent, &cells("10/01")), answer(0, 2));
+    assert_eq!(enter(&mut lent, 1, &cells("10/01")), answer(0, 2));
     assert_eq!(lent, register(2, 2, 1, 3, &["00/01", "01/10", "10/01"]));
-    assert_eq!(enter(&mut lent, &cells("10/01")), answer(101, 2));
-    assert_eq!(enter(&mut lent, &cells("11/11")), answer(9, 0));
-    assert_eq!(strike(&mut lent, &cells("10/01")), answer(0, 2));
+    assert_eq!(enter(&mut lent, 2, &cells("10/01")), answer(101, 2));
+    assert_eq!(enter(&mut lent, 1, &cells("11/11")), answer(9, 0));
+    assert_eq!(strike(&mut lent, 1, &cells("10/01")), answer(0, 2));
+    assert_eq!(strike(&mut lent, 2, &cells("10/01")), answer(0, 2));
     assert_eq!(lent, bytes);
 }
 
@@ -169,21 +268,21 @@ impl Pair {
         assert!(contents
             .entries
             .iter()
-            .all(|e| self.machine.classes.contains(e)));
+            .all(|e| self.machine.classes.get(&e.grid) == Some(&e.holdings)));
         assert_eq!(contents.entries.len(), self.machine.classes.len());
     }
 
     /// Makes the call on both and returns the answer's number.
-    fn enter(&mut self, grid: &[u8]) -> u32 {
-        let answer = enter(&mut self.bytes, grid);
-        assert_eq!(answer, self.machine.enter(grid));
+    fn enter(&mut self, client: u64, grid: &[u8]) -> u32 {
+        let answer = enter(&mut self.bytes, client, grid);
+        assert_eq!(answer, self.machine.enter(client, grid));
         self.check();
         answer.number
     }
 
-    fn strike(&mut self, grid: &[u8]) -> u32 {
-        let answer = strike(&mut self.bytes, grid);
-        assert_eq!(answer, self.machine.strike(grid));
+    fn strike(&mut self, client: u64, grid: &[u8]) -> u32 {
+        let answer = strike(&mut self.bytes, client, grid);
+        assert_eq!(answer, self.machine.strike(client, grid));
         self.check();
         answer.number
     }
@@ -248,9 +347,9 @@ fn random_list(random: &mut Random, shape: [u64; 4], calls: usize, met: &mut [u6
     let mut pair = Pair::opened(m, n, top, capacity);
     for _ in 0..calls {
         let number = match random.below(7) {
-            0..=2 => pair.enter(&random_grid(random, cells, least_top)),
-            3 => pair.strike(&random_grid(random, cells, least_top)),
-            4 => pair.strike(&held_grid(random, &pair, cells)),
+            0..=2 => pair.enter(client(random), &random_grid(random, cells, least_top)),
+            3 => pair.strike(client(random), &random_grid(random, cells, least_top)),
+            4 => pair.strike(client(random), &held_grid(random, &pair, cells)),
             _ => {
                 let (low, high) = random_form(random, cells, least_top);
                 pair.count(&low, &high)
@@ -266,7 +365,7 @@ fn held_grid(random: &mut Random, pair: &Pair, cells: usize) -> Vec<u8> {
     if held.is_empty() {
         return vec![0; cells];
     }
-    let class = held.iter().nth(random.below(held.len() as u64) as usize);
+    let class = held.keys().nth(random.below(held.len() as u64) as usize);
     let (m, n) = (pair.machine.rows as usize, pair.machine.columns as usize);
     let (rows, columns) = (random.permutation(m), random.permutation(n));
     let grid = arrangement(m, n, &rows, &columns, class.unwrap());
@@ -287,7 +386,7 @@ fn random_lists_of_calls_answer_as_the_machine() {
         ];
         random_list(&mut random, shape, 40, &mut met);
     }
-    for number in [0, 6, 7, 8, 9, 10, 101] {
+    for number in [0, 6, 7, 8, 9, 10, 15, 101] {
         assert!(met[number] > 50, "{number}");
     }
     assert_eq!((met[5], met[102]), (0, 0));
@@ -315,13 +414,15 @@ fn a_list_on_the_largest_shape_answers_as_the_machine() {
     let mut random = Random::new(15);
     let mut pair = Pair::opened(8, 16, 15, 500);
     let (one, two) = (random.cells(128, 15), random.cells(128, 1));
-    assert_eq!(pair.enter(&one), 0);
-    assert_eq!(pair.enter(&two), 0);
+    assert_eq!(pair.enter(1, &one), 0);
+    assert_eq!(pair.enter(1, &two), 0);
     assert_eq!(pair.count(&[0; 128], &[15; 128]), 0);
     let turned = arrangement(8, 16, &random.permutation(8), &random.permutation(16), &one);
-    assert_eq!(pair.enter(&turned), 101);
-    assert_eq!(pair.strike(&turned), 0);
-    assert_eq!(pair.strike(&one), 10);
+    assert_eq!(pair.enter(2, &turned), 101);
+    assert_eq!(pair.strike(2, &turned), 0);
+    assert_eq!(pair.strike(2, &one), 10);
+    assert_eq!(pair.strike(1, &turned), 0);
+    assert_eq!(pair.strike(1, &one), 10);
 }
 
 #[test]
@@ -331,14 +432,14 @@ fn all_500_lines_are_used() {
     grids.retain(|g| &least(1, 3, g) == g);
     assert!(grids.len() > 500);
     for k in Random::new(16).permutation(250) {
-        assert_eq!(pair.enter(&grids[usize::from(k)]), 0);
+        assert_eq!(pair.enter(1, &grids[usize::from(k)]), 0);
     }
     for grid in &grids[250..500] {
-        assert_eq!(pair.enter(grid), 0);
+        assert_eq!(pair.enter(1, grid), 0);
     }
-    assert_eq!(pair.enter(&grids[500]), 9);
-    assert_eq!(pair.enter(&grids[499]), 101);
+    assert_eq!(pair.enter(1, &grids[500]), 9);
+    assert_eq!(pair.enter(2, &grids[499]), 101);
     assert_eq!(pair.machine.classes.len(), 500);
-    assert_eq!(pair.strike(&grids[0]), 0);
-    assert_eq!(pair.enter(&grids[500]), 0);
+    assert_eq!(pair.strike(1, &grids[0]), 0);
+    assert_eq!(pair.enter(1, &grids[500]), 0);
 }

@@ -3,8 +3,8 @@
 
 mod common;
 
-use common::faults::{numbers, refusal, sets_of, slice};
-use common::{cells, register};
+use common::faults::{client, holding, numbers, possible, refusal, sets_of, slice};
+use common::{cells, held_register, register};
 use reference::calls::Call;
 use reference::examples::{every_grid, shapes_up_to};
 use reference::grid::identity;
@@ -17,13 +17,6 @@ use reference::machine::Machine;
 use reference::random::Random;
 use reference::register::{enter, strike, terminal_enter, Answer};
 use std::collections::BTreeSet;
-
-/// Those of the sets that some rows can fail: no rows fail both 1 and 14.
-fn possible(sets: Vec<(Vec<u32>, u32)>) -> Vec<(Vec<u32>, u32)> {
-    let both = |failed: &[u32]| failed.contains(&1) && failed.contains(&14);
-    let sets = sets.into_iter();
-    sets.filter(|(failed, _)| !both(failed)).collect()
-}
 
 #[test]
 fn represent_asks_1_14_2_3_6_7_in_order() {
@@ -56,12 +49,15 @@ fn same_asks_1_14_2_3_6_7_in_order() {
 }
 
 /// A full register of top 3 with two entries: of 2 by 3, or of 7 by 3 where 14 is to fail; one byte
-/// short where 5 is.
-fn full_register(failed: &[u32]) -> Vec<u8> {
-    let mut bytes = match failed.contains(&14) {
-        true => register(7, 3, 3, 2, &[&"000".repeat(7), &"111".repeat(7)]),
-        false => register(2, 3, 3, 2, &["000000", "111111"]),
+/// short where 5 is. Client 2's holding of the second is as the set asks.
+fn full_register(failed: &[u32], of_client_2: u64) -> Vec<u8> {
+    let m = match failed.contains(&14) {
+        true => 7,
+        false => 2,
     };
+    let (zeros, ones) = ("000".repeat(m), "111".repeat(m));
+    let entries = [(&zeros[..], [1, 0, 0]), (&ones[..], [0, of_client_2, 3])];
+    let mut bytes = held_register(m as u64, 3, 3, 2, &entries);
     if failed.contains(&5) {
         bytes.pop();
     }
@@ -69,25 +65,30 @@ fn full_register(failed: &[u32]) -> Vec<u8> {
 }
 
 #[test]
-fn enter_asks_5_14_6_7_9_in_order() {
-    for (failed, number) in sets_of(&[5, 14, 6, 7, 9]) {
+fn enter_asks_5_14_6_7_15_9_16_in_order() {
+    let sets = possible(sets_of(&[5, 14, 6, 7, 15, 9, 16]));
+    assert_eq!(sets.len(), 96);
+    for (failed, number) in sets {
         let (m, n, top, _) = numbers(&failed);
         let mut grid = slice(&failed, m, n, top);
         if failed.contains(&9) {
             // Another class than the two that are held.
             grid[0] = 2;
         }
-        let before = full_register(&failed);
-        let mut bytes = before.clone();
-        let expected = match number {
-            0 => Answer {
+        let held = holding(&failed);
+        let mut bytes = full_register(&failed, held);
+        let answer = terminal_enter(&mut bytes, client(&failed), &grid);
+        if number == 0 {
+            let expected = Answer {
                 number: 101,
                 place: 2,
-            },
-            _ => refusal(number),
-        };
-        assert_eq!(terminal_enter(&mut bytes, &grid), expected, "{failed:?}");
-        assert_eq!(bytes, before);
+            };
+            assert_eq!(answer, expected);
+            assert_eq!(bytes, full_register(&failed, held + 1));
+        } else {
+            assert_eq!(answer, refusal(number), "{failed:?}");
+            assert_eq!(bytes, full_register(&failed, held));
+        }
     }
 }
 
@@ -112,11 +113,11 @@ fn rows_6_to_8_give_14_and_others_1() {
         let before = bytes.clone();
         for length in [m as usize, 0] {
             let grid = vec![0; length];
-            assert_eq!(terminal_enter(&mut bytes, &grid), refusal(14));
+            assert_eq!(terminal_enter(&mut bytes, 1, &grid), refusal(14));
             assert_eq!(bytes, before);
         }
         let mut machine = Machine::opened(m, 1, 1, 1);
-        assert_eq!(machine.terminal_enter(&[2]), refusal(14));
+        assert_eq!(machine.terminal_enter(1, &[2]), refusal(14));
         assert_eq!(machine.bytes(), before);
     }
     for m in 1..=5 {
@@ -126,7 +127,7 @@ fn rows_6_to_8_give_14_and_others_1() {
         assert_eq!(out, grid);
         assert_eq!(terminal_same(m, 1, 15, &grid, &out).number, 0);
         let mut bytes = register(m, 1, 15, 1, &[]);
-        assert_eq!(terminal_enter(&mut bytes, &grid).number, 0);
+        assert_eq!(terminal_enter(&mut bytes, 1, &grid).number, 0);
     }
 }
 
@@ -195,14 +196,20 @@ fn both_sets_answer_alike() {
 fn a_register_is_used_through_both_sets() {
     let mut bytes = register(2, 2, 1, 2, &[]);
     let answer = |number: u32, place: u64| Answer { number, place };
-    assert_eq!(terminal_enter(&mut bytes, &cells("10/01")), answer(0, 1));
-    assert_eq!(enter(&mut bytes, &cells("01/10")), answer(101, 1));
-    assert_eq!(enter(&mut bytes, &cells("00/11")), answer(0, 1));
-    assert_eq!(terminal_enter(&mut bytes, &cells("11/00")), answer(101, 1));
-    assert_eq!(terminal_enter(&mut bytes, &cells("00/01")), answer(9, 0));
-    assert_eq!(bytes, register(2, 2, 1, 2, &["00/11", "01/10"]));
-    assert_eq!(strike(&mut bytes, &cells("10/01")), answer(0, 2));
-    assert_eq!(terminal_enter(&mut bytes, &cells("00/01")), answer(0, 1));
+    assert_eq!(terminal_enter(&mut bytes, 1, &cells("10/01")), answer(0, 1));
+    assert_eq!(enter(&mut bytes, 1, &cells("01/10")), answer(101, 1));
+    assert_eq!(enter(&mut bytes, 1, &cells("00/11")), answer(0, 1));
+    assert_eq!(
+        terminal_enter(&mut bytes, 1, &cells("11/00")),
+        answer(101, 1)
+    );
+    assert_eq!(terminal_enter(&mut bytes, 1, &cells("00/01")), answer(9, 0));
+    let entries = [("00/11", [2]), ("01/10", [2])];
+    assert_eq!(bytes, held_register(2, 2, 1, 2, &entries));
+    assert_eq!(strike(&mut bytes, 1, &cells("10/01")), answer(0, 2));
+    assert_eq!(terminal_enter(&mut bytes, 1, &cells("00/01")), answer(9, 0));
+    assert_eq!(strike(&mut bytes, 1, &cells("10/01")), answer(0, 2));
+    assert_eq!(terminal_enter(&mut bytes, 1, &cells("00/01")), answer(0, 1));
 }
 
 #[test]
@@ -221,7 +228,7 @@ fn lists_of_both_sets_answer_as_the_machine() {
             assert_eq!(answer, call.on_machine(&mut machine), "{call:?}");
             assert_eq!(bytes, machine.bytes(), "{call:?}");
             assert!(Contents::read(&bytes).is_some());
-            if matches!(call, Call::TerminalEnter(_)) {
+            if matches!(call, Call::TerminalEnter(..)) {
                 assert_eq!(answer.number == 14, m > 5);
                 met.insert(answer.number);
             } else {
@@ -229,15 +236,16 @@ fn lists_of_both_sets_answer_as_the_machine() {
             }
         }
     }
-    assert_eq!(met, BTreeSet::from([0, 6, 7, 9, 14, 101]));
+    assert_eq!(met, BTreeSet::from([0, 6, 7, 9, 14, 15, 101]));
 }
 
 #[test]
 fn at_a_terminal_only_enter_is_another_call() {
-    let call = Call::Enter(vec![1]).at_terminal();
-    assert_eq!(call, Call::TerminalEnter(vec![1]));
+    let call = Call::Enter(3, vec![1]).at_terminal();
+    assert_eq!(call, Call::TerminalEnter(3, vec![1]));
     assert_eq!(call.name(), "terminal enter");
-    for call in [Call::Strike(vec![1]), Call::Count((vec![0], vec![1])), call] {
+    let count = Call::Count((vec![0], vec![1]));
+    for call in [Call::Strike(3, vec![1]), count, call] {
         assert_eq!(call.clone().at_terminal(), call);
     }
 }

@@ -83,16 +83,30 @@ static void call_on_a_register(void)
     const uint8_t zeros[4] = {0, 0, 0, 0}, ones[4] = {1, 1, 1, 1};
     print_placed("open", plan_register_open(2, 2, 1, 501, bytes, length));
     print_placed("open", plan_register_open(2, 2, 1, 1, bytes, length));
-    print_placed("enter", plan_register_enter(bytes, length, grid, 4));
-    print_placed("enter", plan_register_enter(bytes, length, grid, 4));
-    print_placed("enter", plan_register_enter(bytes, length, other, 4));
-    print_placed("enter", plan_register_enter(bytes, length, grid, 0));
+    print_placed("enter", plan_register_enter(bytes, length, 1, grid, 4));
+    print_placed("enter", plan_register_enter(bytes, length, 8, grid, 4));
+    print_placed("enter", plan_register_enter(bytes, length, 1, grid, 4));
+    print_placed("enter", plan_register_enter(bytes, length, 1, other, 4));
+    print_placed("enter", plan_register_enter(bytes, length, 1, grid, 0));
+    print_placed("enter", plan_register_enter(bytes, length, 257, grid, 4));
     fwrite(bytes, 1, length, stdout);
     print_counted("count", plan_register_count(bytes, length, zeros, 4, ones, 4));
     print_counted("count", plan_register_count(bytes, length, ones, 4, zeros, 4));
-    print_placed("strike", plan_register_strike(bytes, length - 1, grid, 4));
-    print_placed("strike", plan_register_strike(bytes, length, grid, 4));
-    print_placed("strike", plan_register_strike(bytes, length, grid, 4));
+    print_placed("strike", plan_register_strike(bytes, length - 1, 8, grid, 4));
+    print_placed("strike", plan_register_strike(bytes, length, 8, grid, 4));
+    print_placed("strike", plan_register_strike(bytes, length, 8, grid, 4));
+    print_placed("strike", plan_register_strike(bytes, length, 0, grid, 4));
+    fwrite(bytes, 1, length, stdout);
+    print_placed("strike", plan_register_strike(bytes, length, 1, grid, 4));
+    print_placed("strike", plan_register_strike(bytes, length, 1, grid, 4));
+    fwrite(bytes, 1, length, stdout);
+    print_placed("enter", plan_register_enter(bytes, length, 5, grid, 4));
+    unsigned held = 0;
+    while (plan_register_enter(bytes, length, 5, grid, 4).number == PLAN_REGISTER_HELD) {
+        held++;
+    }
+    printf("enter 101, %u times\n", held);
+    print_placed("enter", plan_register_enter(bytes, length, 5, grid, 4));
     fwrite(bytes, 1, length, stdout);
 }
 
@@ -116,14 +130,15 @@ static void call_on_registers_at_a_terminal(void)
     const size_t length = sizeof bytes;
     const uint8_t grid[4] = {1, 0, 0, 1}, other[4] = {0, 0, 1, 1}, column[6] = {0, 0, 0, 0, 0, 0};
     print_placed("open", plan_register_open(2, 2, 1, 1, bytes, length));
-    print_placed("terminal enter", plan_register_terminal_enter(bytes, length, grid, 4));
-    print_placed("enter", plan_register_enter(bytes, length, grid, 4));
-    print_placed("terminal enter", plan_register_terminal_enter(bytes, length, grid, 4));
-    print_placed("terminal enter", plan_register_terminal_enter(bytes, length, other, 4));
+    print_placed("terminal enter", plan_register_terminal_enter(bytes, length, 1, grid, 4));
+    print_placed("enter", plan_register_enter(bytes, length, 2, grid, 4));
+    print_placed("terminal enter", plan_register_terminal_enter(bytes, length, 3, grid, 4));
+    print_placed("terminal enter", plan_register_terminal_enter(bytes, length, 3, other, 4));
+    print_placed("terminal enter", plan_register_terminal_enter(bytes, length, 9, other, 4));
     fwrite(bytes, 1, length, stdout);
     print_placed("open", plan_register_open(6, 1, 1, 1, large, sizeof large));
-    print_placed("terminal enter", plan_register_terminal_enter(large, sizeof large, column, 6));
-    print_placed("enter", plan_register_enter(large, sizeof large, column, 6));
+    print_placed("terminal enter", plan_register_terminal_enter(large, sizeof large, 1, column, 6));
+    print_placed("enter", plan_register_enter(large, sizeof large, 1, column, 6));
 }
 
 int main(void)

@@ -5,7 +5,8 @@ use super::calls::{answer, check_answer};
 use super::represented;
 use reference::calls::Call;
 use reference::grid::compare;
-use reference::layout::Contents;
+use reference::holdings::{Holdings, MOST};
+use reference::layout::{Contents, Entry};
 use reference::register::Answer;
 
 pub struct Book {
@@ -22,41 +23,59 @@ impl Book {
         }
     }
 
-    /// Enters a grid that passes questions 6 and 7. Checks the answer and all bytes.
-    pub fn check_enter(&mut self, grid: &[u8]) -> Answer {
+    /// Enters a grid that passes questions 6 and 7 for a client of 1 to 8. Checks the answer and
+    /// all bytes.
+    pub fn check_enter(&mut self, client: u64, grid: &[u8]) -> Answer {
         let (representative, before, held) = self.looked_up(grid);
+        let place = before as u32 + 1;
         let answer = match held {
-            true => answer(101, before as u32 + 1),
-            false if self.contents.count() == self.contents.capacity => answer(9, 0),
-            false => answer(0, before as u32 + 1),
+            Some(holdings) if holdings.of(client) == MOST => answer(16, 0),
+            Some(holdings) => {
+                self.contents.entries[before].holdings = holdings.with_one_more(client);
+                answer(101, place)
+            }
+            None if self.contents.count() == self.contents.capacity => answer(9, 0),
+            None => {
+                let entry = Entry {
+                    grid: representative,
+                    holdings: Holdings::one_of(client),
+                };
+                self.contents.entries.insert(before, entry);
+                answer(0, place)
+            }
         };
-        if answer.number == 0 {
-            self.contents.entries.insert(before, representative);
-        }
-        self.check(&Call::Enter(grid.to_vec()), answer)
+        self.check(&Call::Enter(client, grid.to_vec()), answer)
     }
 
-    /// Strikes a grid that passes questions 6 and 7. Checks the answer and all bytes.
-    pub fn check_strike(&mut self, grid: &[u8]) -> Answer {
+    /// Strikes a grid that passes questions 6 and 7 for a client of 1 to 8. Checks the answer and
+    /// all bytes.
+    pub fn check_strike(&mut self, client: u64, grid: &[u8]) -> Answer {
         let (_, before, held) = self.looked_up(grid);
         let answer = match held {
-            true => answer(0, before as u32 + 1),
-            false => answer(10, 0),
+            Some(holdings) if holdings.of(client) > 0 => {
+                let left = holdings.with_one_less(client);
+                match left.are_all_0() {
+                    true => _ = self.contents.entries.remove(before),
+                    false => self.contents.entries[before].holdings = left,
+                }
+                answer(0, before as u32 + 1)
+            }
+            _ => answer(10, 0),
         };
-        if held {
-            self.contents.entries.remove(before);
-        }
-        self.check(&Call::Strike(grid.to_vec()), answer)
+        self.check(&Call::Strike(client, grid.to_vec()), answer)
     }
 
-    /// The grid's representative, the number of entries before it, and whether it is an entry.
-    fn looked_up(&self, grid: &[u8]) -> (Vec<u8>, usize, bool) {
+    /// The grid's representative, the number of entries before it, and its holdings if it is an
+    /// entry.
+    fn looked_up(&self, grid: &[u8]) -> (Vec<u8>, usize, Option<Holdings>) {
         let contents = &self.contents;
         let (m, n) = (contents.rows as usize, contents.columns as usize);
         let representative = represented(m, n, contents.top as u8, grid);
-        let is_before = |entry: &&Vec<u8>| compare(entry, &representative).is_lt();
+        let is_before = |entry: &&Entry| compare(&entry.grid, &representative).is_lt();
         let before = contents.entries.iter().filter(is_before).count();
-        let held = contents.entries.get(before) == Some(&representative);
+        let entry = contents.entries.get(before);
+        let entry = entry.filter(|entry| entry.grid == representative);
+        let held = entry.map(|entry| entry.holdings);
         (representative, before, held)
     }
 

@@ -5,14 +5,16 @@ use plan_register::{count, enter, open, strike, terminal_enter, Counted, Placed}
 use reference::calls::Call;
 use reference::forms::Form;
 use reference::grid::compare;
-use reference::layout::Contents;
+use reference::holdings::Holdings;
+use reference::layout::{Contents, Entry};
+use reference::lists::drawn_holdings;
 use reference::random::Random;
 use reference::register::Answer;
 use std::collections::BTreeSet;
 
 /// The bytes of a register that the library opened.
 pub fn opened(m: usize, n: usize, top: u8, capacity: usize) -> Vec<u8> {
-    let mut lent = Lent::sentinels(31 + capacity * (3 * m * n + 1));
+    let mut lent = Lent::sentinels(31 + capacity * (3 * m * n + 25));
     let answer = placed(open(m, n, top.into(), capacity, lent.slice_mut()));
     assert_eq!(answer, self::answer(0, 0));
     let register = lent.slice().to_vec();
@@ -39,10 +41,12 @@ pub fn check_count(register: &[u8], form: &Form) -> Answer {
 /// Makes the call by the library alone.
 pub fn made(register: &mut [u8], call: &Call) -> Answer {
     match call {
-        Call::Enter(grid) => placed(enter(register, grid)),
-        Call::Strike(grid) => placed(strike(register, grid)),
+        Call::Enter(client, grid) => placed(enter(register, *client as usize, grid)),
+        Call::Strike(client, grid) => placed(strike(register, *client as usize, grid)),
         Call::Count((low, high)) => counted(count(register, low, high)),
-        Call::TerminalEnter(grid) => placed(terminal_enter(register, grid)),
+        Call::TerminalEnter(client, grid) => {
+            placed(terminal_enter(register, *client as usize, grid))
+        }
     }
 }
 
@@ -51,14 +55,18 @@ pub fn made(register: &mut [u8], call: &Call) -> Answer {
 pub fn check_answer(register: &[u8], call: &Call, answer: Answer, left: &[u8]) {
     let mut lent = Lent::holding(register);
     let found = match call {
-        Call::Enter(grid) => placed(lending(grid, |grid| enter(lent.slice_mut(), grid))),
-        Call::Strike(grid) => placed(lending(grid, |grid| strike(lent.slice_mut(), grid))),
+        Call::Enter(client, grid) => placed(lending(grid, |grid| {
+            enter(lent.slice_mut(), *client as usize, grid)
+        })),
+        Call::Strike(client, grid) => placed(lending(grid, |grid| {
+            strike(lent.slice_mut(), *client as usize, grid)
+        })),
         Call::Count((low, high)) => counted(lending(low, |low| {
             lending(high, |high| count(lent.slice(), low, high))
         })),
-        Call::TerminalEnter(grid) => {
-            placed(lending(grid, |grid| terminal_enter(lent.slice_mut(), grid)))
-        }
+        Call::TerminalEnter(client, grid) => placed(lending(grid, |grid| {
+            terminal_enter(lent.slice_mut(), *client as usize, grid)
+        })),
     };
     assert_eq!(found, answer, "{call:?} on\n{}", beginning(register));
     lent.check(left);
@@ -95,18 +103,29 @@ fn beginning(register: &[u8]) -> String {
     String::from_utf8_lossy(&register[..register.len().min(500)]).into_owned()
 }
 
-/// What a register holds with these entries, which are sorted, and each kept once.
-pub fn holding(m: usize, n: usize, top: u8, capacity: usize, entries: &[Vec<u8>]) -> Contents {
-    let mut entries: Vec<Vec<u8>> = entries.to_vec();
-    entries.sort_by(|a, b| compare(a, b));
-    entries.dedup();
+/// What a register holds with these grids, which are sorted, and each kept once. Client 1 holds one
+/// of each.
+pub fn holding(m: usize, n: usize, top: u8, capacity: usize, grids: &[Vec<u8>]) -> Contents {
+    let mut grids: Vec<Vec<u8>> = grids.to_vec();
+    grids.sort_by(|a, b| compare(a, b));
+    grids.dedup();
+    let holdings = Holdings::one_of(1);
+    let entries = grids.into_iter().map(|grid| Entry { grid, holdings });
     Contents {
         rows: m as u64,
         columns: n as u64,
         top: top.into(),
         capacity: capacity as u64,
-        entries,
+        entries: entries.collect(),
     }
+}
+
+/// The same entries with holdings that are drawn.
+pub fn with_drawn_holdings(random: &mut Random, mut contents: Contents) -> Contents {
+    for entry in &mut contents.entries {
+        entry.holdings = drawn_holdings(random);
+    }
+    contents
 }
 
 /// So many distinct grids, ascending: no more than there are.

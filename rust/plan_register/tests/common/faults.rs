@@ -2,6 +2,7 @@
 
 use super::calls::{answer, check_answer, check_call};
 use reference::calls::Call;
+use reference::holdings::Holdings;
 use reference::layout::Contents;
 
 /// Every set of the questions, with the number that a call answers which fails these: the
@@ -19,6 +20,33 @@ pub fn sets_of<const N: usize>(questions: [u32; N], passed: u32) -> Vec<(Vec<u32
     (0..1 << questions.len()).map(set).map(with_first).collect()
 }
 
+/// Those of the sets that an enter can fail: a class that fails 9 is held by nobody, so that it
+/// cannot fail 16.
+pub fn sets_of_enter<const N: usize>(questions: [u32; N]) -> Vec<(Vec<u32>, u32)> {
+    let both = |failed: &[u32]| failed.contains(&9) && failed.contains(&16);
+    let sets = sets_of(questions, 101).into_iter();
+    sets.filter(|(failed, _)| !both(failed)).collect()
+}
+
+/// Client 2, or numbers that are no client's where 15 is to fail: next to the limits, and those
+/// whose low 8, 16 or 32 bits alone would pass.
+pub fn clients(failed: &[u32]) -> Vec<u64> {
+    match failed.contains(&15) {
+        true => vec![0, 9, 257, (1 << 16) + 2, (1 << 32) + 2, u64::MAX],
+        false => vec![2],
+    }
+}
+
+/// Client 2's holding: 999 where 16 is to fail, none where 10 is. Client 3 holds one in any case.
+pub fn holdings(failed: &[u32]) -> Holdings {
+    let of_client_2 = match (failed.contains(&16), failed.contains(&10)) {
+        (true, _) => 999,
+        (_, true) => 0,
+        _ => 5,
+    };
+    Holdings([0, of_client_2, 1, 0, 0, 0, 0, 0])
+}
+
 /// The register with these contents, two entries at least with top below 10 and a cell above 1;
 /// damaged in several ways where 5 is to fail.
 pub fn registers(failed: &[u32], contents: &Contents) -> Vec<Vec<u8>> {
@@ -28,6 +56,11 @@ pub fn registers(failed: &[u32], contents: &Contents) -> Vec<Vec<u8>> {
     }
     let mut descending = contents.clone();
     descending.entries.reverse();
+    let mut held_by_nobody = contents.clone();
+    held_by_nobody.entries[1].holdings = Holdings::default();
+    let mut without_holdings = bytes.clone();
+    let first_line = 31 + 3 * (contents.rows * contents.columns) as usize;
+    without_holdings[first_line..first_line + 24].fill(b' ');
     let with = |place: usize, digit: u8| {
         let mut bytes = bytes.clone();
         bytes[place] = digit;
@@ -42,6 +75,8 @@ pub fn registers(failed: &[u32], contents: &Contents) -> Vec<Vec<u8>> {
         shorter,
         longer,
         descending.bytes(),
+        held_by_nobody.bytes(),
+        without_holdings,
         top_1,
         no_top,
         other_rows,
@@ -79,7 +114,8 @@ pub fn slices(failed: &[u32], grid: &[u8]) -> Vec<Vec<u8>> {
     slices
 }
 
-/// Checks that the call answers this number on the register and, unless that is 0, changes nothing.
+/// Checks that the call answers this number on the register and, where that is a refusal, changes
+/// nothing.
 pub fn check(register: &[u8], call: &Call, number: u32) {
     if number == 0 || number == 101 {
         let found = check_call(&mut register.to_vec(), call);

@@ -94,22 +94,22 @@ impl Met {
 }
 
 /// The register that an open with this capacity and then so many enters, enters at a terminal and
-/// strikes leave.
+/// strikes of two clients leave.
 pub fn reached(random: &mut Random, pool: &Pool, capacity: usize, calls: usize) -> Vec<u8> {
     let mut register = opened(pool.m, pool.n, pool.top, capacity);
     for _ in 0..calls {
-        let grid = pool.grid(random);
+        let (client, grid) = (random.between(1, 2), pool.grid(random));
         let call = match random.below(4) {
-            0 => Call::Strike(grid),
-            1 => Call::TerminalEnter(grid),
-            _ => Call::Enter(grid),
+            0 => Call::Strike(client, grid),
+            1 => Call::TerminalEnter(client, grid),
+            _ => Call::Enter(client, grid),
         };
         made(&mut register, &call);
     }
     register
 }
 
-/// The register's entries.
+/// The grids of the register's entries.
 pub fn entries(register: &[u8]) -> Vec<Vec<u8>> {
-    Contents::read(register).expect("it is a register").entries
+    Contents::read(register).expect("it is a register").grids()
 }

@@ -25,10 +25,10 @@ fn check_with(bytes: &[u8], grid: &[u8]) -> bool {
     let is_register = Contents::read(bytes).is_some();
     let grid = || grid.to_vec();
     for call in [
-        Call::Enter(grid()),
-        Call::Strike(grid()),
+        Call::Enter(1, grid()),
+        Call::Strike(1, grid()),
         Call::Count((grid(), grid())),
-        Call::TerminalEnter(grid()),
+        Call::TerminalEnter(1, grid()),
     ] {
         let number = check_call(&mut bytes.to_vec(), &call).number;
         assert_eq!(number == 5, !is_register);

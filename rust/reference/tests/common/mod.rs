@@ -3,7 +3,7 @@
 
 pub mod faults;
 
-pub use reference::examples::{cells, every_grid, plan, register, shapes_up_to};
+pub use reference::examples::{cells, every_grid, held_register, plan, register, shapes_up_to};
 use reference::layout::register_length;
 
 /// The bounds of a form that is written as one (low, high) for each cell.

@@ -3,6 +3,7 @@ use native.Mathlib.Omega.{arith}
 use borrow.Author.Needs.{needs}
 use lib.ListN.{length}
 use Rattle.layout.specs.Layout.{lineLength, entryLine}
+use Rattle.layout.specs.Lines.{firstEntry}
 use Rattle.lines.proofs.LineLaws.{inserted}
 use Rattle.lines.proofs.entries.insert_line.Statement.{statement}
 use Rattle.lines.proofs.entries.insert_line.Tie as tie
@@ -22,7 +23,7 @@ same-length c = search needs
 returns : tie.Need-returns
 returns c =
     let a = c .before .before .before .before .before .before .before .before .before .before .before .args in
-    inserted (a .part .now) (entryLine (a .grid .now)) (a .moved) (lineLength (length (a .grid .now))) (c .before .before .before .before .before .before .before .before .line-length .ensures .0) (c .before .before .before .before .before .before .move-on .ensures) (c .before .before .write-line .ensures) (omega arith)
+    inserted (a .part .now) (entryLine (firstEntry (a .client) (a .grid .now))) (a .moved) (lineLength (length (a .grid .now))) (c .before .before .before .before .before .before .before .before .line-length .ensures .0) (c .before .before .before .before .before .before .move-on .ensures) (c .before .before .write-line .ensures) (omega arith)
 
 pub insert-line-spec : {M : Type 1} → statement M
 insert-line-spec =

@@ -11,9 +11,9 @@ use Rattle.lines.proofs.entries.register_length.Tie as tie
 line-length-requires : tie.Need-line-length-requires
 line-length-requires c κs = search needs
 
--- at most 500 lines of at most 385 bytes
-small : (c : tie.After-line-length) → c .before .args .capacity * c .line-length .result ≤ 192500
-small c = mul-le-mul {n₁ = c .before .args .capacity} {m₁ = c .line-length .result} {n₂ = 500} {m₂ = 385} (c .before .pre .1) (c .line-length .ensures .1)
+-- at most 500 lines of at most 409 bytes
+small : (c : tie.After-line-length) → c .before .args .capacity * c .line-length .result ≤ 204500
+small c = mul-le-mul {n₁ = c .before .args .capacity} {m₁ = c .line-length .result} {n₂ = 500} {m₂ = 409} (c .before .pre .1) (c .line-length .ensures .1)
 
 mul-result : tie.Need-mul-result
 mul-result c = omega (arith, small c)

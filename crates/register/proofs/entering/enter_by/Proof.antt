@@ -7,29 +7,25 @@ use Rattle.register.proofs.entering.enter_by.Tie as tie
 
 returns : tie.Need-returns
 returns c =
-    let a = c .before .before .before .before .before .before .before .before .before in
-    let k = c .before .before .before .before .ask in
-    call-refused (k .ensures) (enteredLeast (a .args .register .now)) (entered-by (a .args .terminal) (a .args .register .now) (a .args .grid .now)) (c .before .if1 .taken) (c .refused .ensures .0) (c .refused .ensures .1)
+    let a = c .before .before .before .before .before .before .before .before .before .args in
+    call-refused (c .before .before .before .before .ask .ensures) (enteredLeast (a .register .now) (a .client)) (entered-by (a .terminal) (a .register .now) (a .client) (a .grid .now)) (c .before .if1 .taken) (c .refused .ensures .0) (c .refused .ensures .1)
 
 part-enter-least-end : tie.Need-part-enter-least-end
-part-enter-least-end c =
-    let k = c .before .before .before .before .before .ask in
-    asked-fits (k .ensures) (c .before .before .if1 .left)
+part-enter-least-end c = asked-fits (c .before .before .before .before .before .ask .ensures) (c .before .before .if1 .left)
 
 enter-least-requires : tie.Need-enter-least-requires
 enter-least-requires c κs =
     let k = c .before .before .before .before .before .before .ask in
     let z = c .before .before .before .if1 .left in
-    (asked-valid (k .ensures) z, k .ensures .capacity-is z)
+    (asked-valid (k .ensures) z, k .ensures .capacity-is z, k .ensures .client-is z .0, k .ensures .client-is z .1)
 
 same-length-2 : tie.Need-same-length-2
 same-length-2 c = search needs
 
 returns-2 : tie.Need-returns-2
 returns-2 c =
-    let a = c .before .before .before .before .before .before .before .before .before .before .before .before .before .before in
-    let k = c .before .before .before .before .before .before .before .before .before .ask in
-    call-least (k .ensures) (enteredLeast (a .args .register .now)) (entered-by (a .args .terminal) (a .args .register .now) (a .args .grid .now)) (c .before .before .before .before .before .before .if1 .left) (c .before .before .enter-least .ensures)
+    let a = c .before .before .before .before .before .before .before .before .before .before .before .before .before .before .args in
+    call-least (c .before .before .before .before .before .before .before .before .before .ask .ensures) (enteredLeast (a .register .now) (a .client)) (entered-by (a .terminal) (a .register .now) (a .client) (a .grid .now)) (c .before .before .before .before .before .before .if1 .left) (c .before .before .enter-least .ensures)
 
 pub enter-by-spec : {M : Type 1} → statement M
 enter-by-spec =

@@ -1,7 +1,9 @@
 -- `halved` meets its contract: the entry in the middle says in which half the place is.
 use native.Mathlib.Omega.{arith}
+use lib.ListN.{length-map}
 use borrow.Author.Needs.{needs}
 use Rattle.grids.proofs.ComparisonLaws.{less-yes, less-no}
+use Rattle.layout.specs.Layout.{Entry, decode}
 use Rattle.machine.proofs.ValidLaws.{valid-ascends, valid-count}
 use Rattle.register.proofs.PlaceSteps.{halved-low, halved-high}
 use Rattle.register.proofs.places.halved.Statement.{statement}
@@ -16,7 +18,7 @@ add-middle c = search needs
 compare-entry-requires : tie.Need-compare-entry-requires
 compare-entry-requires c κs =
     let a = c .before .before .before .before in
-    (a .pre .0, omega (arith, a .pre .2, a .pre .1 .within, valid-count (a .pre .0)))
+    (a .pre .0, omega (arith, a .pre .2, a .pre .1 .within, length-map (decode (a .args .register .now) .entries) (λ (x : Entry). x .grid), valid-count (a .pre .0)))
 
 add-t10 : tie.Need-add-t10
 add-t10 c = search needs

@@ -3,7 +3,7 @@ use mathlib.Core.Path.{_∙_}
 use native.Mathlib.Omega.{arith}
 use borrow.Author.Needs.{needs}
 use Rattle.permutations.proofs.ListLaws.{part-length}
-use Rattle.transcript.proofs.CallSteps.{answer-malformed, answer-made}
+use Rattle.transcript.proofs.CallSteps.{lead-room, answer-malformed, answer-made}
 use Rattle.transcript.proofs.answers.answer_line.Statement.{statement}
 use Rattle.transcript.proofs.answers.answer_line.Tie as tie
 
@@ -18,6 +18,9 @@ returns c =
     let a = c .before .before .before .before .before .before in
     answer-malformed _ _ _ (c .before .before .read-command .ensures) (a .args .register .now) (c .if1 .taken)
 
+read-client-requires : tie.Need-read-client-requires
+read-client-requires c κs = lead-room (c .before .before .read-command .ensures) (c .if1 .left)
+
 cell-count-requires : tie.Need-cell-count-requires
 cell-count-requires c κs = search needs
 
@@ -26,8 +29,8 @@ part-make-call-end c = search needs
 
 make-call-requires : tie.Need-make-call-requires
 make-call-requires c κs =
-    let a = c .before .before .before .before .before .before .before .before .before .before in
-    let r = c .before .before .before .before .before .before .read-command in
+    let a = c .before .before .before .before .before .before .before .before .before .before .before in
+    let r = c .before .before .before .before .before .before .before .read-command in
     let n = c .before .before .before .cell-count in
     (a .pre, omega arith, r .ensures .small, part-length (r .last .1 .1 .0) (n .result) (omega (arith, r .ensures .kept, n .ensures .1)) ∙ n .ensures .0)
 
@@ -36,9 +39,10 @@ same-length c = search needs
 
 returns-2 : tie.Need-returns-2
 returns-2 c =
-    let a = c .before .before .before .before .before .before .before .before .before .before .before .before .before in
-    answer-made _ _ _ (c .before .before .before .before .before .before .before .before .before .read-command .ensures) (a .args .register .now) (c .before .before .before .before .before .before .before .if1 .left) (c .before .before .before .before .before .before .cell-count .ensures .0) (c .before .before .make-call .ensures)
+    let e = c .before .before .before .before .before .before .before .before in
+    let a = e .before .before .before .before .before .before in
+    answer-made _ _ _ (e .before .before .read-command .ensures) (a .args .register .now) (e .if1 .left) (c .before .before .before .before .before .before .cell-count .ensures .0) (c .before .before .before .before .before .before .before .read-client .ensures) (c .before .before .make-call .ensures)
 
 pub answer-line-spec : {M : Type 1} → statement M
 answer-line-spec =
-    tie.close (search (tie.spec, mul-size, read-command-requires, returns, cell-count-requires, part-make-call-end, make-call-requires, same-length, returns-2, needs))
+    tie.close (search (tie.spec, mul-size, read-command-requires, returns, read-client-requires, cell-count-requires, part-make-call-end, make-call-requires, same-length, returns-2, needs))

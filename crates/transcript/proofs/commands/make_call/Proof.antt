@@ -10,13 +10,13 @@ same-length : tie.Need-same-length
 same-length c = search needs
 
 returns : tie.Need-returns
-returns c = c .before .before .enter .ensures ∙ sym (enter-of _ _ _ _ _ (c .before .before .before .before .if1 .taken))
+returns c = c .before .before .enter .ensures ∙ sym (enter-of _ _ _ _ _ _ (c .before .before .before .before .if1 .taken))
 
 same-length-2 : tie.Need-same-length-2
 same-length-2 c = search needs
 
 returns-2 : tie.Need-returns-2
-returns-2 c = c .before .before .strike .ensures ∙ sym (strike-of _ _ _ _ _ (c .before .before .before .before .if2 .taken))
+returns-2 c = c .before .before .strike .ensures ∙ sym (strike-of _ _ _ _ _ _ (c .before .before .before .before .if2 .taken))
 
 count-pruned-requires : tie.Need-count-pruned-requires
 count-pruned-requires c κs =
@@ -29,7 +29,7 @@ same-length-3 c = search needs
 returns-3 : tie.Need-returns-3
 returns-3 c =
     let a = c .before .before .before .before .before .before in
-    c .count-pruned .ensures ∙ sym (bounds-of (a .args .m) (a .args .n) (a .args .top) {k = a .args .command} (a .args .register .now) (a .args .cells .now) (omega arith))
+    c .count-pruned .ensures ∙ sym (bounds-of (a .args .m) (a .args .n) (a .args .top) {k = a .args .command} (a .args .client) (a .args .register .now) (a .args .cells .now) (omega arith))
 
 pub make-call-spec : {M : Type 1} → statement M
 make-call-spec = tie.close (search (tie.spec, same-length, returns, same-length-2, returns-2, count-pruned-requires, same-length-3, returns-3, needs))

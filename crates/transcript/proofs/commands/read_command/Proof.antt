@@ -4,7 +4,7 @@ use native.Mathlib.Omega.{arith}
 use borrow.Author.Needs.{needs}
 use borrow.Author.Tests.{not-true, not-false}
 use Rattle.protocol.specs.Input.{commandIn}
-use Rattle.transcript.proofs.CommandLaws.{laid-some, laid-range, laid-parts, laid-whole, field-no, cells-no, kept-length, command-refused, command-read}
+use Rattle.transcript.proofs.CommandLaws.{laid-some, laid-range, laid-parts, laid-whole, lead-no, cells-no, kept-length, command-refused, command-read}
 use Rattle.transcript.proofs.commands.read_command.Statement.{statement}
 use Rattle.transcript.proofs.commands.read_command.Tie as tie
 
@@ -43,10 +43,10 @@ add-if4 c = search needs
 returns-4 : tie.Need-returns-4
 unfolding commandIn
 returns-4 c =
-    let a = c .before .before .before .before .before .before .before .before in
-    let k = c .before .before .before .before .six-wide .ensures .0 in
-    let n = c .before .cell-count .ensures .0 in
-    command-refused (a .args .size) (a .args .line .now) (λ t. c .if4 .taken (laid-whole (a .args .size) (a .args .line .now) k n t)) (a .pre .1)
+    let l = c .before .before in
+    let s = l .before .before .before in
+    let a = s .before .before .before .before in
+    command-refused (a .args .size) (a .args .line .now) (λ t. c .if4 .taken (laid-whole (a .args .size) (a .args .line .now) (s .six-wide .ensures .0) (l .lead-length .ensures .0) (c .before .cell-count .ensures .0) t)) (a .pre .1)
 
 shared-slice-read-if5 : tie.Need-shared-slice-read-if5
 shared-slice-read-if5 c = search needs
@@ -54,25 +54,26 @@ shared-slice-read-if5 c = search needs
 returns-5 : tie.Need-returns-5
 unfolding commandIn
 returns-5 c =
-    let a = c .before .before .before .before .before .before .before .before .before .before in
-    let k = c .before .before .before .before .before .before .six-wide .ensures .0 in
-    let n = c .before .before .before .cell-count .ensures .0 in
-    command-refused (a .args .size) (a .args .line .now) (λ t. c .if5 .taken (laid-parts (a .args .size) (a .args .line .now) k n t .feed)) (a .pre .1)
+    let n = c .before .before .before in
+    let l = n .before in
+    let s = l .before .before .before in
+    let a = s .before .before .before .before in
+    command-refused (a .args .size) (a .args .line .now) (λ t. c .if5 .taken (laid-parts (a .args .size) (a .args .line .now) (s .six-wide .ensures .0) (l .lead-length .ensures .0) (n .cell-count .ensures .0) t .feed)) (a .pre .1)
 
-part-is-field-end : tie.Need-part-is-field-end
-part-is-field-end c = search needs
-
-is-field-requires : tie.Need-is-field-requires
-is-field-requires c κs = search needs
+lead-laid-requires : tie.Need-lead-laid-requires
+lead-laid-requires c κs =
+    let n = c .before .before .before in
+    omega (arith, n .before .lead-length .ensures .0, c .before .before .if4 .left)
 
 returns-6 : tie.Need-returns-6
 unfolding commandIn
 returns-6 c =
-    let a = c .before .before .before .before .before .before .before .before .before .before .before .before .before in
-    let k = c .before .before .before .before .before .before .before .before .before .six-wide .ensures .0 in
-    let n = c .before .before .before .before .before .before .cell-count .ensures .0 in
-    let f = c .before .is-field in
-    command-refused (a .args .size) (a .args .line .now) (field-no (a .args .size) (a .args .line .now) k n (f .ensures) (not-true (f .result) (c .if6 .taken))) (a .pre .1)
+    let n = c .before .before .before .before .before in
+    let l = n .before in
+    let s = l .before .before .before in
+    let a = s .before .before .before .before in
+    let f = c .before .lead-laid in
+    command-refused (a .args .size) (a .args .line .now) (lead-no (a .args .size) (a .args .line .now) (s .six-wide .ensures .0) (l .lead-length .ensures .0) (n .cell-count .ensures .0) (f .ensures) (not-true (f .result) (c .if6 .taken))) (a .pre .1)
 
 sub-read-cells : tie.Need-sub-read-cells
 sub-read-cells c = search needs
@@ -95,11 +96,13 @@ same-length c = search needs
 returns-7 : tie.Need-returns-7
 unfolding commandIn
 returns-7 c =
-    let a = c .before .before .before .before .before .before .before .before .before .before .before .before .before .before .before .before .before .before .before in
-    let k = c .before .before .before .before .before .before .before .before .before .before .before .before .before .before .before .six-wide .ensures .0 in
-    let n = c .before .before .before .before .before .before .before .before .before .before .before .before .cell-count .ensures .0 in
+    let n = c .before .before .before .before .before .before .before .before .before .before .before in
+    let l = n .before in
+    let s = l .before .before .before in
+    let a = s .before .before .before .before in
     let r = c .before .before .before .read-cells in
-    command-refused (a .args .size) (a .args .line .now) (cells-no (a .args .size) (a .args .line .now) k n (a .args .cells .now) (r .last .1 .0) (omega arith) (r .ensures) (not-true (r .result) (c .if7 .taken))) (kept-length (a .args .size) (a .args .line .now) k n (a .args .cells .now) (r .last .1 .0) (omega arith) (r .ensures) ∙ a .pre .1)
+    let k = s .six-wide .ensures .0 in
+    command-refused (a .args .size) (a .args .line .now) (cells-no (a .args .size) (a .args .line .now) k (l .lead-length .ensures .0) (n .cell-count .ensures .0) (a .args .cells .now) (r .last .1 .0) (omega arith) (r .ensures) (not-true (r .result) (c .if7 .taken))) (kept-length (a .args .size) (a .args .line .now) k (l .lead-length .ensures .0) (n .cell-count .ensures .0) (a .args .cells .now) (r .last .1 .0) (omega arith) (r .ensures) ∙ a .pre .1)
 
 same-length-2 : tie.Need-same-length-2
 same-length-2 c = search needs
@@ -107,13 +110,15 @@ same-length-2 c = search needs
 returns-8 : tie.Need-returns-8
 unfolding commandIn
 returns-8 c =
-    let a = c .before .before .before .before .before .before .before .before .before .before .before .before .before .before .before .before .before .before .before in
-    let k = c .before .before .before .before .before .before .before .before .before .before .before .before .before .before .before .six-wide .ensures .0 in
-    let n = c .before .before .before .before .before .before .before .before .before .before .before .before .cell-count .ensures .0 in
-    let f = c .before .before .before .before .before .before .before .is-field in
+    let e = c .before .before .before .before .before .before in
+    let n = e .before .before .before .before .before in
+    let l = n .before in
+    let s = l .before .before .before in
+    let a = s .before .before .before .before in
+    let f = e .before .lead-laid in
     let r = c .before .before .before .read-cells in
-    command-read (a .args .size) (a .args .line .now) k n (a .args .cells .now) (r .last .1 .0) (omega arith) (r .ensures) (omega arith, omega arith) (c .before .before .before .before .before .before .before .before .before .before .before .if4 .left) (c .before .before .before .before .before .before .before .before .before .if5 .left) (f .ensures .0 (not-false (f .result) (c .before .before .before .before .before .before .if6 .left))) (not-false (r .result) (c .if7 .left)) (a .pre .1)
+    command-read (a .args .size) (a .args .line .now) (s .six-wide .ensures .0) (l .lead-length .ensures .0) (n .cell-count .ensures .0) (a .args .cells .now) (r .last .1 .0) (omega arith) (r .ensures) (omega arith, omega arith) (e .before .before .before .before .if4 .left) (e .before .before .if5 .left) (f .ensures .0 (not-false (f .result) (e .if6 .left))) (not-false (r .result) (c .if7 .left)) (a .pre .1)
 
 pub read-command-spec : {M : Type 1} → statement M
 read-command-spec {M} =
-    tie.close (search (tie.spec {M = M} returns six-wide-requires returns-2 returns-3 cell-count-requires mul-end add-end add-if4 returns-4 shared-slice-read-if5 returns-5, part-is-field-end, is-field-requires, returns-6, sub-read-cells, part-read-cells-start, part-read-cells-end, part-read-cells-end-2, read-cells-requires, same-length, returns-7, same-length-2, returns-8, needs))
+    tie.close (search (tie.spec {M = M} returns six-wide-requires returns-2 returns-3, cell-count-requires, mul-end, add-end, add-if4, returns-4, shared-slice-read-if5, returns-5, lead-laid-requires, returns-6, sub-read-cells, part-read-cells-start, part-read-cells-end, part-read-cells-end-2, read-cells-requires, same-length, returns-7, same-length-2, returns-8, needs))

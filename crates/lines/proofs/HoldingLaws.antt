@@ -1,0 +1,74 @@
+-- The holdings of an entry's line, read by client.
+--
+--   holding-inside        ==  a holding's three bytes are inside the line
+--   holding-stated        ==  what they state is the client's holding
+--   length-after          ==  where one is changed, there is still one for each client
+--   after-own, after-other  ==  the changed one, and another's
+--   NoneTo c h            ==  no client before c holds anything
+--   none-first, none-next, none-all  ==  before the first one; one client more; all of them
+--   one-held              ==  a client holds something
+use mathlib.Core.Path.{_≡_, sym, ap, _∙_}
+use mathlib.Core.List.{List}
+use mathlib.Core.Bool.{true, false}
+use Prim.Native.Nat.{ℕ, _+_, _-_, _*_, _≤_, _<_}
+use native.Mathlib.Decide.{decLt}
+use native.Mathlib.Omega.{arith}
+use lib.ListN.{length, getD, length-set}
+use lib.Seq.{getD-set-same, getD-set-other}
+use lib.Dec.{ltb}
+use borrow.Author.Tests.{ltb-true, lt-ltb}
+use Rattle.permutations.proofs.BoolLaws.{bool-ext}
+use Rattle.permutations.proofs.ListLaws.{some-at, at-some, mem-at, of-mem}
+use Rattle.layout.specs.Layout.{clients, entryWidth, lineLength, numberAt, holdingsOf, holding, changed, someHeld}
+use Rattle.layout.proofs.LineLaws.{length-holdings, holding-at}
+
+pub holding-inside : (size c : ℕ) → 1 ≤ c → c ≤ clients → 3 * (size + (c - 1)) + 3 ≤ lineLength size
+unfolding lineLength entryWidth
+holding-inside size c a b = omega arith
+
+pub holding-stated : (size : ℕ) (l : List ℕ) (c : ℕ) {x : ℕ} → 1 ≤ c → c ≤ clients → x ≡ numberAt 3 (3 * (size + (c - 1))) l → x ≡ holding c (holdingsOf size l)
+unfolding holding
+holding-stated size l c a b e = e ∙ sym (holding-at size l (c - 1) (omega arith))
+
+pub length-after : (size : ℕ) (l : List ℕ) (c x : ℕ) → length (changed c x (holdingsOf size l)) ≡ clients
+unfolding changed
+length-after size l c x = length-set (holdingsOf size l) (c - 1) x ∙ length-holdings size l
+
+pub after-own : (size : ℕ) (l : List ℕ) (c d x : ℕ) → 1 ≤ c → c ≤ clients → d ≡ c → x ≡ holding d (changed c x (holdingsOf size l))
+unfolding holding changed
+after-own size l c d x a b e = rw e (sym (getD-set-same (holdingsOf size l) (c - 1) x 0 (omega (arith, length-holdings size l))))
+
+pub after-other : (h : List ℕ) (c d x : ℕ) {y : ℕ} → 1 ≤ c → 1 ≤ d → (d ≡ c → ⊥) → y ≡ holding d h → y ≡ holding d (changed c x h)
+unfolding holding changed
+after-other h c d x a b n e = e ∙ sym (getD-set-other h (c - 1) (d - 1) x 0 (λ q. n (omega arith)))
+
+-- ---- whether anyone holds something
+
+pub record NoneTo (c : ℕ) (h : List ℕ) : Type 0 where
+  pub none : (k : ℕ) → k + 1 < c → getD h k 0 ≡ 0
+
+pub none-first : (h : List ℕ) → NoneTo 1 h
+none-first h = record { none = λ k b. absurd (omega arith) }
+
+pub none-next : {c : ℕ} {h : List ℕ} (x : ℕ) → NoneTo c h → x ≡ holding c h → x ≤ 0 → NoneTo (c + 1) h
+unfolding holding
+none-next {c} {h} x n e z = record { none = λ k b. go k b (decLt (k + 1) c) }
+  where
+    go : (k : ℕ) → k + 1 < c + 1 → Dec (k + 1 < c) → getD h k 0 ≡ 0
+    go k b (yes l) = n .none k l
+    go k b (no l) =
+        let i : k ≡ c - 1 = omega arith in
+        let y : x ≡ 0 = omega arith in
+        ap (λ (j : ℕ). getD h j 0) i ∙ sym e ∙ y
+
+pub none-all : {c : ℕ} {h : List ℕ} → NoneTo c h → clients < c → length h ≡ clients → false ≡ someHeld h
+unfolding someHeld
+none-all {c} {h} n b l = bool-ext false (someHeld h) (λ f. cc) λ t.
+    let s = some-at (λ x. ltb 0 x) h t in
+    let m = of-mem h 0 (s .0) (s .1) in
+    absurd (omega (arith, m .1, m .2, n .none (m .0) (omega (arith, m .1)), ltb-true 0 (s .0) (s .2)))
+
+pub one-held : (h : List ℕ) (c : ℕ) {x : ℕ} → x ≡ holding c h → 0 < x → 1 ≤ c → c ≤ clients → length h ≡ clients → true ≡ someHeld h
+unfolding someHeld holding
+one-held h c {x} e p a b l =
+    sym (at-some (λ x. ltb 0 x) h (getD h (c - 1) 0) (mem-at h 0 (c - 1) (omega arith)) (lt-ltb 0 (getD h (c - 1) 0) (omega arith)))

@@ -1,0 +1,29 @@
+-- `strike_held` meets its contract: the client holds none, or its holding goes down.
+use mathlib.Core.Path.{refl}
+use native.Mathlib.Omega.{arith}
+use borrow.Author.Needs.{needs}
+use Rattle.machine.proofs.ValidSteps.{strike-zero, strike-held}
+use Rattle.register.proofs.SoughtSteps.{small}
+use Rattle.register.proofs.striking.strike_held.Statement.{statement}
+use Rattle.register.proofs.striking.strike_held.Tie as tie
+
+returns : tie.Need-returns
+returns c =
+    let s = c .before .before .before .before .before .before .pre in
+    rw (c .refused .ensures .0, c .refused .ensures .1) (strike-zero (s .valid) (s .lower) (s .found) refl _ (c .before .before .holding .ensures) (c .before .if1 .taken))
+
+cast-t14 : tie.Need-cast-t14
+cast-t14 c = omega (arith, small (c .before .before .before .before .before .before .before .before .before .pre))
+
+add-t15 : tie.Need-add-t15
+add-t15 c = omega (arith, small (c .before .before .before .before .before .before .before .before .before .pre))
+
+returns-2 : tie.Need-returns-2
+returns-2 c =
+    let s = c .before .before .before .before .before .before .before .before .before .pre in
+    strike-held (s .valid) (s .lower) (s .found) refl _ (c .before .before .before .before .before .holding .ensures) (omega arith) (c .before .before .hold .ensures)
+
+pub strike-held-spec : {M : Type 1} → statement M
+strike-held-spec =
+    tie.close
+    (tie.spec (λ c κs. c .before .before .before .pre) (λ c κs. search needs) (λ c. search needs) returns (λ c. search needs) (λ c κs. c .before .before .before .before .before .before .pre) cast-t14 add-t15 (λ c. search needs) returns-2)
