@@ -7,7 +7,7 @@
 --   Justified x s               ==  s is spaces and then digits, some unless x is 0, of which the first is no 0
 --   justified-field, zero-field ==  a field is spaces and then digits of which the first is no 0; for zero, spaces and one 0
 use mathlib.Core.Path.{_≡_, refl, sym, ap, _∙_}
-use mathlib.Core.List.{List, [], _∷_, _++_, append-assoc}
+use mathlib.Core.List.{List, [], _∷_, _++_, append-assoc, append-nil}
 use Prim.Native.Nat.{ℕ, zero, suc, _+_, _-_, _*_, _/_, _%_, _^_, _≤_, _<_}
 use native.Mathlib.Nat.{div-lt-iff-lt-mul, pow-suc, div-add-mod', mod-lt}
 use native.Mathlib.Omega.{arith}
@@ -86,10 +86,6 @@ pub record Justified (x : ℕ) (s : List ℕ) : Type 0 where
 spaces-snoc : (k : ℕ) → _≡_ {A = List ℕ} (replicate k 32 ++ (32 ∷ [])) (replicate (suc k) 32)
 spaces-snoc zero = refl
 spaces-snoc (suc k) = ap (λ (l : List ℕ). 32 ∷ l) (spaces-snoc k)
-
-append-nil : (l : List ℕ) → l ++ [] ≡ l
-append-nil [] = refl
-append-nil (x ∷ l) = ap (λ (r : List ℕ). x ∷ r) (append-nil l)
 
 lead-zero : (w : ℕ) → lead w 0 ≡ replicate w 32
 unfolding lead

@@ -1,5 +1,6 @@
 pub mod DecimalLaws
 pub mod LayoutLaws
+pub mod HoldingLaws
 pub mod RegisterLaws
 pub mod LineLaws
 pub mod MoveLaws

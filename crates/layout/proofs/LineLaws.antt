@@ -20,7 +20,7 @@
 --   grids-counted               ==  the grids are as many
 --   laid-lines                  ==  question 5 gets a yes exactly if line 1, the lines of the entries and the blank lines are laid out
 use mathlib.Core.Path.{_≡_, refl, sym, ap, ap₂, _∙_}
-use mathlib.Core.List.{List, [], _∷_, _++_, map, flatten, append-assoc, List·Memᴰ, List·Memᴰ·append-cases}
+use mathlib.Core.List.{List, [], _∷_, _++_, map, flatten, append-assoc, append-nil, List·Memᴰ, List·Memᴰ·append-cases}
 use mathlib.Core.Bool.{true}
 use mathlib.Core.Logic.{_⊎_, inl, inr, _↔_}
 use Prim.Native.Nat.{ℕ, zero, suc, _+_, _-_, _*_, _≤_, _<_}
@@ -64,10 +64,6 @@ module _ {A : Type 0} where
   unfolding flatten
   flatten-append [] l = refl
   flatten-append (x ∷ k) l = ap (λ (r : List A). x ++ r) (flatten-append k l) ∙ sym (append-assoc x (flatten k) (flatten l))
-
-  append-nil : (l : List A) → l ++ [] ≡ l
-  append-nil [] = refl
-  append-nil (x ∷ l) = ap (λ (r : List A). x ∷ r) (append-nil l)
 
   nothing : (l : List A) → length l ≡ 0 → l ≡ []
   nothing [] e = refl

@@ -19,6 +19,7 @@ use Rattle.layout.specs.Decimal.{field}
 use Rattle.layout.specs.Layout.{Shape, Entry, Register, clients, gridSize, changed, fields, lineLength, entryLine, blankLine, headLine, layout, layoutLength}
 use Rattle.layout.specs.Lines.{noEntry, lineStart}
 use Rattle.layout.proofs.DecimalLaws.{length-field}
+use Rattle.layout.proofs.LineLaws.{flatten-append}
 use Rattle.layout.proofs.LayoutLaws.{Fitted, Sized, length-fields, length-entry, length-blank, length-head, length-entries, length-blanks}
 
 abbrev Entries : Type 0
@@ -94,11 +95,6 @@ entryLines es = flatten (map entryLine es)
 
 abbrev blankLines : ℕ → ℕ → List ℕ
 blankLines size k = flatten (replicate k (blankLine size))
-
-flatten-append : (a b : List (List ℕ)) → flatten (a ++ b) ≡ flatten a ++ flatten b
-unfolding flatten
-flatten-append [] b = refl
-flatten-append (x ∷ a) b = rw (flatten-append a b) (sym (append-assoc x (flatten a) (flatten b)))
 
 entries-append : (a b : Entries) → entryLines (a ++ b) ≡ entryLines a ++ entryLines b
 entries-append a b = ap flatten (map-append entryLine a b) ∙ flatten-append (map entryLine a) (map entryLine b)

@@ -9,17 +9,14 @@
 --   one-held              ==  a client holds something
 use mathlib.Core.Path.{_≡_, sym, ap, _∙_}
 use mathlib.Core.List.{List}
-use mathlib.Core.Bool.{true, false}
+use mathlib.Core.Bool.{true, false, true≢false}
 use Prim.Native.Nat.{ℕ, _+_, _-_, _*_, _≤_, _<_}
 use native.Mathlib.Decide.{decLt}
 use native.Mathlib.Omega.{arith}
-use lib.ListN.{length, getD, length-set}
-use lib.Seq.{getD-set-same, getD-set-other}
-use lib.Dec.{ltb}
-use borrow.Author.Tests.{ltb-true, lt-ltb}
+use lib.ListN.{length, getD}
 use Rattle.permutations.proofs.BoolLaws.{bool-ext}
-use Rattle.permutations.proofs.ListLaws.{some-at, at-some, mem-at, of-mem}
 use Rattle.layout.specs.Layout.{clients, entryWidth, lineLength, numberAt, holdingsOf, holding, changed, someHeld}
+use Rattle.layout.proofs.HoldingLaws.{length-changed, holding-changed, holding-other, held-some, some-held}
 use Rattle.layout.proofs.LineLaws.{length-holdings, holding-at}
 
 pub holding-inside : (size c : ℕ) → 1 ≤ c → c ≤ clients → 3 * (size + (c - 1)) + 3 ≤ lineLength size
@@ -31,16 +28,13 @@ unfolding holding
 holding-stated size l c a b e = e ∙ sym (holding-at size l (c - 1) (omega arith))
 
 pub length-after : (size : ℕ) (l : List ℕ) (c x : ℕ) → length (changed c x (holdingsOf size l)) ≡ clients
-unfolding changed
-length-after size l c x = length-set (holdingsOf size l) (c - 1) x ∙ length-holdings size l
+length-after size l c x = length-changed c x (holdingsOf size l) ∙ length-holdings size l
 
 pub after-own : (size : ℕ) (l : List ℕ) (c d x : ℕ) → 1 ≤ c → c ≤ clients → d ≡ c → x ≡ holding d (changed c x (holdingsOf size l))
-unfolding holding changed
-after-own size l c d x a b e = rw e (sym (getD-set-same (holdingsOf size l) (c - 1) x 0 (omega (arith, length-holdings size l))))
+after-own size l c d x a b e = rw e (sym (holding-changed c x (holdingsOf size l) a (omega (arith, length-holdings size l))))
 
 pub after-other : (h : List ℕ) (c d x : ℕ) {y : ℕ} → 1 ≤ c → 1 ≤ d → (d ≡ c → ⊥) → y ≡ holding d h → y ≡ holding d (changed c x h)
-unfolding holding changed
-after-other h c d x a b n e = e ∙ sym (getD-set-other h (c - 1) (d - 1) x 0 (λ q. n (omega arith)))
+after-other h c d x a b n e = e ∙ sym (holding-other c d x h a b (λ q. n (sym q)))
 
 -- ---- whether anyone holds something
 
@@ -62,13 +56,10 @@ none-next {c} {h} x n e z = record { none = λ k b. go k b (decLt (k + 1) c) }
         ap (λ (j : ℕ). getD h j 0) i ∙ sym e ∙ y
 
 pub none-all : {c : ℕ} {h : List ℕ} → NoneTo c h → clients < c → length h ≡ clients → false ≡ someHeld h
-unfolding someHeld
-none-all {c} {h} n b l = bool-ext false (someHeld h) (λ f. cc) λ t.
-    let s = some-at (λ x. ltb 0 x) h t in
-    let m = of-mem h 0 (s .0) (s .1) in
-    absurd (omega (arith, m .1, m .2, n .none (m .0) (omega (arith, m .1)), ltb-true 0 (s .0) (s .2)))
+unfolding holding
+none-all {c} {h} n b l = bool-ext false (someHeld h) (λ f. absurd (true≢false (sym f))) λ t.
+    let s = held-some h l t in
+    absurd (omega (arith, s .1, s .3, n .none (s .0 - 1) (omega (arith, s .1, s .2))))
 
 pub one-held : (h : List ℕ) (c : ℕ) {x : ℕ} → x ≡ holding c h → 0 < x → 1 ≤ c → c ≤ clients → length h ≡ clients → true ≡ someHeld h
-unfolding someHeld holding
-one-held h c {x} e p a b l =
-    sym (at-some (λ x. ltb 0 x) h (getD h (c - 1) 0) (mem-at h 0 (c - 1) (omega arith)) (lt-ltb 0 (getD h (c - 1) 0) (omega arith)))
+one-held h c e p a b l = sym (some-held h c (omega arith) a (omega (arith, e, p)))

@@ -32,7 +32,8 @@ use Rattle.machine.specs.Demand3.{entersOf, strikesOf, holdingOf, live, 
 use Rattle.layout.proofs.LayoutLaws.{count-layout}
 use Rattle.layout.proofs.RegisterLaws.{register-printable}
 use Rattle.machine.proofs.SortedLaws.{Entries, Grids, holds-in, of-grids, asc-ext, in-sorted, of-sorted, sorted-asc, length-sorted}
-use Rattle.machine.proofs.HoldingLaws.{holdings-ext, held-member, held-here, sorted-holdings}
+use Rattle.layout.proofs.HoldingLaws.{holdings-ext}
+use Rattle.machine.proofs.HoldingLaws.{held-member, held-here, sorted-holdings}
 use Rattle.machine.proofs.MachineLaws.{Good, empty-good, registerOf, good-register, reads, enter-same, strike-same, count-same, terminal-enter-same, set-fit, step-good, afterwards, afterwards-good}
 use Rattle.machine.proofs.StepLaws.{Answerable, step-answers}
 use Rattle.machine.proofs.LiveLaws.{held-machine, live-machine, lists-held}

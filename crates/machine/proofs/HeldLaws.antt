@@ -20,7 +20,8 @@ use Rattle.layout.proofs.RegisterLaws.{register-printable}
 use Rattle.machine.specs.Calls.{Outcome, answered, leastIn, more, fewer, holdingsIn, heldBy, kept, enterInto, strikeFrom, enterQuestions, strikeQuestions, enterRegister, strikeRegister, entered, struck, terminalEntered}
 use Rattle.machine.specs.CallLists.{Call, enter, strike, countIn, terminalEnter, Implementation, registerCalls, Meets, called}
 use Rattle.machine.specs.Holdings.{names, heldIn, Apart, ByOne}
-use Rattle.machine.proofs.HoldingLaws.{length-changed, kept-becomes, one, more-held, fewer-held}
+use Rattle.layout.proofs.HoldingLaws.{length-changed}
+use Rattle.machine.proofs.HoldingLaws.{kept-becomes, one, more-held, fewer-held}
 use Rattle.machine.proofs.AskedLaws.{client-pass, enter-pass, strike-pass}
 use Rattle.machine.proofs.RefusalLaws.{count-unchanged}
 use Rattle.machine.proofs.CallLaws.{keptIn, stated-fit, enter-keeps, strike-keeps, unlaid-entered, unlaid-struck}

@@ -1,9 +1,5 @@
--- Holdings: one client's changed, and those of a grid among entries.
+-- The holdings of a grid among entries.
 --
---   holding-changed, holding-other, length-changed  ==  the holding that is changed, another client's, and how many there are
---   length-none, holding-none  ==  holdings that are all 0
---   holdings-ext       ==  holdings are equal where every client's are
---   held-some, some-held, none-held  ==  where not all are 0, some client's is not
 --   held-member, held-none, none-by, held-here  ==  the holdings of an entry's grid, of a grid that no entry has, and of one that a client holds
 --   HoldingsFit h      ==  as many as there are clients, each at most 999
 --   holdings-fit, changed-fit, fit-held  ==  a register's fit; with one changed; where not all are 0
@@ -17,76 +13,24 @@ use mathlib.Core.Path.{_≡_, refl, sym, ap, subst, _∙_}
 use mathlib.Core.List.{List, [], _∷_, List·Memᴰ, List·Memᴰ·head, List·Memᴰ·tail, List·Memᴰ·not-nil, List·Memᴰ·cases-cons, Memᴰ·cast}
 use mathlib.Core.Bool.{Bool, true, false, true≢false, not, _&&_}
 use mathlib.Core.Logic.{_⊎_, inl, inr}
-use Prim.Native.Nat.{ℕ, zero, suc, _+_, _-_, _≤_, _<_}
-use native.Mathlib.Decide.{decLt, ℕ-discrete}
+use Prim.Native.Nat.{ℕ, _+_, _-_, _≤_, _<_}
+use native.Mathlib.Decide.{ℕ-discrete}
 use native.Mathlib.Omega.{arith}
-use lib.ListN.{length, getD, set, replicate, length-set, length-replicate}
+use lib.ListN.{length, getD, set, length-set}
 use lib.Seq.{getD-set-same, getD-set-other}
-use lib.Dec.{ltb, eqb}
-use borrow.Author.Tests.{ltb-true, lt-ltb, eq-eqb, eqb-true}
+use lib.Dec.{eqb}
+use borrow.Author.Tests.{eq-eqb, eqb-true}
 use Rattle.permutations.specs.Lists.{select}
-use Rattle.permutations.proofs.BoolLaws.{yes-or-no, refuted}
-use Rattle.permutations.proofs.ListLaws.{tabulate-ext, tabulate-getD, mem-at, of-mem, some-at, at-some}
+use Rattle.permutations.proofs.BoolLaws.{and-yes, yes-or-no, refuted}
 use Rattle.permutations.proofs.SelectLaws.{select-yes, select-no, of-select, length-select}
 use Rattle.grids.specs.Order.{_≼_, equal}
 use Rattle.grids.proofs.OrderLaws.{≼-dec, equal-eq, eq-equal, equal-sym}
 use Rattle.layout.specs.Layout.{Entry, clients, mostHeld, noHoldings, gridsOf, holding, changed, Ascends, IsHoldings, someHeld}
+use Rattle.layout.proofs.HoldingLaws.{length-none, none-at, holding-changed, holding-other, holding-none, held-some, none-held}
 use Rattle.machine.specs.Calls.{more, fewer, holds, holdingsIn, heldBy, insert, without, kept}
 use Rattle.machine.specs.Machine.{sorted, put}
 use Rattle.machine.specs.Demand3.{Once}
 use Rattle.machine.proofs.SortedLaws.{Entries, holds-in, in-holds, grid-in, of-grids, insert-front, insert-later, of-sorted, select-asc, select-once}
-
--- ---- one client's
-
-pub length-changed : (c x : ℕ) (h : List ℕ) → length (changed c x h) ≡ length h
-unfolding changed
-length-changed c x h = length-set h (c - 1) x
-
-pub holding-changed : (c x : ℕ) (h : List ℕ) → 1 ≤ c → c ≤ length h → holding c (changed c x h) ≡ x
-unfolding changed holding
-holding-changed c x h low high = getD-set-same h (c - 1) x 0 (omega arith)
-
-pub holding-other : (c k x : ℕ) (h : List ℕ) → 1 ≤ c → 1 ≤ k → (c ≡ k → ⊥) → holding k (changed c x h) ≡ holding k h
-unfolding changed holding
-holding-other c k x h a b n = getD-set-other h (c - 1) (k - 1) x 0 (λ e. n (omega arith))
-
-zero-at : (n i : ℕ) → getD {A = ℕ} (replicate n 0) i 0 ≡ 0
-zero-at zero i = refl
-zero-at (suc n) zero = refl
-zero-at (suc n) (suc i) = zero-at n i
-
-pub holding-none : (c : ℕ) → holding c (noHoldings) ≡ 0
-unfolding holding
-holding-none c = zero-at clients (c - 1)
-
-pub length-none : length noHoldings ≡ clients
-length-none = length-replicate {A = ℕ} clients 0
-
-pub holdings-ext : (g h : List ℕ) → length g ≡ clients → length h ≡ clients → ((k : ℕ) → 1 ≤ k → k ≤ clients → holding k g ≡ holding k h) → g ≡ h
-unfolding holding
-holdings-ext g h a b same =
-    sym (tabulate-getD 0 g clients a)
-    ∙ tabulate-ext 0 clients _ _ (λ i l. let e : i + 1 - 1 ≡ i = omega arith in rw e at (same (i + 1) (omega arith) (omega arith)))
-    ∙ tabulate-getD 0 h clients b
-
-pub held-some : (h : List ℕ) → length h ≡ clients → someHeld h ≡ true → (k : ℕ) × (1 ≤ k) × (k ≤ clients) × (0 < holding k h)
-unfolding someHeld holding
-held-some h z t =
-    let s = some-at (λ x. ltb 0 x) h t in
-    let m = of-mem h 0 (s .0) (s .1) in
-    let e : m .0 + 1 - 1 ≡ m .0 = omega arith in
-    (m .0 + 1, omega arith, omega (arith, m .1, z), rw e (ltb-true 0 (getD h (m .0) 0) (ap (ltb 0) (sym (m .2)) ∙ s .2)))
-
-pub some-held : (h : List ℕ) (k : ℕ) → k ≤ length h → 1 ≤ k → 0 < holding k h → someHeld h ≡ true
-unfolding someHeld holding
-some-held h k inside low p = at-some (λ x. ltb 0 x) h (getD h (k - 1) 0) (mem-at h 0 (k - 1) (omega arith)) (lt-ltb 0 (getD h (k - 1) 0) p)
-
-pub none-held : (h : List ℕ) → length h ≡ clients → someHeld h ≡ false → h ≡ noHoldings
-none-held h z t = holdings-ext h (noHoldings) z (length-none) (λ k a b. go k a b (decLt 0 (holding k h)) ∙ sym (holding-none k))
-  where
-    go : (k : ℕ) → 1 ≤ k → k ≤ clients → Dec (0 < holding k h) → holding k h ≡ 0
-    go k a b (yes p) = absurd (true≢false (sym (some-held h k (omega arith) a p) ∙ t))
-    go k a b (no p) = omega arith
 
 -- ---- those of a grid among entries
 
@@ -151,7 +95,7 @@ pub record HoldingsFit (h : List ℕ) : Type 0 where
   pub capped : (k : ℕ) → k < clients → getD h k 0 ≤ mostHeld
 
 pub holdings-fit : (l : Entries) → ((e : Entry) → List·Memᴰ e l → IsHoldings (e .holdings)) → (r : List ℕ) → HoldingsFit (holdingsIn r l)
-holdings-fit l h = holdings-have HoldingsFit (record { sized = length-none; capped = λ k i. omega (arith, zero-at clients k) }) l (λ e m. record { sized = h e m .sized; capped = h e m .capped })
+holdings-fit l h = holdings-have HoldingsFit (record { sized = length-none; capped = λ k i. omega (arith, none-at k) }) l (λ e m. record { sized = h e m .sized; capped = h e m .capped })
 
 pub changed-fit : (c x : ℕ) (h : List ℕ) → x ≤ mostHeld → HoldingsFit h → HoldingsFit (changed c x h)
 unfolding changed
@@ -211,17 +155,17 @@ chosen t x y = elim t [ true ↦ x | false ↦ y ]
 abbrev pub Becomes : Entries → List ℕ → List ℕ → Entries → Type 0
 Becomes l r h l′ = (a : List ℕ) → holdingsIn a l′ ≡ chosen (equal r a) h (holdingsIn a l)
 
-without-becomes : (r : List ℕ) (l : Entries) → Becomes l r (noHoldings) (without r l)
+without-becomes : (r : List ℕ) (l : Entries) → Becomes l r noHoldings (without r l)
 unfolding without holdingsIn select
 without-becomes r [] a = none (equal r a)
   where
-    none : (t : Bool) → noHoldings ≡ chosen t (noHoldings) (noHoldings)
+    none : (t : Bool) → noHoldings ≡ chosen t noHoldings noHoldings
     none true = refl
     none false = refl
 without-becomes r (x ∷ l) a = go (without-becomes r l a) (yes-or-no (equal r (x .grid))) (yes-or-no (equal r a)) (yes-or-no (equal a (x .grid)))
   where
-    go : holdingsIn a (select (differs r) l) ≡ chosen (equal r a) (noHoldings) (holdingsIn a l) → (equal r (x .grid) ≡ true) ⊎ (equal r (x .grid) ≡ false) → (equal r a ≡ true) ⊎ (equal r a ≡ false) → (equal a (x .grid) ≡ true) ⊎ (equal a (x .grid) ≡ false) →
-        holdingsIn a (select (differs r) (x ∷ l)) ≡ chosen (equal r a) (noHoldings) (holdingsIn a (x ∷ l))
+    go : holdingsIn a (select (differs r) l) ≡ chosen (equal r a) noHoldings (holdingsIn a l) → (equal r (x .grid) ≡ true) ⊎ (equal r (x .grid) ≡ false) → (equal r a ≡ true) ⊎ (equal r a ≡ false) → (equal a (x .grid) ≡ true) ⊎ (equal a (x .grid) ≡ false) →
+        holdingsIn a (select (differs r) (x ∷ l)) ≡ chosen (equal r a) noHoldings (holdingsIn a (x ∷ l))
     go ih (inl e) (inl d) k = rw (select-no (differs r) x l (rw e), d) (rw d at ih)
     go ih (inl e) (inr d) k = rw (select-no (differs r) x l (rw e), d, later a x l (apart a r (x .grid) d (equal-eq r (x .grid) e))) (rw d at ih)
     go ih (inr e) (inl d) k = rw (select-yes (differs r) x l (rw e), d, later a x (select (differs r) l) (rw (equal-eq r a d) at e)) (rw d at ih)
@@ -317,11 +261,7 @@ module _ (l l′ : Entries) (r : List ℕ) (c : ℕ) (low : 1 ≤ c) (high : c �
   -- the holding that is changed
   theirs : (eqb c k && equal r a) ≡ true → heldBy k a l ≡ holding c (holdingsIn r l)
   unfolding heldBy
-  theirs t = let p = parts (eqb c k) (equal r a) t in rw (eqb-true c k (p .0), equal-eq r a (p .1))
-    where
-      parts : (s u : Bool) → (s && u) ≡ true → (s ≡ true) × (u ≡ true)
-      parts true u e = (refl, e)
-      parts false u e = absurd (true≢false (sym e))
+  theirs t = let p = and-yes (eqb c k) (equal r a) t in rw (eqb-true c k (p .0), equal-eq r a (p .1))
 
   pub more-held : Becomes l r (more c (holdingsIn r l)) l′ → heldBy k a l′ ≡ heldBy k a l + one (eqb c k && equal r a)
   unfolding more

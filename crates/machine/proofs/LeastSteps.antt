@@ -4,7 +4,6 @@
 --   answered-append               ==  questions asked in two groups
 --   entered-asked, struck-asked, terminal-entered-asked  ==  enter, strike and a terminal's enter: the first group, then the least grid
 --   held-there                    ==  a grid is held exactly where it stands at its place
---   registerWith b es             ==  the bytes of the register b with other entries
 --   entered-held, entered-most, entered-full, entered-new  ==  entering a least grid: it stands at its place; this client holds 999; it does not stand there and the register is full; it is put in
 --   struck-none, struck-held      ==  striking it: this client holds none; it holds some
 use mathlib.Core.Path.{_≡_, refl, sym, ap, _∙_, subst}
@@ -22,12 +21,13 @@ use Rattle.grids.specs.Order.{equal}
 use Rattle.grids.specs.Questions.{Question, firstNo, question6, question7, question14, afterFirst}
 use Rattle.grids.proofs.OrderLaws.{equal-eq, eq-equal}
 use Rattle.grids.proofs.QuestionLaws.{Numbered, first-no-stays, first-no-next}
-use Rattle.layout.specs.Layout.{Entry, clients, mostHeld, noHoldings, gridsOf, layout, holding, changed, decode, someHeld, Ascends}
+use Rattle.layout.specs.Layout.{Entry, clients, mostHeld, noHoldings, gridsOf, holding, changed, decode, someHeld, Ascends}
 use Rattle.layout.specs.Lines.{firstEntry}
 use Rattle.machine.specs.Calls.{Outcome, refusal, answered, question5, gridQuestions, clientQuestions, question9, question10, question15, question16, more, fewer, holds, holdingsIn, heldBy, kept, leastIn, enterInto, strikeFrom, enterQuestions, strikeQuestions, enterRegister, strikeRegister, entered, struck, terminalEnterQuestions, terminalEnterRegister, terminalEntered, placed}
 use Rattle.machine.specs.Places.{Lower}
-use Rattle.machine.specs.Valid.{asked, terminalAsked, enteredLeast, struckLeast}
-use Rattle.machine.proofs.HoldingLaws.{length-none, length-changed, holding-changed, holding-none, some-held, held-none, none-by}
+use Rattle.machine.specs.Valid.{asked, terminalAsked, registerWith, enteredLeast, struckLeast}
+use Rattle.layout.proofs.HoldingLaws.{length-none, length-changed, holding-changed, holding-none, some-held}
+use Rattle.machine.proofs.HoldingLaws.{held-none, none-by}
 use Rattle.machine.proofs.PlaceLaws.{place-lower, holds-lower, holds-not-end, holds-not-there, kept-new}
 
 pub answered-refusal : (k : ℕ) (b : List ℕ) (o : Outcome) → (k ≡ 0 → ⊥) → answered k b o ≡ refusal k b
@@ -77,9 +77,6 @@ held-there {l} {r} {p} a h = go (decLt p (length l)) (yes-or-no (equal (getD l p
     go (yes i) (inr e) = rw (lt-ltb p (length l) i, e, holds-not-there a h (λ q. absurd (no-both e (eq-equal (getD l p []) r q)))) refl
 
 -- ---- the least grid
-
-abbrev pub registerWith : List ℕ → List Entry → List ℕ
-registerWith b es = layout (record { shape = decode b .shape; entries = es })
 
 module _ (b : List ℕ) (c : ℕ) {r : List ℕ} {p : ℕ} (h : Lower (gridsOf (decode b .entries)) r p) where
   abbrev es : List Entry

@@ -35,7 +35,8 @@ use Rattle.machine.specs.Demand3.{entersClass, strikesClass, acceptedOf,
 use Rattle.machine.proofs.SortedLaws.{Entries, holds-in, in-holds, of-grids}
 use Rattle.machine.proofs.AskedLaws.{client-pass}
 use Rattle.machine.proofs.RefusalLaws.{refused-number}
-use Rattle.machine.proofs.HoldingLaws.{length-changed, held-member, held-here, none-by, put-becomes, one, more-held, fewer-held}
+use Rattle.layout.proofs.HoldingLaws.{length-changed}
+use Rattle.machine.proofs.HoldingLaws.{held-member, held-here, none-by, put-becomes, one, more-held, fewer-held}
 use Rattle.machine.proofs.MachineLaws.{Good, grids-good, set-fit, step-good, terminal-step-has, afterwards, afterwards-good}
 
 pub class-equal : (m n : ℕ) (a b : List ℕ) → length a ≡ m * n → length b ≡ m * n → oneClass m n a b ≡ equal (least m n a) (least m n b)

@@ -23,24 +23,21 @@ use Rattle.permutations.proofs.ListLaws.{at-map}
 use Rattle.grids.specs.Order.{equal}
 use Rattle.grids.proofs.OrderLaws.{equal-eq}
 use Rattle.layout.specs.Decimal.{field}
-use Rattle.layout.specs.Layout.{Entry, clients, mostHeld, noHoldings, gridsOf, changed, someHeld, lineLength, entryLine, blankLine, holdingsOf, decodeShape, decode}
+use Rattle.layout.specs.Layout.{Entry, clients, mostHeld, gridsOf, changed, someHeld, lineLength, entryLine, blankLine, holdingsOf, decodeShape, decode}
 use Rattle.layout.specs.Lines.{noEntry, firstEntry, lineAt}
-use Rattle.machine.specs.Calls.{placed, more, fewer, holds, holdingsIn, heldBy, kept}
+use Rattle.machine.specs.Calls.{placed, more, fewer, holds, holdingsIn, heldBy}
 use Rattle.machine.specs.Places.{Lower}
-use Rattle.machine.specs.Valid.{Valid, enteredLeast, struckLeast}
-use Rattle.machine.proofs.HoldingLaws.{length-none, length-changed, none-by}
+use Rattle.machine.specs.Valid.{Valid, registerWith, goneAt, heldAs, enteredLeast, struckLeast}
+use Rattle.layout.proofs.HoldingLaws.{first-fitted}
+use Rattle.machine.proofs.HoldingLaws.{none-by}
 use Rattle.machine.proofs.PlaceLaws.{there-held, kept-there, kept-gone}
 use Rattle.machine.proofs.ValidLaws.{valid-count, valid-ascends, valid-sizes, valid-holdings}
-use Rattle.machine.proofs.LeastSteps.{held-there, registerWith, entered-held, entered-most, entered-full, entered-new, struck-none, struck-held}
+use Rattle.machine.proofs.LeastSteps.{held-there, entered-held, entered-most, entered-full, entered-new, struck-none, struck-held}
 use Rattle.machine.proofs.ValidMoves.{Room, room-insert, room-remove, bytes-inserted, bytes-removed, bytes-changed}
 
 module _ {n p : ℕ} {b g : List ℕ} (k : Valid (length g) n b) (h : Lower (gridsOf (decode b .entries)) g p) where
   abbrev size : ℕ
   size = length g
-
-  -- the bytes where client c holds x of g
-  abbrev heldAs : ℕ → ℕ → List ℕ
-  heldAs c x = registerWith b (kept g (changed c x (holdingsIn g (decode b .entries))) (decode b .entries))
 
   abbrev part : ℕ → List ℕ
   part w = midOf (31 + p * w) (length b - (31 + p * w)) b
@@ -75,7 +72,7 @@ module _ {n p : ℕ} {b g : List ℕ} (k : Valid (length g) n b) (h : Lower (gri
         zs ≡ field m (n + 1) → m ≡ 6 →
         placed 0 (p + 1) (putMid 24 6 (putMid (31 + p * w) (length b - (31 + p * w)) b ys) zs) ≡ enteredLeast b c g
     enter-new c y f low high w q ys zs e d six =
-        ap₂ (λ (i : ℕ) (l : List ℕ). placed 0 i l) (add-one p) (bytes-inserted k p w q (place-small .0) f (firstEntry c g) ys zs (record { cells = refl; held = length-changed c 1 noHoldings ∙ length-none }) e d six)
+        ap₂ (λ (i : ℕ) (l : List ℕ). placed 0 i l) (add-one p) (bytes-inserted k p w q (place-small .0) f (firstEntry c g) ys zs (first-fitted c g) e d six)
         ∙ sym (entered-new b c h (sym held-found ∙ y) (omega (arith, valid-count k, shape-capacity)) low high)
 
     pub strike-none : (c : ℕ) → t ≡ false → placed 10 0 b ≡ struckLeast b c g
@@ -100,7 +97,7 @@ module _ {n p : ℕ} {b g : List ℕ} (k : Valid (length g) n b) (h : Lower (gri
 
         pub changed-is : (c x : ℕ) {u : Bool} → u ≡ someHeld (changed c x (holdingsIn g (decode b .entries))) → u ≡ true → 1 ≤ c → c ≤ clients → (ys : List ℕ) →
             ys ≡ take (3 * (size + (c - 1))) (midOf a (length b - a) b) ++ (field 3 x ++ drop 3 (drop (3 * (size + (c - 1))) (midOf a (length b - a) b))) →
-            putMid a (length b - a) b ys ≡ heldAs c x
+            putMid a (length b - a) b ys ≡ heldAs b c g x
         changed-is c x left z low high ys e =
             rw q (bytes-changed k p (lineLength size) refl stands c x ys low high (rw q at e))
             ∙ ap₂ (λ (r l : List ℕ). registerWith b (take p (decode b .entries) ++ (record { grid = r; holdings = changed c x l } ∷ drop (suc p) (decode b .entries))))
@@ -111,28 +108,28 @@ module _ {n p : ℕ} {b g : List ℕ} (k : Valid (length g) n b) (h : Lower (gri
         pub gone-is : {w : ℕ} → w ≡ lineLength size → (ys zs : List ℕ) {m : ℕ} →
             ys ≡ take ((n - (p + 1)) * w) (drop (lineLength size) (midOf a (length b - a) b)) ++ (blankLine size ++ drop ((n - (p + 1)) * w + lineLength size) (midOf a (length b - a) b)) →
             zs ≡ field m (n - 1) → m ≡ 6 →
-            putMid 24 6 (putMid a (length b - a) b ys) zs ≡ registerWith b (take p (decode b .entries) ++ drop (suc p) (decode b .entries))
+            putMid 24 6 (putMid a (length b - a) b ys) zs ≡ goneAt b p
         gone-is v ys zs e d six = rw q (bytes-removed k p (lineLength size) refl stands ys zs (rw (q, v) at e) d six)
 
-      pub gone-kept : (c x : ℕ) {u : Bool} → u ≡ someHeld (changed c x (holdingsIn g (decode b .entries))) → u ≡ false → {l : List ℕ} → l ≡ registerWith b (take p (decode b .entries) ++ drop (suc p) (decode b .entries)) →
-          l ≡ heldAs c x
+      pub gone-kept : (c x : ℕ) {u : Bool} → u ≡ someHeld (changed c x (holdingsIn g (decode b .entries))) → u ≡ false → {l : List ℕ} → l ≡ goneAt b p →
+          l ≡ heldAs b c g x
       gone-kept c x left z e = rw (kept-gone (decode b .entries) g (changed c x (holdingsIn g (decode b .entries))) p h (valid-ascends k) (omega (arith, stands, valid-count k)) (place-stands y .1) (sym left ∙ z)) e
 
       module _ (c : ℕ) {v : ℕ} (read : v ≡ heldBy c g (decode b .entries)) where
         pub enter-most : mostHeld ≤ v → placed 16 0 b ≡ enteredLeast b c g
         enter-most f = sym (entered-most b c h (sym held-found ∙ y) (omega (arith, read, f)))
 
-        pub enter-held : v < mostHeld → {l : List ℕ} → l ≡ heldAs c (v + 1) → placed 101 (p + 1) l ≡ enteredLeast b c g
+        pub enter-held : v < mostHeld → {l : List ℕ} → l ≡ heldAs b c g (v + 1) → placed 101 (p + 1) l ≡ enteredLeast b c g
         unfolding more heldBy
         enter-held f e =
-            ap₂ (λ (i : ℕ) (l : List ℕ). placed 101 i l) (add-one p) (e ∙ ap (λ (x : ℕ). heldAs c (x + 1)) read)
+            ap₂ (λ (i : ℕ) (l : List ℕ). placed 101 i l) (add-one p) (e ∙ ap (λ (x : ℕ). heldAs b c g (x + 1)) read)
             ∙ sym (entered-held b c h (sym held-found ∙ y) (omega (arith, read, f)))
 
         pub strike-zero : v ≡ 0 → placed 10 0 b ≡ struckLeast b c g
         strike-zero z = sym (struck-none b c h (sym read ∙ z))
 
-        pub strike-held : 0 < v → {l : List ℕ} → l ≡ heldAs c (v - 1) → placed 0 (p + 1) l ≡ struckLeast b c g
+        pub strike-held : 0 < v → {l : List ℕ} → l ≡ heldAs b c g (v - 1) → placed 0 (p + 1) l ≡ struckLeast b c g
         unfolding fewer heldBy
         strike-held f e =
-            ap₂ (λ (i : ℕ) (l : List ℕ). placed 0 i l) (add-one p) (e ∙ ap (λ (x : ℕ). heldAs c (x - 1)) read)
+            ap₂ (λ (i : ℕ) (l : List ℕ). placed 0 i l) (add-one p) (e ∙ ap (λ (x : ℕ). heldAs b c g (x - 1)) read)
             ∙ sym (struck-held b c h (omega (arith, read, f)))

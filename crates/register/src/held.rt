@@ -7,7 +7,8 @@ ghost use mathlib.Core.Path.{_≡_};
 ghost use mathlib.Core.Bool.{true};
 ghost use Rattle.layout.specs.Layout.{decode};
 ghost use Rattle.machine.specs.Calls.{heldBy};
-ghost use Rattle.register.specs.Sought.{Sought, goneAt, heldAs};
+ghost use Rattle.machine.specs.Valid.{goneAt, heldAs};
+ghost use Rattle.register.specs.Sought.{Sought};
 
 // What the client holds of it.
 pub fn holding(register: &[u8], count: usize, place: usize, client: usize, least: &[u8]) -> usize

@@ -5,7 +5,8 @@ use native.Mathlib.Omega.{arith}
 use lib.ListN.{length-set}
 use Rattle.layout.specs.Layout.{noHoldings, changed, entryWidth, lineLength}
 use Rattle.layout.specs.Lines.{firstEntry}
-use Rattle.lines.proofs.FirstLaws.{first-fitted, length-first}
+use Rattle.layout.proofs.HoldingLaws.{first-fitted}
+use Rattle.lines.proofs.FirstLaws.{length-first}
 use Rattle.lines.proofs.LineLaws.{EntryTo, entry-none, entry-next, entry-all}
 use Rattle.lines.proofs.entries.write_line.Statement.{statement}
 use Rattle.lines.proofs.entries.write_line.Tie as tie
