@@ -3,7 +3,7 @@
 --   copied           ==  a list copied over another of its length
 --   Replaced a k xs ys zs, part-replaced  ==  zs is xs with ys in the place of its k entries from a on
 --   row-part, first-part  ==  a row of bounds, as a part of the list
---   part-size, first-size  ==  the length of such a part
+--   part-size        ==  the length of such a part
 --   row-pruned-ext   ==  only the values in the columns count
 --   lowered-both     ==  highs lowered by one rule and then by another
 --   Progress i m n low high low′ high′  ==  the rows before row i are pruned with row 0
@@ -22,6 +22,7 @@ use lib.ListN.{length, getD, take, drop, List·getD-append}
 use lib.Seq.{take-length, drop-length, length-take-le, getD-take, getD-drop, getD-append-add}
 use lib.Arith.{digits-lt}
 use borrow.Rule.Slice.PartMut.{same-len-mid, mid-len}
+use Rattle.permutations.proofs.ListLaws.{part-length}
 use Rattle.grids.specs.Order.{rank}
 use Rattle.grids.proofs.QuestionLaws.{size-fits}
 use Rattle.bounds.specs.Bounds.{IsBounds}
@@ -75,9 +76,6 @@ module _ (i n : ℕ) (l : List ℕ) where
 
 pub first-part : (n : ℕ) (l : List ℕ) (j : ℕ) → j < n → cellAt (take (n - 0) l) j ≡ rowOf n l 0 j
 first-part n l j b = let q : 0 * n + j ≡ j = omega (arith, zero-mul n) in getD-take (n - 0) l j 0 (omega arith) ∙ ap (cellAt l) (sym q)
-
-pub first-size : (n : ℕ) (l : List ℕ) → n ≤ length l → length (take (n - 0) l) ≡ n
-first-size n l h = length-take-le (n - 0) l (omega arith) ∙ omega arith
 
 -- ---- one row more
 
@@ -177,26 +175,26 @@ module _ {i m n : ℕ} {low high low′ high′ old-low old-high : List ℕ} (s 
       (take (i * n + n - i * n) (drop (i * n) low′))
   row-sizes =
       let f = row-fits in
-      let e = first-size n low (f .first-low) in
+      let e = part-length low n (f .first-low) in
       record {
         some = omega (arith, e, s .column-limits .0);
         limit = omega (arith, e, s .column-limits .1);
         low-size = part-size i n low (f .old-low) ∙ sym e;
         high-size = part-size i n high (f .old-high) ∙ sym e;
-        highs-size = first-size n high′ (f .first-high) ∙ sym e;
+        highs-size = part-length high′ n (f .first-high) ∙ sym e;
         lows-size = part-size i n low′ (f .new-low) ∙ sym e;
       }
 
   pub row-values : Values (m * n) 15 (cellAt high) → Values (length (take (n - 0) low)) 15 (cellAt (take (i * n + n - i * n) (drop (i * n) high)))
   row-values h j b =
-      let e = first-size n low (row-fits .first-low) in
+      let e = part-length low n (row-fits .first-low) in
       rw (row-part i n high j (omega arith)) (h (i * n + j) (omega (arith, row-within)))
 
   pub narrow-fails : (highs lows : ℕ → ℕ) → RowOutcome false (length (take (n - 0) low)) (cellAt (take (n - 0) low)) (cellAt (take (i * n + n - i * n) (drop (i * n) low)))
       (cellAt (take (i * n + n - i * n) (drop (i * n) high))) (cellAt (take (n - 0) high′)) highs lows → AllLead m n (rowOf n low 0) high → ⊥
   unfolding RowOutcome
   narrow-fails highs lows f all =
-      f (rw (first-size n low (omega (arith, s .low-size, row-within)))
+      f (rw (part-length low n (omega (arith, s .low-size, row-within)))
       (leads-ext n (rowOf n low 0) _ (rowOf n high i) _ (λ j b. sym (first-part n low j b)) (λ j b. sym (row-part i n high j b)) (all i (p .from) im)))
 
   module _ (highs lows : List ℕ) (he : length highs ≡ length (take (n - 0) high′)) (le : length lows ≡ length (take (i * n + n - i * n) (drop (i * n) low′)))
@@ -214,7 +212,7 @@ module _ {i m n : ℕ} {low high low′ high′ old-low old-high : List ℕ} (s 
 
     high-replaced : Replaced 0 n high′ highs new-high
     unfolding new-high
-    high-replaced = let q : n - 0 ≡ n = omega arith in rw q (part-replaced 0 n high′ highs (omega (arith, row-fits .first-high)) (he ∙ first-size n high′ (row-fits .first-high)))
+    high-replaced = let q : n - 0 ≡ n = omega arith in rw q (part-replaced 0 n high′ highs (omega (arith, row-fits .first-high)) (he ∙ part-length high′ n (row-fits .first-high)))
 
     module _ (top : ℕ) (b : IsBounds (m * n) top low high) where
       old : Narrowed i n top low high low′ high′
@@ -230,7 +228,7 @@ module _ {i m n : ℕ} {low high low′ high′ old-low old-high : List ℕ} (s 
       row : RowPruned n top (rowOf n low 0) (rowOf n low i) (rowOf n high i) (rowOf n high′ 0) (rowOf n new-high 0) (rowOf n new-low i)
       unfolding RowOutcome
       row =
-          let g = rw (first-size n low (omega (arith, s .low-size, row-within))) at f in
+          let g = rw (part-length low n (omega (arith, s .low-size, row-within))) at f in
           row-pruned-ext n top (cellAt (take (n - 0) low)) (cellAt (take (i * n + n - i * n) (drop (i * n) low))) (cellAt (take (i * n + n - i * n) (drop (i * n) high)))
           (cellAt (take (n - 0) high′)) (cellAt highs) (cellAt lows) _ _ _ _ _ _ (first-part n low) (row-part i n low) (row-part i n high) (first-part n high′)
           (λ j jn. let q : 0 * n + j ≡ 0 + j = omega (arith, zero-mul n) in rw q (sym (high-replaced .inside j jn))) (λ j jn. sym (low-replaced .inside j jn))

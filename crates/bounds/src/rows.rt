@@ -3,7 +3,7 @@
 use crate::sorting;
 use grids::cells;
 ghost use mathlib.Core.Path.{_≡_};
-ghost use Prim.Native.Nat.{_+_, _≤_, _<_};
+ghost use Prim.Native.Nat.{_≤_, _<_};
 ghost use lib.ListN.{length};
 ghost use Rattle.bounds.specs.Rows.{cellAt, Values, AgreeTo, SaysBelow, SaysNoLater, SaysUnder, Parted, higher, lower, lowFor, IsLows, IsCap, RaisedTo, IsHighs, RowSizes, RowOutcome};
 

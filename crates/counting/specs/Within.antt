@@ -1,7 +1,7 @@
 -- Lines within bounds, byte by byte. Between functions: no answer of a call is defined here.
 --
 --   passes byte before low span  ==  what the byte and the one before it state ranks above low by at most span
---   allPass k line before lows spans  ==  the first k bytes of a line do, by tables of lows and spans; before is the line a byte earlier
+--   allPass k line before lows spans  ==  the first k bytes of a line's cells do, by tables of lows and spans; before has the bytes a byte earlier
 --   LineOutcome r k line before lows spans  ==  r says whether the first k bytes do, and the rank of what each states is a byte
 --   OrderedBounds low high   ==  at most 128 lows and as many highs, each low at most its high by rank
 --   BoundTables n low high lows spans  ==  the tables of the first n bounds: at a field's last byte the rank of the low and how far that of the high is

@@ -1,4 +1,4 @@
-// How many entries lie within bounds: each line is tested by its bytes, in a loop without a jump.
+// How many entries lie within bounds: each line is tested by the bytes of its cells, in a loop without a jump.
 use grids::cells;
 use lines::bytes::above;
 use lines::bytes::stated;
@@ -27,7 +27,7 @@ fn stays_within(within: bool, byte: u8, before: u8, low: u8, span: u8) -> bool
     within
 }
 
-// Whether every byte of a line passes; before is the line that begins a byte earlier.
+// Whether every byte of a line's cells passes; before has the bytes that begin one earlier.
 fn line_within(line: &[u8], before: &[u8], lows: &[u8; 384], spans: &[u8; 384]) -> bool
     requires { ⌜ (length (now line) ≤ 384) × (length (now line) ≤ length (now before)) ⌝ }
     ensures { λ r. ⌜ LineOutcome r (length (now (line .entry))) (now (line .entry)) (now (before .entry)) (now (lows .entry)) (now (spans .entry)) ⌝ }

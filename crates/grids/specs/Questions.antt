@@ -1,4 +1,4 @@
--- The questions that a call asks of its arguments before anything else, with document 01's numbers.
+-- The questions that a call asks of its arguments before anything else, with the numbers of documents 01 and 02.
 --
 --   Question            ==  its number, and whether it gets a yes
 --   firstNo l           ==  the number of the first question of l that gets a no; 0 if each gets a yes

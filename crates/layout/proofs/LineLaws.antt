@@ -1,6 +1,6 @@
 -- The lines of a register's bytes by their places, and question 5 line by line.
 --
---   drop-take, flatten-append   ==  of lists: a part without its first elements; lists put one after another, in two steps
+--   drop-take, flatten-append, nothing  ==  of lists: a part without its first elements; lists put one after another, in two steps; one without elements
 --   of-parts, at-parts          ==  a list is its parts of one length, put one after another; each of them taken out again
 --   start-zero, next-start      ==  where the first line begins; a line begins where the one before it ends
 --   length-line                 ==  how many bytes a line has, where there are bytes enough
@@ -65,7 +65,7 @@ module _ {A : Type 0} where
   flatten-append [] l = refl
   flatten-append (x ∷ k) l = ap (λ (r : List A). x ++ r) (flatten-append k l) ∙ sym (append-assoc x (flatten k) (flatten l))
 
-  nothing : (l : List A) → length l ≡ 0 → l ≡ []
+  pub nothing : (l : List A) → length l ≡ 0 → l ≡ []
   nothing [] e = refl
   nothing (x ∷ l) e = absurd (omega arith)
 

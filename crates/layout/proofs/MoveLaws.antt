@@ -1,4 +1,4 @@
--- What a line put in, a line taken out and the writing of a new register do to the register's bytes.
+-- What a line put in, a line taken out, a holding changed and the writing of a new register do to the register's bytes.
 --
 --   insert-layout     ==  the lines from p on moved one line further, the line of an entry put at p and the count one higher: the entry is put in at p
 --   remove-layout     ==  the lines after p moved one line back, a blank line after them and the count one lower: entry p is taken out
@@ -19,7 +19,7 @@ use Rattle.layout.specs.Decimal.{field}
 use Rattle.layout.specs.Layout.{Shape, Entry, Register, clients, gridSize, changed, fields, lineLength, entryLine, blankLine, headLine, layout, layoutLength}
 use Rattle.layout.specs.Lines.{noEntry, lineStart}
 use Rattle.layout.proofs.DecimalLaws.{length-field}
-use Rattle.layout.proofs.LineLaws.{flatten-append}
+use Rattle.layout.proofs.LineLaws.{flatten-append, nothing}
 use Rattle.layout.proofs.LayoutLaws.{Fitted, Sized, length-fields, length-entry, length-blank, length-head, length-entries, length-blanks}
 
 abbrev Entries : Type 0
@@ -327,10 +327,6 @@ length-over z b start w h lz =
     length-append (take start b) (z ++ drop w (drop start b))
     ∙ omega (arith, length-take-le start b (omega arith), length-append z (drop w (drop start b)), length-drop w (drop start b), length-drop start b)
 
-no-length : (l : List ℕ) → length l ≡ 0 → l ≡ []
-no-length [] e = refl
-no-length (x ∷ l) e = absurd (omega arith)
-
 pub opened-inside : {s : Shape} {k : ℕ} {b : List ℕ} → Opened s k b → k < s .capacity → lineStart (gridSize s) k + lineLength (gridSize s) ≤ length b
 unfolding lineStart layoutLength
 opened-inside {s} {k} {b} o room =
@@ -366,6 +362,6 @@ pub opened-all : {s : Shape} {b : List ℕ} → Opened s (s .capacity) b → b �
 unfolding lineStart layoutLength flatten
 opened-all {s} {b} o =
     o .bytes
-    ∙ ap (λ (l : List ℕ). headLine s 0 ++ (blankLines (gridSize s) (s .capacity) ++ l)) (no-length (o .rest) (omega (arith, length-opened o, o .sized)))
+    ∙ ap (λ (l : List ℕ). headLine s 0 ++ (blankLines (gridSize s) (s .capacity) ++ l)) (nothing (o .rest) (omega (arith, length-opened o, o .sized)))
     ∙ ap (λ (l : List ℕ). headLine s 0 ++ l) (append-nil (blankLines (gridSize s) (s .capacity)))
     ∙ sym (layout-is s [] 0 (s .capacity) refl (omega arith))

@@ -51,7 +51,7 @@ fn number(grid: &[u8], client: usize, k: usize) -> usize
 }
 
 // Writes the line of a new entry, which this client alone holds, once, from its first byte onward.
-pub fn write_line(part: &mut [u8], grid: &[u8], client: usize)
+fn write_line(part: &mut [u8], grid: &[u8], client: usize)
     requires { ⌜ (length (now grid) ≤ 128) × (1 ≤ client) × (client ≤ clients) × (lineLength (length (now grid)) ≤ length (now part)) ⌝ }
     ensures { λ _. ⌜ now (part .exit) ≡ entryLine (firstEntry client (now (grid .entry))) ++ drop (lineLength (length (now (grid .entry)))) (now (part .entry)) ⌝ }
 {

@@ -1,9 +1,14 @@
 -- An implementation whose calls meet their contracts is, call by call, the one of specs/Calls.
 --
+--   meets-own   ==  those of specs/Calls meet their contracts
 --   meets-same  ==  the two implementations are equal
 --   meets-has   ==  so what is proved of the one is proved of the other
-use mathlib.Core.Path.{_≡_, sym, subst}
+use mathlib.Core.Path.{_≡_, refl, sym, subst}
 use Rattle.machine.specs.CallLists.{Implementation, registerCalls, Meets}
+
+pub meets-own : Meets registerCalls
+unfolding registerCalls
+meets-own = record { opens = λ s b. refl; enters = λ b c g. refl; strikes = λ b c g. refl; counts = λ b low high. refl; terminalEnters = λ b c g. refl }
 
 pub meets-same : (i : Implementation) → Meets i → i ≡ registerCalls
 unfolding registerCalls

@@ -9,13 +9,12 @@
 --   shown-count          ==  the machine's bytes state the size of its set
 --   shown-held           ==  and the set's holdings
 --   entry-moved          ==  a set in which every client holds as much of every class as in another has its entries
---   moved                ==  what one list of live classes has, another with the same live classes has
 --   demand3              ==  the demand
 use mathlib.Core.Path.{_≡_, refl, sym, ap, ap₂, _∙_}
 use mathlib.Core.List.{List, [], _∷_, List·Memᴰ, Memᴰ·cast}
-use mathlib.Core.Bool.{Bool, true, false, not}
+use mathlib.Core.Bool.{true, false, not}
 use mathlib.Core.Logic.{_↔_}
-use Prim.Native.Nat.{ℕ, zero, suc, _+_, _-_, _*_, _≤_}
+use Prim.Native.Nat.{ℕ, zero, suc, _+_, _-_, _≤_}
 use native.Mathlib.Omega.{arith}
 use lib.ListN.{length, getD, length-map}
 use lib.Dec.{eqb}
@@ -31,7 +30,7 @@ use Rattle.machine.specs.Machine.{sorted, shown, step, outcome, outcomes
 use Rattle.machine.specs.Demand3.{entersOf, strikesOf, holdingOf, live, ListsLive, AfterOpen, Demand3}
 use Rattle.layout.proofs.LayoutLaws.{count-layout}
 use Rattle.layout.proofs.RegisterLaws.{register-printable}
-use Rattle.machine.proofs.SortedLaws.{Entries, Grids, holds-in, of-grids, asc-ext, in-sorted, of-sorted, sorted-asc, length-sorted}
+use Rattle.machine.proofs.SortedLaws.{Entries, holds-in, of-grids, asc-ext, in-sorted, of-sorted, sorted-asc, length-sorted}
 use Rattle.layout.proofs.HoldingLaws.{holdings-ext}
 use Rattle.machine.proofs.HoldingLaws.{held-member, held-here, sorted-holdings}
 use Rattle.machine.proofs.MachineLaws.{Good, empty-good, registerOf, good-register, reads, enter-same, strike-same, count-same, terminal-enter-same, set-fit, step-good, afterwards, afterwards-good}
@@ -148,13 +147,6 @@ module _ (s : Shape) (slice : List ℕ) (e : opened s slice .number ≡ 0) (call
 pub shown-held : (s : Shape) (l : Entries) → Good s l → (k : ℕ) (r : List ℕ) → heldBy k r (decode (shown s l) .entries) ≡ heldBy k r l
 unfolding registerOf heldBy
 shown-held s l g k r = ap (λ (x : Register). holding k (holdingsIn r (x .entries))) (reads s l g) ∙ ap (holding k) (sorted-holdings l (g .once) r)
-
--- what one list of live classes has, another with the same live classes has
-pub moved : (m n : ℕ) (live₁ live₂ : List ℕ → Bool) (l₁ l₂ : Grids) → ListsLive m n live₁ l₁ → ListsLive m n live₂ l₂ → ((a : List ℕ) → length a ≡ m * n → live₁ a ≡ live₂ a) →
-    (r : List ℕ) → List·Memᴰ r l₁ → List·Memᴰ r l₂
-moved m n live₁ live₂ l₁ l₂ x y f r k =
-    let p = x .leasts r k in
-    Memᴰ·cast (sym (p .1)) (y .exact r (p .0) .0 (sym (f r (p .0)) ∙ x .exact r (p .0) .1 (Memᴰ·cast (p .1) k)))
 
 -- ---- equal bytes, equal holdings
 

@@ -5,14 +5,15 @@
 --   follows-open       ==  so it is after an open
 --   follows-call       ==  then each call answers and leaves what the machine does
 --   follows-next       ==  and so it is again after the call
+--   left-follows       ==  so after calls it leaves the machine's bytes
 --   lists-after        ==  the machine's set lists the live classes
-use mathlib.Core.Path.{_≡_, sym, ap, subst, _∙_}
+use mathlib.Core.Path.{_≡_, refl, sym, ap, subst, _∙_}
 use mathlib.Core.List.{List, [], _∷_}
 use Prim.Native.Nat.{ℕ}
 use lib.ListN.{replicate, length-replicate}
 use Rattle.layout.specs.Layout.{Shape, gridsOf, layoutLength, InLimits}
 use Rattle.machine.specs.Calls.{Outcome}
-use Rattle.machine.specs.CallLists.{Call, Implementation, called, run}
+use Rattle.machine.specs.CallLists.{Call, Implementation, called, run, left}
 use Rattle.machine.specs.Machine.{shown, step, outcome, outcomes}
 use Rattle.machine.specs.Demand3.{live, ListsLive, AfterOpen, Demand3}
 use Rattle.machine.proofs.SortedLaws.{Entries}
@@ -43,3 +44,9 @@ module _ (i : Implementation) (s : Shape) (l : Entries) (f : Follows i s l) (c :
   pub follows-next : Follows i s (step s l c .next)
   unfolding run outcomes outcome
   follows-next calls = let e = f (c ∷ calls) in let o = follows-call in ap (λ (x : Outcome). run i (x .bytes) calls) (sym o) ∙ (cc)
+
+pub left-follows : (i : Implementation) (s : Shape) (calls : List Call) (l : Entries) → Follows i s l → left i (shown s l) calls ≡ shown s (afterwards s l calls)
+unfolding left afterwards outcome
+left-follows i s [] l f = refl
+left-follows i s (c ∷ calls) l f =
+    ap (λ (o : Outcome). left i (o .bytes) calls) (follows-call i s l f c) ∙ left-follows i s calls (step s l c .next) (follows-next i s l f c)

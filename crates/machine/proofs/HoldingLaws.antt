@@ -5,6 +5,7 @@
 --   holdings-fit, changed-fit, fit-held  ==  a register's fit; with one changed; where not all are 0
 --   differs r e        ==  the entry e has another grid than r
 --   of-without, without-asc, without-once, without-none, without-fewer, without-shorter  ==  without a grid: what is left, in what order, that it is not left, and how many are
+--   chosen t x y       ==  x for a yes, y for a no
 --   Becomes l r h l′   ==  l′ has the holdings h for the grid r, and those of l for every other
 --   put-becomes, kept-becomes, sorted-holdings  ==  so it is after put and kept; sorting changes none
 --   one t              ==  1 for a yes, 0 for a no
@@ -43,8 +44,8 @@ unfolding holdingsIn
 later a e l t = rw (t, holdingsIn)
 
 -- two grids, of which a third is only one
-apart : (a r g : List ℕ) → equal r a ≡ false → r ≡ g → equal a g ≡ false
-apart a r g n e = rw (← e) (equal-sym a r ∙ n)
+other-grid : (a r g : List ℕ) → equal r a ≡ false → r ≡ g → equal a g ≡ false
+other-grid a r g n e = rw (← e) (equal-sym a r ∙ n)
 
 pub held-member : (l : Entries) → Once (gridsOf l) → (e : Entry) → List·Memᴰ e l → holdingsIn (e .grid) l ≡ e .holdings
 held-member [] o e m = absurd (List·Memᴰ·not-nil m)
@@ -167,7 +168,7 @@ without-becomes r (x ∷ l) a = go (without-becomes r l a) (yes-or-no (equal r (
     go : holdingsIn a (select (differs r) l) ≡ chosen (equal r a) noHoldings (holdingsIn a l) → (equal r (x .grid) ≡ true) ⊎ (equal r (x .grid) ≡ false) → (equal r a ≡ true) ⊎ (equal r a ≡ false) → (equal a (x .grid) ≡ true) ⊎ (equal a (x .grid) ≡ false) →
         holdingsIn a (select (differs r) (x ∷ l)) ≡ chosen (equal r a) noHoldings (holdingsIn a (x ∷ l))
     go ih (inl e) (inl d) k = rw (select-no (differs r) x l (rw e), d) (rw d at ih)
-    go ih (inl e) (inr d) k = rw (select-no (differs r) x l (rw e), d, later a x l (apart a r (x .grid) d (equal-eq r (x .grid) e))) (rw d at ih)
+    go ih (inl e) (inr d) k = rw (select-no (differs r) x l (rw e), d, later a x l (other-grid a r (x .grid) d (equal-eq r (x .grid) e))) (rw d at ih)
     go ih (inr e) (inl d) k = rw (select-yes (differs r) x l (rw e), d, later a x (select (differs r) l) (rw (equal-eq r a d) at e)) (rw d at ih)
     go ih (inr e) (inr d) (inl k) = rw (select-yes (differs r) x l (rw e), d, here a x (select (differs r) l) k, here a x l k)
     go ih (inr e) (inr d) (inr k) = rw (select-yes (differs r) x l (rw e), d, later a x (select (differs r) l) k, later a x l k) (rw d at ih)

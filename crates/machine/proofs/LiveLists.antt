@@ -18,7 +18,6 @@ use Rattle.machine.specs.Machine.{sorted}
 use Rattle.machine.specs.Demand3.{Once, live, ListsLive, prunedFor, AfterOpen}
 use Rattle.machine.proofs.SortedLaws.{Entries, Grids, asc-ext, in-sorted, of-sorted, sorted-asc, length-sorted, count-sorted}
 use Rattle.machine.proofs.CountLaws.{inside}
-use Rattle.machine.proofs.Demand3Laws.{moved}
 
 -- grids as entries, and sorted
 abbrev bare : Grids → Entries
@@ -37,13 +36,19 @@ bare-within k l f e m = let p = Memᴰ·of-map (λ (r : List ℕ). record { grid
 bare-once : (l : Grids) → Once l → Once (gridsOf (bare l))
 bare-once l o = rw (bare-grids l) o
 
+-- what one list of the live classes has, another has
+listed : (m n : ℕ) (live : List ℕ → Bool) (k l : Grids) → ListsLive m n live k → ListsLive m n live l → (r : List ℕ) → List·Memᴰ r k → List·Memᴰ r l
+listed m n live k l x y r j =
+    let p = x .leasts r j in
+    Memᴰ·cast (sym (p .1)) (y .exact r (p .0) .0 (x .exact r (p .0) .1 (Memᴰ·cast (p .1) j)))
+
 pub lists-one : (m n : ℕ) (live : List ℕ → Bool) (k l : Grids) → ListsLive m n live k → ListsLive m n live l → ascendingly k ≡ ascendingly l
 unfolding ascendingly
 lists-one m n live k l x y =
     ap (λ (es : Entries). gridsOf es)
     (asc-ext (sorted (bare k)) (sorted (bare l)) (sorted-asc (bare k) (bare-once k (x .once))) (sorted-asc (bare l) (bare-once l (y .once)))
-    (λ e q. in-sorted (bare l) e (bare-within k l (moved m n live live k l x y (λ a z. refl)) e (of-sorted (bare k) e q)))
-    (λ e q. in-sorted (bare k) e (bare-within l k (moved m n live live l k y x (λ a z. refl)) e (of-sorted (bare l) e q))))
+    (λ e q. in-sorted (bare l) e (bare-within k l (listed m n live k l x y) e (of-sorted (bare k) e q)))
+    (λ e q. in-sorted (bare k) e (bare-within l k (listed m n live l k y x) e (of-sorted (bare l) e q))))
 
 length-ascendingly : (l : Grids) → length (ascendingly l) ≡ length l
 unfolding ascendingly

@@ -1,4 +1,4 @@
--- The place of a grid among grids, by index, and the steps of a binary search for it.
+-- The place of a grid among grids, by index, the entries with other holdings for it, and the steps of a binary search for the place.
 --
 --   place-lower       ==  the place of r
 --   holds-lower, holds-not-end, holds-not-there  ==  r stands in l if it stands at p, and only then

@@ -1,12 +1,13 @@
 -- What is known of a register that question 5 has passed.
 --
+--   capacity-stated              ==  the capacity that the bytes state
 --   valid-register, valid-layout  ==  what the bytes state is a register, and they are its layout
 --   valid-count, valid-ascends, valid-line, valid-holdings  ==  how many entries it has, that they ascend, and that each is what its line states
 --   valid-sized                  ==  its entries have as many cells as it says and a holding for each client
---   Sizes size n b              ==  the sizes, all of them small
+--   Sizes size n capacity b      ==  the sizes, all of them small
 --   valid-sizes                  ==  a register has them
---   line-fits, entry-fits       ==  a line ends within the bytes, and its place is a small number
---   entry-part                  ==  the part of the bytes that an entry's line is
+--   line-fits, entry-fits        ==  a line ends within the bytes, and its place is a small number
+--   entry-part                   ==  the part of the bytes that an entry's line is
 use mathlib.Core.Path.{_≡_, refl, sym, ap, _∙_}
 use mathlib.Core.List.{List, []}
 use mathlib.Core.Bool.{true}
@@ -36,6 +37,10 @@ pub record Sizes (size n capacity : ℕ) (b : List ℕ) : Type 0 where
 -- cells at most top are at most a greater one
 capped-more : (a c : ℕ) (g : List ℕ) → a ≤ c → capped a g ≡ true → capped c g ≡ true
 capped-more a c g h e = at-capped c g (λ k l. omega (arith, capped-at a g e k l))
+
+pub capacity-stated : (b : List ℕ) → decodeShape b .capacity ≡ decode b .shape .capacity
+unfolding decode
+capacity-stated b = refl
 
 module _ {size n : ℕ} {b : List ℕ} (k : Valid size n b) where
   pub valid-register : IsRegister (decode b)

@@ -1,4 +1,5 @@
--- A line put into a register or taken out of it, as the code does it: the part from the line's first byte on is lent, and then the count's field.
+-- A line put into a register or taken out of it, or a holding changed in it, as the code does it: the part from the line's first byte on is lent,
+-- and then, where the count changes, the count's field.
 --
 --   Room b start moved w     ==  from start on there is room for so many bytes and a line
 --   lines-fit                ==  so many lines and one more fit a register
@@ -7,7 +8,7 @@
 --   put-tail, tail-part      ==  a part up to the end
 --   put-fits, count-part     ==  the bytes are as many as before, and the count's field has 6 bytes
 --   bytes-inserted, bytes-removed, bytes-changed  ==  the bytes afterwards are the layout with the entry put in, taken out, or with another holding
-use mathlib.Core.Path.{_≡_, refl, ap, _∙_}
+use mathlib.Core.Path.{_≡_, ap, _∙_}
 use mathlib.Core.List.{List, _∷_, _++_, append-nil}
 use Prim.Native.Nat.{ℕ, suc, _+_, _-_, _*_, _≤_, _<_}
 use native.Mathlib.Nat.{mul-le-mul}
@@ -21,7 +22,7 @@ use Rattle.layout.specs.Lines.{noEntry, lineStart}
 use Rattle.layout.proofs.LayoutLaws.{Fitted}
 use Rattle.layout.proofs.MoveLaws.{insert-layout, remove-layout, change-layout}
 use Rattle.machine.specs.Valid.{Valid}
-use Rattle.machine.proofs.ValidLaws.{valid-register, valid-layout, valid-count, valid-sized, valid-sizes}
+use Rattle.machine.proofs.ValidLaws.{capacity-stated, valid-register, valid-layout, valid-count, valid-sized, valid-sizes}
 
 pub record Room (b : List ℕ) (start moved w : ℕ) : Type 0 where
   pub past-head : 31 ≤ start
@@ -75,10 +76,6 @@ module _ {size n : ℕ} {b : List ℕ} (k : Valid size n b) (p w : ℕ) (q : w �
   unfolding decode
   cells-are = k .sized
 
-  capacity-is : decodeShape b .capacity ≡ decode b .shape .capacity
-  unfolding decode
-  capacity-is = refl
-
   pub bytes-inserted : p ≤ n → n < decodeShape b .capacity → (g : Entry) (ys zs : List ℕ) {m : ℕ} → Fitted size g →
       ys ≡ entryLine g ++ (take ((n - p) * w) (midOf (31 + p * w) (length b - (31 + p * w)) b) ++ drop ((n - p) * w + lineLength (length (g .grid))) (midOf (31 + p * w) (length b - (31 + p * w)) b)) →
       zs ≡ field m (n + 1) → m ≡ 6 →
@@ -87,7 +84,7 @@ module _ {size n : ℕ} {b : List ℕ} (k : Valid size n b) (p w : ℕ) (q : w �
   bytes-inserted i h g ys zs gs e f six =
       rw (f, six)
       (rw (valid-count k) at
-      (insert-layout (decode b) b (putMid (31 + p * w) (length b - (31 + p * w)) b ys) g p (valid-sized k) (valid-layout k) (omega (arith, valid-count k, capacity-is)) (omega (arith, valid-count k))
+      (insert-layout (decode b) b (putMid (31 + p * w) (length b - (31 + p * w)) b ys) g p (valid-sized k) (valid-layout k) (omega (arith, valid-count k, capacity-stated b)) (omega (arith, valid-count k))
       (rw (← cells-are, valid-count k, ← q) (put-tail b (31 + p * w) (room-insert i h .start-inside) ys ∙ ap (λ (l : List ℕ). take (31 + p * w) b ++ l) (rw (tail-part b (31 + p * w) (room-insert i h .start-inside), gs .cells, ← q) at e)))))
 
   pub bytes-removed : p < n → (ys zs : List ℕ) {m : ℕ} →

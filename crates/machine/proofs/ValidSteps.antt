@@ -31,7 +31,7 @@ use Rattle.machine.specs.Valid.{Valid, registerWith, goneAt, heldAs, ent
 use Rattle.layout.proofs.HoldingLaws.{first-fitted}
 use Rattle.machine.proofs.HoldingLaws.{none-by}
 use Rattle.machine.proofs.PlaceLaws.{there-held, kept-there, kept-gone}
-use Rattle.machine.proofs.ValidLaws.{valid-count, valid-ascends, valid-sizes, valid-holdings}
+use Rattle.machine.proofs.ValidLaws.{capacity-stated, valid-count, valid-ascends, valid-sizes, valid-holdings}
 use Rattle.machine.proofs.LeastSteps.{held-there, entered-held, entered-most, entered-full, entered-new, struck-none, struck-held}
 use Rattle.machine.proofs.ValidMoves.{Room, room-insert, room-remove, bytes-inserted, bytes-removed, bytes-changed}
 
@@ -48,10 +48,6 @@ module _ {n p : ℕ} {b g : List ℕ} (k : Valid (length g) n b) (h : Lower (gri
   pub enter-room : {capacity w : ℕ} → capacity ≡ decodeShape b .capacity → n < capacity → w ≡ lineLength size → Room b (31 + p * w) ((n - p) * w) w
   enter-room {capacity} {w} e r q = room-insert k p w q (place-small .0) (rw e at r)
 
-  shape-capacity : decodeShape b .capacity ≡ decode b .shape .capacity
-  unfolding decode
-  shape-capacity = refl
-
   grids-count : length (gridsOf (decode b .entries)) ≡ n
   grids-count = length-map (decode b .entries) (λ (x : Entry). x .grid) ∙ valid-count k
 
@@ -65,7 +61,7 @@ module _ {n p : ℕ} {b g : List ℕ} (k : Valid (length g) n b) (h : Lower (gri
     -- ---- it does not stand there
 
     pub enter-full : (c : ℕ) → t ≡ false → decodeShape b .capacity ≤ n → placed 9 0 b ≡ enteredLeast b c g
-    enter-full c y f = sym (entered-full b c h (sym held-found ∙ y) (omega (arith, valid-count k, shape-capacity)))
+    enter-full c y f = sym (entered-full b c h (sym held-found ∙ y) (omega (arith, valid-count k, capacity-stated b)))
 
     pub enter-new : (c : ℕ) → t ≡ false → n < decodeShape b .capacity → 1 ≤ c → c ≤ clients → (w : ℕ) → w ≡ lineLength size → (ys zs : List ℕ) {m : ℕ} →
         ys ≡ entryLine (firstEntry c g) ++ (take ((n - p) * w) (part w) ++ drop ((n - p) * w + lineLength size) (part w)) →
@@ -73,7 +69,7 @@ module _ {n p : ℕ} {b g : List ℕ} (k : Valid (length g) n b) (h : Lower (gri
         placed 0 (p + 1) (putMid 24 6 (putMid (31 + p * w) (length b - (31 + p * w)) b ys) zs) ≡ enteredLeast b c g
     enter-new c y f low high w q ys zs e d six =
         ap₂ (λ (i : ℕ) (l : List ℕ). placed 0 i l) (add-one p) (bytes-inserted k p w q (place-small .0) f (firstEntry c g) ys zs (first-fitted c g) e d six)
-        ∙ sym (entered-new b c h (sym held-found ∙ y) (omega (arith, valid-count k, shape-capacity)) low high)
+        ∙ sym (entered-new b c h (sym held-found ∙ y) (omega (arith, valid-count k, capacity-stated b)) low high)
 
     pub strike-none : (c : ℕ) → t ≡ false → placed 10 0 b ≡ struckLeast b c g
     strike-none c y = sym (struck-none b c h (none-by (decode b .entries) g c (sym held-found ∙ y)))

@@ -1,4 +1,4 @@
--- Laws of command lines: which lines are laid as document 01 says, and the cells and bounds that they state.
+-- Laws of command lines: which lines are laid as documents 01 and 02 say, and the client, cells and bounds that they state.
 --
 --   CommandLaid size k client c l  ==  l is the line of the command k, 1 to 3, with the client, 0 where the command is 3, and the cells c: as many as the command has, none above 255
 --   length-leads       ==  how many bytes stand before the cells
@@ -12,7 +12,7 @@ use mathlib.Core.Path.{_≡_, refl, sym, ap, _∙_}
 use mathlib.Core.List.{List, [], _∷_, _++_}
 use mathlib.Core.Bool.{Bool, true, false}
 use mathlib.Core.Logic.{_⊎_, inl, inr, _↔_}
-use Prim.Native.Nat.{ℕ, zero, suc, _+_, _-_, _*_, _≤_, _<_}
+use Prim.Native.Nat.{ℕ, zero, suc, _+_, _*_, _≤_, _<_}
 use native.Mathlib.Nat.{mul-comm}
 use native.Mathlib.Omega.{arith}
 use lib.ListN.{length, getD, drop, length-append}

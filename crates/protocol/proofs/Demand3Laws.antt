@@ -1,33 +1,27 @@
 -- Demand 3 of planbook: a program has it exactly if it prints what planbook prints.
 --
---   left-follows       ==  an implementation that answers what the machine does leaves the machine's bytes
 --   prints-demand3     ==  a program that prints what planbook prints meets demand 3
 --   demand3-prints     ==  and no other program does
 --   register-counts    ==  the count of the register printed is the number of live classes
 use mathlib.Core.Path.{_≡_, refl, sym, ap, ap₂, _∙_}
-use mathlib.Core.List.{List, [], _∷_, _++_}
+use mathlib.Core.List.{List, [], _++_}
 use Prim.Native.Nat.{ℕ, zero, suc}
 use lib.ListN.{length, replicate, length-replicate}
-use Rattle.layout.specs.Layout.{Shape, Entry, layoutLength, count}
-use Rattle.machine.specs.Calls.{Outcome, opened}
-use Rattle.machine.specs.CallLists.{Call, Implementation, registerCalls, run, left}
-use Rattle.machine.specs.Machine.{shown, step, outcome}
+use Rattle.layout.specs.Layout.{layoutLength, count}
+use Rattle.machine.specs.Calls.{Outcome}
+use Rattle.machine.specs.CallLists.{Implementation, registerCalls, run, left}
+use Rattle.machine.specs.Machine.{shown}
 use Rattle.machine.specs.Demand3.{live, ListsLive, Demand3}
-use Rattle.machine.proofs.MachineLaws.{Good, empty-good, afterwards}
+use Rattle.machine.proofs.MachineLaws.{Good, empty-good}
+use Rattle.machine.proofs.CallListLaws.{meets-own}
 use Rattle.machine.proofs.Demand3Laws.{demand3}
-use Rattle.machine.proofs.FollowLaws.{Follows, after-open, follows-open, follows-call, follows-next}
+use Rattle.machine.proofs.FollowLaws.{Follows, after-open, follows-open, left-follows}
 use Rattle.protocol.specs.Input.{furtherLines}
 use Rattle.protocol.specs.Transcript.{shapeIn, startNo, printedRegister, transcript}
 use Rattle.protocol.specs.Programs.{Printing, Prints}
 use Rattle.protocol.specs.Demand3.{replies, inputCalls, PrintsCalls, PrintsDemand3}
 use Rattle.protocol.proofs.StartLaws.{start-limits}
 use Rattle.protocol.proofs.RunLaws.{start-refused, register-shown, transcript-ends, set-calls, reports-replies}
-
-pub left-follows : (i : Implementation) (s : Shape) (calls : List Call) (l : List Entry) → Follows i s l → left i (shown s l) calls ≡ shown s (afterwards s l calls)
-unfolding left afterwards outcome
-left-follows i s [] l f = refl
-left-follows i s (c ∷ calls) l f =
-    ap (λ (o : Outcome). left i (o .bytes) calls) (follows-call i s l f c) ∙ left-follows i s calls (step s l c .next) (follows-next i s l f c)
 
 module _ (i : Implementation) (d : Demand3 i) (input : List ℕ) (e : startNo input ≡ 0) where
   good : Good (shapeIn input) []
@@ -61,8 +55,7 @@ prints-demand3 p h = record { refuses = λ input k e. h input ∙ start-refused 
 
 -- the calls as specs/Calls has them meet demand 3
 own : Demand3 registerCalls
-unfolding registerCalls
-own = demand3 registerCalls (record { opens = λ s b. refl; enters = λ b c g. refl; strikes = λ b c g. refl; counts = λ b low high. refl; terminalEnters = λ b c g. refl })
+own = demand3 registerCalls meets-own
 
 pub demand3-prints : (p : Printing) → PrintsDemand3 p → Prints p
 unfolding Prints

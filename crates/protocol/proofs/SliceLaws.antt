@@ -15,7 +15,6 @@ use lib.Seq.{take-at, drop-at}
 use lib.Dec.{leb}
 use borrow.Author.Tests.{leb-true, le-leb}
 use Rattle.permutations.proofs.BoolLaws.{and-yes, yes-and}
-use Rattle.layout.specs.Layout.{count}
 use Rattle.protocol.specs.Transcript.{byteLimit, transcript}
 use Rattle.protocol.specs.Programs.{Prints, outputLimit, over, Transcribed, transcribing, hasRoom, transcribed, Transcribing, MeetsTranscribe, printing}
 use Rattle.protocol.proofs.RunLaws.{transcript-fits}

@@ -19,7 +19,6 @@ use Rattle.layout.specs.Layout.{Shape, layoutLength, InLimits}
 use Rattle.machine.specs.Calls.{refusal, answered, question4, openQuestions, opened}
 use Rattle.machine.specs.Valid.{numbersNo}
 use Rattle.machine.proofs.AskedLaws.{numberQuestions, number-numbered, numbers-pass}
-use Rattle.protocol.specs.Commands.{answer}
 use Rattle.protocol.specs.Transcript.{byteLimit, shapeIn, question11, question12, question13, startQuestions, startNo}
 
 -- ---- the checks

@@ -37,7 +37,7 @@ pub record PrintsCalls (p : Printing) (i : Implementation) (input : List ℕ) (o
   pub opened : o .number ≡ 0
   -- a line for each further line, and then the register
   pub prints : p input ≡ replies (shapeIn input) (furtherLines input) (run i (o .bytes) (inputCalls input)) ++ left i (o .bytes) (inputCalls input)
-  -- demand 3 of these calls: of what they answer, and of the register printed, its count, the counts of bounds and its bytes
+  -- demand 3 of these calls: of what they answer, and of the register printed, its count, the counts of bounds, its holdings and its bytes
   pub after : AfterOpen i (shapeIn input) (o .bytes) (inputCalls input)
 
 pub record PrintsDemand3 (p : Printing) : Type 0 where

@@ -1,4 +1,4 @@
--- The lines of planbook's input. A line is laid as document 01 says if laying out what it states gives it back.
+-- The lines of planbook's input. A line is laid as documents 01 and 02 say if laying out what it states gives it back.
 --
 --   lines s           ==  the lines of the bytes s, each with its line feed; the last may have none
 --   onto b ls         ==  the byte b put in front of the first line

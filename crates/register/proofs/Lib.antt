@@ -2,5 +2,5 @@ pub mod PlaceSteps
 pub mod ClientSteps
 pub mod AskSteps
 pub mod OpenSteps
-pub mod CountParts
+pub mod CountSteps
 pub mod SoughtSteps

@@ -1,8 +1,8 @@
 -- From what the code finds at a line to the place of a grid.
 --
 --   entry-line              ==  the part of the register that is lent to be read is an entry's line
---   entry-length, entry-compared  ==  what was read is the entry
---   past-entry, at-entry    ==  the test whether an entry is the grid
+--   entry-length, entry-compared  ==  what was read is the entry's grid
+--   past-entry, at-entry    ==  the test whether an entry has the grid
 --   halved-low, halved-high ==  the two halves of a span
 use mathlib.Core.Path.{_≡_, refl, sym, ap, _∙_}
 use mathlib.Core.List.{List, [], _++_}

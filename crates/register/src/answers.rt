@@ -1,4 +1,4 @@
-// What open, enter and strike return.
+// What open, enter, strike and a terminal's enter return.
 ghost use mathlib.Core.Path.{_≡_};
 
 // The number and the place.

@@ -1,4 +1,4 @@
-// What enter, strike and a terminal's enter ask of a register and a grid before anything else.
+// What enter, strike and a terminal's enter ask of a register, a client and a grid before anything else.
 use canonical::represent;
 use canonical::terminal_represent;
 use lines::head;

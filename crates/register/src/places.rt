@@ -15,7 +15,7 @@ ghost use Rattle.machine.specs.Places.{Lower, Between};
 ghost use Rattle.machine.specs.Valid.{Valid};
 ghost use Rattle.register.specs.Spans.{Halved};
 
-// What comparing the entry of a line with a grid finds.
+// What comparing the grid of a line's entry with a grid finds.
 fn compare_entry(register: &[u8], e: usize, count: usize, grid: &[u8]) -> Comparison
     requires { ⌜ Valid (length (now grid)) count (now register) × (e < count) ⌝ }
     ensures { λ r. ⌜ r ≡ compared (getD (gridsOf (decode (now (register .entry)) .entries)) e []) (now (grid .entry)) ⌝ }
@@ -70,7 +70,7 @@ pub fn lower_bound(register: &[u8], count: usize, grid: &[u8]) -> usize
     span.low
 }
 
-// Whether the entry of a line, if there is one, is the grid.
+// Whether the entry of a line, if there is one, has the grid.
 pub fn is_entry(register: &[u8], count: usize, e: usize, grid: &[u8]) -> bool
     requires { ⌜ Valid (length (now grid)) count (now register) ⌝ }
     ensures { λ r. ⌜ r ≡ (ltb e count && equal (getD (gridsOf (decode (now (register .entry)) .entries)) e []) (now (grid .entry))) ⌝ }

@@ -17,6 +17,7 @@ use lib.ListN.{getD}
 use Rattle.layout.specs.Layout.{lineLength}
 use Rattle.layout.specs.Lines.{lineStart}
 use Rattle.layout.proofs.LineLaws.{start-zero, next-start}
+use Rattle.lines.proofs.EqualityLaws.{fails}
 use Rattle.scan.specs.Cells.{CellBytes, CellsLaid, Same}
 use Rattle.scan.specs.Fits.{allFit}
 use Rattle.scan.specs.Holdings.{HoldingsLaid}
@@ -24,9 +25,6 @@ use Rattle.scan.specs.Lines.{LineLaid, Precedes, Follows, LinesLaid}
 use Rattle.scan.specs.Tables.{Tables}
 use Rattle.scan.proofs.CellLaws.{fit-cells}
 use Rattle.scan.proofs.OrderLaws.{same-byte}
-
-never : {A : Type 0} → (A → ⊥) → (false ≡ true) ↔ A
-never f = (λ e. absurd (true≢false (sym e)), λ a. absurd (f a))
 
 -- ---- one line
 
@@ -57,10 +55,10 @@ cells-join size top b at k h g l i c = go (decLt i k)
 
 module _ (size top : ℕ) (b : List ℕ) (at length : ℕ) (e : length ≡ lineLength size) where
   pub line-none : (getD b (at + length - 1) 0 ≡ 10 → ⊥) → (false ≡ true) ↔ LineLaid size top b at
-  line-none f = never (λ h. f (rw e (h .feed)))
+  line-none f = fails (λ h. f (rw e (h .feed)))
 
   pub line-not : (r : Bool) → (r ≡ true) ↔ HoldingsLaid b (at + 3 * size) → r ≡ false → (false ≡ true) ↔ LineLaid size top b at
-  line-not r d f = never (λ h. true≢false (sym (d .1 (h .holdings-laid)) ∙ f))
+  line-not r d f = fails (λ h. true≢false (sym (d .1 (h .holdings-laid)) ∙ f))
 
   pub line-decides : (base teen span : List ℕ) → top ≤ 15 → Tables size top base teen span → ((i : ℕ) → getD b i 0 < 256) →
       (k : ℕ) (r : Bool) → 1 ≤ at → k ≤ size → CellsLaid top b at k → getD b (at + length - 1) 0 ≡ 10 → HoldingsLaid b (at + 3 * size) →
@@ -75,7 +73,7 @@ module _ (size top : ℕ) (b : List ℕ) (at length : ℕ) (e : length ≡ lineL
 
 module _ (size top : ℕ) (b : List ℕ) (p q : ℕ) (t : Bool) (laid : (t ≡ true) ↔ LineLaid size top b q) where
   pub next-not : t ≡ false → (false ≡ true) ↔ Follows size top b p q
-  next-not e = never (λ w. true≢false (sym (laid .1 (w .laid)) ∙ e))
+  next-not e = fails (λ w. true≢false (sym (laid .1 (w .laid)) ∙ e))
 
   pub next-decides : t ≡ true → (r : Bool) → (r ≡ true) ↔ Precedes size b p q → (r ≡ true) ↔ Follows size top b p q
   next-decides e r o = (λ y. record { laid = laid .0 e; order = o .0 y }, λ f. o .1 (f .order))
@@ -92,7 +90,7 @@ lines-one size top at b z h = record {
 }
 
 pub lines-first-not : (size top n at : ℕ) (b : List ℕ) → 0 < n → at ≡ 31 → (r : Bool) → (r ≡ true) ↔ LineLaid size top b at → r ≡ false → (false ≡ true) ↔ LinesLaid size top n b
-lines-first-not size top n at b h z r w f = never (λ l. true≢false (sym (w .1 (rw (start-zero size, ← z) at (l .lines 0 h))) ∙ f))
+lines-first-not size top n at b h z r w f = fails (λ l. true≢false (sym (w .1 (rw (start-zero size, ← z) at (l .lines 0 h))) ∙ f))
 
 module _ (size top e at next : ℕ) (b : List ℕ) (here : at ≡ lineStart size e) (there : next ≡ at + lineLength size) where
   start-there : lineStart size (e + 1) ≡ next
@@ -110,7 +108,7 @@ module _ (size top e at next : ℕ) (b : List ℕ) (here : at ≡ lineStart size
       after i c (no d) = let z : i ≡ e = omega arith in rw (z, start-there, ← here) (f .order)
 
   pub lines-not : (n : ℕ) → e + 1 < n → (r : Bool) → (r ≡ true) ↔ Follows size top b at next → r ≡ false → (false ≡ true) ↔ LinesLaid size top n b
-  lines-not n h r w f = never (λ l. true≢false (sym (w .1 (follows l)) ∙ f))
+  lines-not n h r w f = fails (λ l. true≢false (sym (w .1 (follows l)) ∙ f))
     where
       follows : LinesLaid size top n b → Follows size top b at next
       follows l = record {

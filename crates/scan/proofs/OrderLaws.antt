@@ -24,7 +24,7 @@ use lib.Dec.{eqb, ltb}
 use Rattle.permutations.specs.Lists.{tabulate}
 use Rattle.permutations.proofs.BoolLaws.{and-yes}
 use Rattle.permutations.proofs.ListLaws.{tabulate-ext}
-use Rattle.grids.specs.Order.{rank, _≼_, _≺_}
+use Rattle.grids.specs.Order.{rank, _≺_}
 use Rattle.grids.proofs.OrderLaws.{≼-refl, tabulate-at, tabulate-by-index}
 use Rattle.layout.specs.Decimal.{value}
 use Rattle.layout.specs.Layout.{numberAt, cellsOf}

@@ -1,4 +1,4 @@
--- What each byte of an entry's line may be. Between functions: no answer of a call is defined here.
+-- What each byte of an entry's cells may be. Between functions: no answer of a call is defined here.
 --
 --   rest x teen      ==  x, but 0 where it is teen
 --   smaller a b       ==  the smaller of two numbers

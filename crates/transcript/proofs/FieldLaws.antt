@@ -51,12 +51,11 @@ pub record CellLaid (b : List ℕ) (i : ℕ) : Type 0 where
 
 pub record CellsTo (k at : ℕ) (b c o : List ℕ) : Type 0 where
   pub place : at ≡ 3 * k
-  pub within : k ≤ length c
   pub so-far : ReadTo k b c o
   pub laid : (i : ℕ) → i < k → CellLaid b i
 
 pub cells-none : (b c : List ℕ) → CellsTo 0 0 b c c
-cells-none b c = record { place = refl; within = omega arith; so-far = read-none b c; laid = λ i h. absurd (omega arith) }
+cells-none b c = record { place = refl; so-far = read-none b c; laid = λ i h. absurd (omega arith) }
 
 module _ {k at : ℕ} {b c o : List ℕ} (t : CellsTo k at b c o) (h : k < length c) {x : ℕ} (e : x ≡ numberAt 3 at b) where
   here : x ≡ numberAt 3 (3 * k) b
@@ -71,7 +70,6 @@ module _ {k at : ℕ} {b c o : List ℕ} (t : CellsTo k at b c o) (h : k < lengt
   pub cells-next : x ≤ 255 → {w : ℕ} → w ≡ 3 → take (at + 3 - at) (drop at b) ≡ field w x → CellsTo (k + 1) (at + 3) b c (set o k x)
   cells-next small {w} y f = record {
     place = omega (arith, t .place);
-    within = omega arith;
     so-far = read-next x (t .so-far) h here;
     laid = λ i l. each i l (ℕ-discrete i k);
   }

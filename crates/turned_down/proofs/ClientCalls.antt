@@ -3,7 +3,6 @@
 --   Kind                ==  a client's call, the program for it in an implementation, an implementation with just that program, and whom it names
 --   enter-picked, strike-picked, terminal-picked, enter-unnamed, strike-unnamed, terminal-unnamed  ==  what each is to have
 --   entering, striking, at-terminal  ==  the three kinds
---   ours                ==  the calls as defined meet their contracts
 --   next-other          ==  the next client is another
 --   forNext k           ==  the program for the call that makes it for the next client
 --   next-kept           ==  it leaves the holdings of the client that it is called by
@@ -16,8 +15,9 @@ use native.Mathlib.Omega.{arith}
 use lib.Dec.{eqb}
 use borrow.Author.Tests.{eqb-true, eq-eqb}
 use Rattle.permutations.proofs.BoolLaws.{refuted}
-use Rattle.machine.specs.CallLists.{Call, enter, strike, terminalEnter, Implementation, registerCalls, Meets, called}
+use Rattle.machine.specs.CallLists.{Call, enter, strike, terminalEnter, Implementation, registerCalls, called}
 use Rattle.machine.specs.Holdings.{names, heldIn, Apart}
+use Rattle.machine.proofs.CallListLaws.{meets-own}
 use Rattle.machine.proofs.HeldLaws.{apart}
 use Rattle.turned_down.specs.HoldingFaults.{Calling}
 use Rattle.turned_down.proofs.RegisterCases.{striking-by, entering-at-terminal}
@@ -74,10 +74,6 @@ at-terminal = record {
   unnamed = terminal-unnamed;
 }
 
-pub ours : Meets registerCalls
-unfolding registerCalls
-ours = record { opens = λ s b. refl; enters = λ b c g. refl; strikes = λ b c g. refl; counts = λ b low high. refl; terminalEnters = λ b c g. refl }
-
 module _ (k : Kind) where
   pub done-by : (D : Calling → Type 0) (f : Calling) → D f → D (k .pick (k .make f))
   done-by D f h = subst D (sym (k .made f)) h
@@ -87,4 +83,4 @@ module _ (k : Kind) where
 
   pub next-kept : (b : List ℕ) (c : ℕ) (g r : List ℕ) → 1 ≤ c → heldIn (forNext b c g .bytes) c r ≡ heldIn b c r
   unfolding Apart
-  next-kept b c g r first = apart registerCalls ours b (k .call (suc c) g) c first (k .unnamed c g) r
+  next-kept b c g r first = apart registerCalls meets-own b (k .call (suc c) g) c first (k .unnamed c g) r

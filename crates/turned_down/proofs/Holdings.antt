@@ -5,7 +5,7 @@
 --   Computed, computed  ==  what the definitions give
 --   Facts k, entering-facts, terminal-facts  ==  what they give of an enter, a terminal's or not
 --   by-machine          ==  what an implementation that meets demand 3 answers and leaves after calls
---   left-last, left-follows  ==  the bytes that a last call leaves, and that one that follows the machine leaves
+--   left-last           ==  the bytes that a last call leaves
 --   accepted-strike, no-enter  ==  client 2's strikes and enters, where it strikes after an enter by client 1, as demand 3 counts them
 --   held-unwritten, elsewhere, elsewhere-entering, wraps-at-999, strikes-first-holder, strikes-all, strikes-line, keeps-empty-line, held-by-anyone  ==  the faults
 --   holdings-turned     ==  all of them, against whatever demand 3 follows from
@@ -22,7 +22,7 @@ use Rattle.grids.specs.Grids.{capped, isGrid, gridOf, arrangement, oneClass}
 use Rattle.grids.specs.Least.{arrangements, lesser, leastOf, least}
 use Rattle.grids.specs.Questions.{firstNo, inRange, question6, question7, question14}
 use Rattle.layout.specs.Decimal.{lead, field, digit, valueFrom, value}
-use Rattle.layout.specs.Layout.{Entry, Shape, mostHeld, noHoldings, gridsOf, fields, entryWidth, lineLength, entryLine, blankLine, headLine, layout, numberAt, cellsOf, holdingsOf, holding, changed, count, entryAt, decodeShape, decode, inLimits, someHeld, isHoldings, isEntry, ascending, isRegister, laidOut}
+use Rattle.layout.specs.Layout.{Entry, mostHeld, noHoldings, gridsOf, fields, entryWidth, lineLength, entryLine, blankLine, headLine, layout, numberAt, cellsOf, holdingsOf, holding, changed, count, entryAt, decodeShape, decode, inLimits, someHeld, isHoldings, isEntry, ascending, isRegister, laidOut}
 use Rattle.machine.specs.Calls.{Outcome, answered, more, fewer, leastIn, holds, holdingsIn, heldBy, placeIn, insert, without, kept, question5, question10, question15, gridQuestions, clientQuestions, strikeQuestions, strikeFrom, strikeRegister, struck}
 use Rattle.machine.specs.CallLists.{Call, enter, strike, Implementation, called, run, left, accepted}
 use Rattle.machine.specs.Machine.{sorted, shown, Step, stepUnless, put, enterClass, strikeClass, step, outcome}
@@ -30,7 +30,7 @@ use Rattle.machine.specs.Demand3.{entersClass, strikesClass, acceptedOf, enters
 use Rattle.machine.specs.Holdings.{heldIn}
 use Rattle.machine.proofs.SortedLaws.{Entries}
 use Rattle.machine.proofs.MachineLaws.{afterwards}
-use Rattle.machine.proofs.FollowLaws.{Follows, after-open, follows-open, follows-call, follows-next}
+use Rattle.machine.proofs.FollowLaws.{after-open, follows-open, left-follows}
 use Rattle.turned_down.specs.HoldingFaults.{classOn, classHeld, withHeld, HeldUnwritten, Elsewhere, WrapsAt999, firstHolder, StrikesFirstHolder, StrikesAll, StrikesLine, KeepsEmptyLine, HeldByAnyone}
 use Rattle.turned_down.specs.TurnedDown.{fault, Turned, holdingFaults}
 use Rattle.turned_down.proofs.Differences.{unequal}
@@ -83,7 +83,7 @@ record Computed : Type 0 where
   zero-holds : holds (classOn (with zero-entry) zero) (gridsOf (decode (with zero-entry) .entries)) ≡ true
 
 computed : Computed
-unfolding tabulate numbers select every some occurrences flatten flatMap isPermutation words permutations rank leq less equal capped isGrid gridOf arrangement oneClass arrangements lesser leastOf least firstNo inRange question6 question7 lead field digit valueFrom value fields entryWidth lineLength entryLine blankLine headLine layout numberAt cellsOf holdingsOf holding changed count entryAt decodeShape decode inLimits someHeld isHoldings isEntry ascending isRegister laidOut answered more fewer holds holdingsIn heldBy placeIn insert without kept question5 question10 question15 gridQuestions clientQuestions strikeQuestions strikeFrom strikeRegister struck sorted shown stepUnless put enterClass strikeClass step afterwards heldIn withHeld firstHolder
+unfolding tabulate numbers select every some occurrences flatten flatMap isPermutation words permutations rank leq less equal capped isGrid gridOf arrangement arrangements lesser leastOf least firstNo inRange question6 question7 lead field digit valueFrom value fields entryWidth lineLength entryLine blankLine headLine layout numberAt cellsOf holdingsOf holding changed count entryAt decodeShape decode inLimits someHeld isHoldings isEntry ascending isRegister laidOut answered more fewer holds holdingsIn heldBy placeIn insert without kept question5 question10 question15 gridQuestions clientQuestions strikeQuestions strikeFrom strikeRegister struck sorted shown stepUnless put enterClass strikeClass step afterwards heldIn withHeld firstHolder
 computed = record {
   zero-after = refl;
   twice-after = refl;
@@ -133,12 +133,6 @@ left-last : (i : Implementation) (b : List ℕ) (calls : List Call) (c : Call) �
 unfolding left
 left-last i b [] c = refl
 left-last i b (x ∷ calls) c = left-last i (called i b x .bytes) calls c
-
-left-follows : (i : Implementation) (s : Shape) (calls : List Call) (l : Entries) → Follows i s l → left i (shown s l) calls ≡ shown s (afterwards s l calls)
-unfolding left afterwards outcome
-left-follows i s [] l f = refl
-left-follows i s (c ∷ calls) l f =
-    ap (λ (o : Outcome). left i (o .bytes) calls) (follows-call i s l f c) ∙ left-follows i s calls (step s l c .next) (follows-next i s l f c)
 
 accepted-strike : (x y : Outcome) → y .number ≡ 0 → acceptedOf (strikesClass 1 1 zero 2) (enter 1 zero ∷ strike 2 zero ∷ []) (x ∷ y ∷ []) ≡ 1
 unfolding tabulate numbers select every some occurrences flatMap isPermutation words permutations equal gridOf arrangement oneClass acceptedOf strikesClass accepted

@@ -24,12 +24,12 @@ use Rattle.machine.specs.Calls.{Outcome, more, fewer, holds, holdingsIn, heldBy
 use Rattle.machine.specs.CallLists.{Call, enter, strike, registerCalls, run, accepted}
 use Rattle.machine.specs.Machine.{stepUnless, put, enterClass, strikeClass, step, outcome, outcomes}
 use Rattle.machine.specs.Demand3.{entersClass, strikesClass, acceptedOf, entersOf, strikesOf, live, Demand3}
+use Rattle.machine.proofs.CallListLaws.{meets-own}
 use Rattle.machine.proofs.Demand3Laws.{demand3}
 use Rattle.machine.proofs.FollowLaws.{follows-open}
 use Rattle.turned_down.specs.LiveFaults.{Living, SaysLive, lastOf, lastByAnyone, lastBySome, GoesByLast, GoesByOwnLast}
 use Rattle.turned_down.specs.TurnedDown.{fault, Turned, liveFaults}
 use Rattle.turned_down.proofs.RegisterCases.{cell, zero, limits, slice, opening}
-use Rattle.turned_down.proofs.ClientCalls.{ours}
 
 abbrev byTwo : List Call
 byTwo = enter 1 zero ∷ enter 2 zero ∷ strike 1 zero ∷ []
@@ -38,7 +38,7 @@ abbrev byOne : List Call
 byOne = enter 1 zero ∷ enter 1 zero ∷ strike 1 zero ∷ []
 
 meets : Demand3 registerCalls
-meets = demand3 registerCalls ours
+meets = demand3 registerCalls meets-own
 
 opens : registerCalls .opens cell slice .number ≡ 0
 opens = ap (λ (o : Outcome). o .number) (opening registerCalls meets)

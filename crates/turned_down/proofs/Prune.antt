@@ -59,7 +59,7 @@ record Computed : Type 0 where
   rows-asked : firstNo (pruneQuestions 0 0 0 (0 ∷ []) []) ≡ 1
 
 computed : Computed
-unfolding tabulate numbers select every some occurrences flatMap isPermutation words permutations rank leq equal capped row permutedRow firstNo inRange question1 question2 question3 question6 question7 ranksWithin between fillings gridsWithin obeyed keeps keptValues lowestFrom lowest keptLow removedValues removed allperm question8 boundsQuestions unsorted
+unfolding tabulate numbers select every some occurrences flatMap isPermutation words permutations rank leq capped row permutedRow firstNo inRange question1 question2 question3 question6 question7 ranksWithin between fillings gridsWithin obeyed keeps keptValues lowestFrom lowest keptLow removedValues removed allperm question8 boundsQuestions unsorted
 computed = record {
   m9-asked = refl;
   m9-obeyed = refl;

@@ -28,7 +28,7 @@ use Rattle.canonical.specs.Programs.{MeetsTerminalRepresent, MeetsTerminalSame}
 use Rattle.canonical.specs.Demand2.{TerminalRepresentLeast}
 use Rattle.canonical.proofs.CallLaws.{represent-pass}
 use Rattle.layout.specs.Decimal.{lead, field, digit, valueFrom, value}
-use Rattle.layout.specs.Layout.{Shape, Entry, noHoldings, gridSize, fields, entryWidth, lineLength, entryLine, blankLine, headLine, layout, layoutLength, numberAt, cellsOf, holdingsOf, holding, changed, count, entryAt, decodeShape, decode, InLimits, inLimits, someHeld, isHoldings, isEntry, ascending, isRegister, laidOut}
+use Rattle.layout.specs.Layout.{Shape, Entry, noHoldings, gridSize, fields, entryWidth, lineLength, entryLine, blankLine, headLine, layout, numberAt, cellsOf, holdingsOf, holding, changed, count, entryAt, decodeShape, decode, InLimits, inLimits, someHeld, isHoldings, isEntry, ascending, isRegister, laidOut}
 use Rattle.layout.specs.Lines.{firstEntry}
 use Rattle.machine.specs.Calls.{Outcome, placed, more, question5, question15, question16, gridQuestions, clientQuestions, holds, holdingsIn, heldBy, question9, placeIn, insert, without, enterQuestions, terminalEnterQuestions}
 use Rattle.machine.specs.CallLists.{terminalEnter, Implementation, called, questionsOf, accepted}
@@ -93,7 +93,7 @@ record Computed : Type 0 where
   one-held : step cell (one-entry ∷ []) (terminalEnter 2 one) ≡ answer 101 1 (shared-one ∷ [])
 
 computed : Computed
-unfolding tabulate numbers select every some occurrences flatten flatMap identity isPermutation words permutations rank leq less equal capped isGrid gridOf arrangement arrangements lesser leastOf least firstNo inRange question1 question2 question3 question6 question7 question14 afterFirst representQuestions terminalRepresentQuestions classNumber classAgreed sameQuestions terminalSameQuestions terminalSameNumber terminalSameAgreed lead field digit valueFrom value fields entryWidth lineLength entryLine blankLine headLine layout layoutLength numberAt count cellsOf holdingsOf holding changed entryAt decodeShape decode inLimits someHeld isHoldings isEntry ascending isRegister laidOut more question5 question15 question16 gridQuestions clientQuestions holds holdingsIn heldBy question9 placeIn insert without enterQuestions terminalEnterQuestions questionsOf sorted shown stepUnless put enterClass step
+unfolding tabulate numbers select every some occurrences flatten flatMap identity isPermutation words permutations rank leq less equal capped isGrid gridOf arrangement arrangements lesser leastOf least firstNo inRange question1 question2 question3 question6 question7 question14 afterFirst representQuestions terminalRepresentQuestions classNumber classAgreed sameQuestions terminalSameQuestions terminalSameNumber terminalSameAgreed lead field digit valueFrom value fields entryWidth lineLength entryLine blankLine headLine layout numberAt count cellsOf holdingsOf holding changed entryAt decodeShape decode inLimits someHeld isHoldings isEntry ascending isRegister laidOut more question5 question15 question16 gridQuestions clientQuestions holds holdingsIn heldBy question9 placeIn insert without enterQuestions terminalEnterQuestions questionsOf sorted shown stepUnless put enterClass step
 computed = record {
   six-wide = refl;
   five-fit = refl;

@@ -18,6 +18,7 @@ use Rattle.bounds.proofs.PruneLaws.{prunes, prune-exact}
 use Rattle.machine.specs.Calls.{counted}
 use Rattle.machine.specs.CallLists.{registerCalls}
 use Rattle.machine.specs.Demand3.{live}
+use Rattle.machine.proofs.CallListLaws.{meets-own}
 use Rattle.machine.proofs.Demand1Laws.{demand1}
 use Rattle.machine.proofs.Demand3Laws.{demand3}
 use Rattle.machine.proofs.BothCountsLaws.{both-counts}
@@ -35,7 +36,6 @@ use Rattle.turned_down.proofs.Prune.{never-prunes, never-empty, removes
 use Rattle.turned_down.proofs.Demand3.{stores-first, full-unlooked, not-held-unlooked, invents-count, invents-counts, leaves-out-highs, answers-none, counts-arrangements, leaves-last-line, appends-entries, places-from-zero, inserts-late, opens-nothing, enters-nothing, opens-any-slice, refuses-own-bytes}
 use Rattle.turned_down.proofs.Demand1.{refuses-opens, refuses-enters, grows-slice, open-grows-slice, count-writes, open-writes-refusing, opens-capacity-0, asks-cells-first, asks-register-last, trusts-bytes}
 use Rattle.turned_down.proofs.Count.{counts-pruned, counts-none, prunes-lent-bounds, counts-unlike, counts-with-102}
-use Rattle.turned_down.proofs.ClientCalls.{ours}
 use Rattle.turned_down.proofs.Holdings.{holdings-turned}
 use Rattle.turned_down.proofs.Clients.{clients-turned}
 use Rattle.turned_down.proofs.Changes.{changes-turned}
@@ -93,7 +93,7 @@ met = record {
   composes = λ width. (composedPadded width, λ n p k r. refl);
   inverts = λ width. (inversePadded width, λ n p. refl);
   tests = λ width. (isSound width, λ n p. refl);
-  keeps = (registerCalls, ours, demand1 registerCalls ours, demand3 registerCalls ours, both-counts registerCalls ours, apart registerCalls ours, by-one registerCalls ours);
+  keeps = (registerCalls, meets-own, demand1 registerCalls meets-own, demand3 registerCalls meets-own, both-counts registerCalls meets-own, apart registerCalls meets-own, by-one registerCalls meets-own);
   says-live = (live, λ i d s slice z calls a e. refl);
   counts = (
     λ b low high. record { outcome = counted b low high; low = low; high = high },

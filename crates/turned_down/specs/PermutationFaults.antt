@@ -1,5 +1,5 @@
 -- Programs that compose, invert and test permutations, held in `width` positions each with its size: their contracts, and faults. The width is 8 for
--- rows and 16 for columns. The contracts are those of `composed`, `inverse` and `is_permutation`, on the numbers in the positions.
+-- rows, 5 for a terminal's rows and 16 for columns. The contracts are those of `composed`, `inverse` and `is_permutation`, on the numbers in the positions.
 --
 --   Composing, Inverting, Testing   ==  such programs
 --   Composes width f, Inverts width f, Tests width f  ==  f meets the contract, on all arguments

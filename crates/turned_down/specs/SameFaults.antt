@@ -3,7 +3,7 @@
 --   NeverSame f        ==  no two grids are said to be in one class: always 103, or all refused
 --   rowSums m n g      ==  the sums of the rows
 --   JudgesByRowSums f  ==  grids are said to be in two classes only if their row sums differ
---   ComparesSorted f   ==  the old rule: two grids whose rows and columns are sorted are said to be in one class only if they are equal
+--   ComparesSorted f   ==  two grids whose rows and columns are sorted are said to be in one class only if they are equal
 --   OrdersFromB f      ==  the orders returned produce A from B
 --   IgnoresB f         ==  the cells of B are not asked
 --   MovesWith103 f     ==  with 103 a column order is returned that moves something

@@ -1,4 +1,4 @@
--- The work that document 01 turns down, as one table: each line is a contract and a fault, and no program with the fault meets the contract.
+-- Faulty work, that which document 01 turns down among it, as one table: each line is a contract and a fault, and no program with the fault meets the contract.
 --
 --   Fault       ==  a contract of some kind of program, and what a faulty program does
 --   fault C D   ==  the contract C and the fault D
@@ -133,7 +133,7 @@ table =
     ∷ fault MeetsRepresent IgnoresCells
     ∷ fault MeetsRepresent WritesRefusing
     ∷ fault MeetsRepresent MovesRefusing
-    -- by what a class is: a same that always says 103; row sums; the old rule; its orders, questions and 103
+    -- by what a class is: a same that always says 103; row sums; sorted grids compared; its orders, questions and 103
     ∷ fault MeetsSame NeverSame
     ∷ fault MeetsSame JudgesByRowSums
     ∷ fault MeetsSame ComparesSorted

@@ -15,7 +15,7 @@ use Rattle.grids.specs.Grids.{capped, isGrid, gridOf, arrangement}
 use Rattle.grids.specs.Least.{arrangements, lesser, leastOf, least}
 use Rattle.grids.specs.Questions.{firstNo, inRange, question1, question2, question3, question6, question7, question14, afterFirst}
 use Rattle.grids.proofs.OrderLaws.{equal-eq}
-use Rattle.bounds.specs.Bounds.{ranksWithin, between, inBounds}
+use Rattle.bounds.specs.Bounds.{ranksWithin, inBounds}
 use Rattle.bounds.specs.Prune.{question8, boundsQuestions}
 use Rattle.layout.specs.Decimal.{lead, field, digit, valueFrom, value}
 use Rattle.layout.specs.Layout.{fields, entryWidth, lineLength, entryLine, blankLine, headLine, layout, layoutLength, numberAt, count, cellsOf, holdingsOf, holding, changed, entryAt, decodeShape, decode, inLimits, someHeld, isHoldings, isEntry, ascending, isRegister, laidOut}
@@ -51,5 +51,5 @@ kept-so k t =
 -- ---- the statement
 
 pub books-kept : BooksKept
-unfolding outcomeSo opensSo keptSo bytes text flatten flatMap tabulate numbers select every some occurrences isPermutation words permutations rank leq less equal capped isGrid gridOf arrangement arrangements lesser leastOf least firstNo inRange question1 question2 question3 question6 question7 question14 afterFirst ranksWithin between inBounds question8 boundsQuestions lead field digit valueFrom value fields entryWidth lineLength entryLine blankLine headLine layout layoutLength numberAt count cellsOf holdingsOf holding changed entryAt decodeShape decode inLimits someHeld isHoldings isEntry ascending isRegister laidOut answered question4 question5 gridQuestions clientQuestions more fewer holds holdingsIn heldBy question9 question10 question15 question16 placeIn insert without kept openQuestions opened enterInto strikeFrom enterQuestions strikeQuestions countQuestions enterRegister strikeRegister entered struck entriesIn countRegister counted terminalEnterQuestions terminalEnterRegister terminalEntered registerCalls called run left openings books BooksKept
+unfolding outcomeSo opensSo keptSo bytes text flatten flatMap tabulate numbers select every some occurrences isPermutation words permutations rank leq less equal capped isGrid gridOf arrangement arrangements lesser leastOf least firstNo inRange question1 question2 question3 question6 question7 question14 afterFirst ranksWithin inBounds question8 boundsQuestions lead field digit valueFrom value fields entryWidth lineLength entryLine blankLine headLine layout layoutLength numberAt count cellsOf holdingsOf holding changed entryAt decodeShape decode inLimits someHeld isHoldings isEntry ascending isRegister laidOut answered question4 question5 gridQuestions clientQuestions more fewer holds holdingsIn heldBy question9 question10 question15 question16 placeIn insert without kept openQuestions opened enterInto strikeFrom enterQuestions strikeQuestions countQuestions enterRegister strikeRegister entered struck entriesIn countRegister counted terminalEnterQuestions terminalEnterRegister terminalEntered registerCalls called run left openings books BooksKept
 books-kept = (every-all Opens opensSo opens-so openings refl, every-all KeptBook keptSo kept-so books refl)

@@ -1,4 +1,4 @@
--- The order of each call's questions, and the edges that document 01 names under them, as one table: the questions of a call on some arguments,
+-- The order of each call's questions, and the edges that documents 01 and 02 name, as one table: the questions of a call on some arguments,
 -- and the number of the first no. Where the arguments have several faults, the first question that gets a no gives the number.
 --
 --   Edge      ==  the questions asked, and the number that they give
@@ -147,7 +147,7 @@ edges =
     ∷ record { asked = questionsOf fresh (countIn (2 ∷ []) (0 ∷ [])); number = 7 }
     ∷ record { asked = questionsOf fresh (countIn (1 ∷ []) (0 ∷ [])); number = 8 }
     ∷ record { asked = questionsOf fresh (countIn (0 ∷ []) (0 ∷ [])); number = 0 }
-    -- a terminal's represent: 1, 14, 2, 3, 6, 7; rows 0 and 9 are still 1, and 6 rows with 17 columns is 14
+    -- a terminal's represent: 1, 14, 2, 3, 6, 7; rows 0 and 9 are 1, and 6 rows with 17 columns is 14
     ∷ record { asked = terminalRepresentQuestions 0 0 16 (17 ∷ []) []; number = 1 }
     ∷ record { asked = terminalRepresentQuestions 9 17 16 (17 ∷ []) []; number = 1 }
     ∷ record { asked = terminalRepresentQuestions 6 17 16 (17 ∷ []) []; number = 14 }

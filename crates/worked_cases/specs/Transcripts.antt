@@ -20,7 +20,7 @@ pub record Run : Type 0 where
 
 unfoldable pub runs : List Run
 runs =
-    -- document 01's printed run
+    -- document 01's printed run, with client 1 and the holdings
     record {
       input = "     2     2     1     2\n"
           ∷ "     1     1  1  0  0  1\n"

@@ -12,10 +12,10 @@ use std::iter::repeat_with;
 
 /// Rows, columns and top.
 #[derive(Clone, Copy)]
-pub struct Shape {
-    pub m: usize,
-    pub n: usize,
-    pub top: u8,
+struct Shape {
+    m: usize,
+    n: usize,
+    top: u8,
 }
 
 const LARGEST: Shape = Shape {
@@ -28,11 +28,11 @@ const SMALL: Shape = Shape { m: 4, n: 6, top: 3 };
 
 /// Bounds that are timed together.
 pub struct Bounds {
-    pub name: String,
-    pub shape: Shape,
+    name: String,
+    shape: Shape,
     /// What prune answers, 0 or 102.
-    pub number: u32,
-    pub forms: Vec<Form>,
+    number: u32,
+    forms: Vec<Form>,
 }
 
 /// The forms of one input.

@@ -11,7 +11,7 @@ use std::hint::black_box;
 
 /// Grids that are timed together.
 pub struct Grids {
-    pub name: String,
+    name: String,
     pub grids: Vec<Design>,
 }
 

@@ -65,7 +65,7 @@ pub struct RegisterCalls {
     pub represent: Represent,
 }
 
-pub const LIBRARY: RegisterCalls = RegisterCalls {
+const LIBRARY: RegisterCalls = RegisterCalls {
     enter: plan_register::enter,
     strike: plan_register::strike,
     count: plan_register::count,

@@ -43,7 +43,7 @@ pub mod implementations;
 pub mod inputs;
 mod line;
 pub mod lines;
-pub mod low_times;
+mod low_times;
 pub mod openings;
 pub mod options;
 pub mod packed_theorem_1;

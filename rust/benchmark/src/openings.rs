@@ -9,7 +9,7 @@ use std::hint::black_box;
 
 /// A register to be opened.
 pub struct Opening {
-    pub name: String,
+    name: String,
     m: usize,
     n: usize,
     capacity: usize,

@@ -15,11 +15,11 @@ const PAIRS: usize = 20;
 
 /// Pairs that are timed together.
 pub struct Pairs {
-    pub name: String,
-    pub top: u8,
+    name: String,
+    top: u8,
     /// What same answers, 0 or 103.
-    pub number: u32,
-    pub pairs: Vec<(Vec<u8>, Vec<u8>)>,
+    number: u32,
+    pairs: Vec<(Vec<u8>, Vec<u8>)>,
 }
 
 /// All inputs, the same in every run.
@@ -36,8 +36,7 @@ type Draw = fn(&mut Random, u8, &[u8]) -> Vec<u8>;
 
 /// The grid with its rows and its columns shuffled.
 fn shuffled(random: &mut Random, _: u8, grid: &[u8]) -> Vec<u8> {
-    let (rows, columns) = (random.permutation(M), random.permutation(N));
-    arrangement(M, N, &rows, &columns, grid)
+    random.shuffled(M, N, grid)
 }
 
 fn another(random: &mut Random, top: u8, _: &[u8]) -> Vec<u8> {

@@ -7,7 +7,6 @@ use crate::registers::{Entries, CLIENT, M, N};
 use plan_register::numbers::{DONE, HELD, LENGTH};
 use reference::calls::Call;
 use reference::forms::drawn;
-use reference::grid::arrangement;
 use reference::random::Random;
 use std::hint::black_box;
 use std::time::{Duration, Instant};
@@ -80,9 +79,7 @@ pub fn writing(entries: &Entries) -> Vec<RegisterCall> {
 
 /// The grid with its rows and its columns shuffled.
 fn shuffled(grid: &[u8]) -> Vec<u8> {
-    let mut random = Random::new(1);
-    let (rows, columns) = (random.permutation(M), random.permutation(N));
-    arrangement(M, N, &rows, &columns, grid)
+    Random::new(1).shuffled(M, N, grid)
 }
 
 /// The times of each pass on each call.

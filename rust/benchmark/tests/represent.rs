@@ -70,8 +70,7 @@ fn designs_and_shuffled_designs() {
         let (m, n, top) = (design.m, design.n, design.top);
         let least = least(m, n, &design.cells);
         check(m, n, top, &design.cells, &least);
-        let (rows, columns) = (random.permutation(m), random.permutation(n));
-        let shuffled = arrangement(m, n, &rows, &columns, &design.cells);
+        let shuffled = random.shuffled(m, n, &design.cells);
         check(m, n, top, &shuffled, &least);
     }
 }
@@ -94,9 +93,7 @@ fn the_same_search_finds_the_orders_of_the_library() {
     for design in all() {
         let (m, n, top) = (design.m, design.n, design.top);
         for _ in 0..20 {
-            let (rows, columns) = (random.permutation(m), random.permutation(n));
-            let shuffled = arrangement(m, n, &rows, &columns, &design.cells);
-            check(m, n, top, &shuffled);
+            check(m, n, top, &random.shuffled(m, n, &design.cells));
         }
     }
 }

@@ -38,8 +38,7 @@ fn shuffled_and_other_grids_of_every_shape() {
     for (m, n) in shapes_up_to(128).into_iter().filter(|&(m, _)| m < 7) {
         for top in [1, 15] {
             let a = random.cells(m * n, top);
-            let (rows, columns) = (random.permutation(m), random.permutation(n));
-            check(m, n, top, &a, &arrangement(m, n, &rows, &columns, &a));
+            check(m, n, top, &a, &random.shuffled(m, n, &a));
             check(m, n, top, &a, &random.cells(m * n, top));
         }
     }

@@ -2,7 +2,7 @@
 
 use crate::Client;
 
-/// A class of a register: its least grid, and what each client holds of it.
+/// An entry as its line states it: a grid, and what each client holds of it.
 #[derive(Clone, Debug, PartialEq, Eq)]
 pub struct Entry {
     /// The cells, m times n, row after row.
@@ -12,7 +12,7 @@ pub struct Entry {
 }
 
 impl Entry {
-    /// What this client holds of the class: its enters less its strikes, 0 to 999.
+    /// What this client holds of the grid, 0 to 999, as the line states it.
     ///
     /// ```
     /// use plan_register::{Client, Register};

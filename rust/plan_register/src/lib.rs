@@ -15,8 +15,8 @@
 //! | `agreement`         | how far two plans agree, in words                         |
 //! | `bounds`            | prune                                                     |
 //! | `bytes`             | open, enter, strike and count                             |
-//! | `placed`            | what the first three return                               |
-//! | `client`            | the clients that enter and strike name                    |
+//! | `placed`            | what open, enter, strike and a terminal's enter return    |
+//! | `client`            | the clients that both enters and strike name              |
 //! | `counted`           | what prune and count return                               |
 //! | `terminals`         | a shop terminal's represent, same and enter               |
 //! | `terminal_arranged` | what a terminal's represent returns                       |
@@ -72,3 +72,8 @@ pub use terminals::{terminal_enter, terminal_represent, terminal_same};
 #[cfg(doctest)]
 #[doc = include_str!("../../../docs/GUIDE.md")]
 pub struct Guide;
+
+/// The example of the README.
+#[cfg(doctest)]
+#[doc = include_str!("../../../README.md")]
+pub struct Readme;

@@ -3,8 +3,9 @@
 
 mod common;
 
-use common::calls::{answer, check_answer, check_count, holding, with_drawn_holdings};
+use common::calls::{answer, check_answer, check_count, contents_of, with_drawn_holdings};
 use common::forms::form_for;
+use common::met::{found, Met};
 use common::represented;
 use plan_register::prune;
 use reference::bounds::number_of_grids;
@@ -12,34 +13,15 @@ use reference::calls::Call;
 use reference::examples::{every_grid, shapes_up_to};
 use reference::forms::{close, every_form, wide, without_allperm, Form};
 use reference::random::Random;
-use std::collections::BTreeMap;
 
-/// What count finds.
-#[derive(Debug, PartialEq, Eq, PartialOrd, Ord)]
-enum Found {
-    NoEntry,
-    SomeEntries,
-    AllEntries,
-}
-
-/// How often each was found.
-type Met = BTreeMap<Found, usize>;
+/// What a count may find in a register with entries.
+const FOUND: [&str; 3] = ["no entry", "some entries", "all entries"];
 
 /// Checks a count on the register, which has so many entries, one at least.
-fn check(register: &[u8], entries: usize, form: &Form, met: &mut Met) {
+fn check(register: &[u8], entries: usize, form: &Form, met: &mut Met<&str>) {
     let answer = check_count(register, form);
     assert_eq!(answer.number, 0);
-    let found = match answer.place as usize {
-        0 => Found::NoEntry,
-        count if count < entries => Found::SomeEntries,
-        _ => Found::AllEntries,
-    };
-    *met.entry(found).or_default() += 1;
-}
-
-fn check_met(met: &Met, times: usize) {
-    assert_eq!(met.len(), 3, "{met:?}");
-    assert!(met.values().all(|&met| met >= times), "{met:?}");
+    met.note(found(answer.place, entries));
 }
 
 /// Shapes, each with a top, of which all bounds are tried. None has more than 500 grids.
@@ -56,23 +38,23 @@ const TINY: [(usize, usize, u8); 8] = [
 
 #[test]
 fn all_bounds_of_tiny_shapes() {
-    let mut met = Met::new();
+    let mut met = Met::default();
     for (m, n, top) in TINY {
         let every = every_grid(m * n, top);
         let classes: Vec<Vec<u8>> = every.iter().map(|g| represented(m, n, top, g)).collect();
-        let contents = holding(m, n, top, 500, &classes);
+        let contents = contents_of(m, n, top, 500, &classes);
         let register = contents.bytes();
         for form in every_form(m * n, top) {
             check(&register, contents.entries.len(), &form, &mut met);
         }
     }
-    check_met(&met, 8);
+    met.check(&FOUND, 8);
 }
 
 #[test]
 fn of_all_grids_those_in_the_bounds_are_counted() {
     for (m, n, top) in TINY {
-        let register = holding(m, n, top, 500, &every_grid(m * n, top)).bytes();
+        let register = contents_of(m, n, top, 500, &every_grid(m * n, top)).bytes();
         for form in every_form(m * n, top) {
             let grids = number_of_grids(top, &form.0, &form.1);
             assert_eq!(check_count(&register, &form), answer(0, grids as u32));
@@ -83,12 +65,12 @@ fn of_all_grids_those_in_the_bounds_are_counted() {
 #[test]
 fn bounds_of_every_shape() {
     let mut random = Random::new(121);
-    let mut met = Met::new();
+    let mut met = Met::default();
     for (m, n) in shapes_up_to(128) {
         let top = random.between(0, 15) as u8;
         let class = |random: &mut Random| represented(m, n, top, &random.cells(m * n, top));
         let classes: Vec<Vec<u8>> = (0..12).map(|_| class(&mut random)).collect();
-        let contents = holding(m, n, top, 20, &classes);
+        let contents = contents_of(m, n, top, 20, &classes);
         let contents = with_drawn_holdings(&mut random, contents);
         let register = contents.bytes();
         for _ in 0..14 {
@@ -96,7 +78,7 @@ fn bounds_of_every_shape() {
             check(&register, contents.entries.len(), &form, &mut met);
         }
     }
-    check_met(&met, 50);
+    met.check(&FOUND, 50);
 }
 
 /// Checks each bound of each cell, with entries that differ in one cell each, by one, from a grid
@@ -111,7 +93,7 @@ fn check_each_bound(m: usize, n: usize, value: u8) {
         })
     });
     let entries: Vec<Vec<u8>> = others.chain([first.clone()]).collect();
-    let register = holding(m, n, 15, 500, &entries).bytes();
+    let register = contents_of(m, n, 15, 500, &entries).bytes();
     let all = entries.len() as u32;
     for k in 0..m * n {
         let check_bounds = |low_k: u8, high_k: u8, count: u32| {
@@ -142,10 +124,10 @@ fn the_edges_of_each_bound_of_each_cell() {
 #[test]
 fn an_empty_register_counts_0_whatever_prune_says() {
     let mut random = Random::new(122);
-    let mut met = BTreeMap::new();
+    let mut met = Met::default();
     for (m, n) in shapes_up_to(128) {
         let top = random.between(1, 15) as u8;
-        let register = holding(m, n, top, 2, &[]).bytes();
+        let register = contents_of(m, n, top, 2, &[]).bytes();
         let mut forms = vec![wide(&mut random, m * n, top), close(&mut random, m, n, top)];
         if m > 1 {
             forms.push(without_allperm(&mut random, m, n, top));
@@ -154,9 +136,8 @@ fn an_empty_register_counts_0_whatever_prune_says() {
             assert_eq!(check_count(&register, &form), answer(0, 0));
             let (mut low, mut high) = form;
             let number = prune(m, n, top.into(), &mut low, &mut high).number;
-            *met.entry(number).or_insert(0) += 1;
+            met.note(number);
         }
     }
-    assert!(met.keys().eq(&[0, 102]), "{met:?}");
-    assert!(met.values().all(|&met| met > 100), "{met:?}");
+    met.check(&[0, 102], 101);
 }

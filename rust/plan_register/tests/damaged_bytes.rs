@@ -2,7 +2,7 @@
 
 mod common;
 
-use common::calls::{distinct_grids, holding, with_drawn_holdings};
+use common::calls::{contents_of, distinct_grids, with_drawn_holdings};
 use common::question_5::{check, check_layout, likely_byte};
 use reference::examples::{held_register, register, shapes_up_to};
 use reference::random::Random;
@@ -17,7 +17,7 @@ fn registers() -> Vec<Vec<u8>> {
         register(2, 1, 3, 2, &["0/1", "2/3"]),
         register(1, 2, 0, 1, &["00"]),
         register(3, 1, 5, 12, &["0/0/1", "0/1/1", "2/3/4"]),
-        holding(1, 3, 15, 3, &two_digits).bytes(),
+        contents_of(1, 3, 15, 3, &two_digits).bytes(),
     ]
 }
 
@@ -80,8 +80,8 @@ fn a_byte_more_or_fewer() {
 #[test]
 fn every_other_length() {
     for whole in registers() {
-        let line = whole.len() - 31;
-        for length in (0..whole.len() + 2 * line).filter(|&length| length != whole.len()) {
+        let lines = whole.len() - 31;
+        for length in (0..whole.len() + 2 * lines).filter(|&length| length != whole.len()) {
             let again = whole.iter().chain(&whole[31..]).chain(&whole[31..]);
             let bytes: Vec<u8> = again.copied().take(length).collect();
             assert!(!check(&bytes));
@@ -95,7 +95,7 @@ fn one_byte_changed_in_every_shape() {
     for (m, n) in shapes_up_to(128) {
         let top = random.between(1, 15) as u8;
         let entries = distinct_grids(&mut random, m * n, top, 2);
-        let contents = holding(m, n, top, 3, &entries);
+        let contents = contents_of(m, n, top, 3, &entries);
         let whole = with_drawn_holdings(&mut random, contents).bytes();
         assert!(check_layout(&whole));
         // Each byte twice.
@@ -114,7 +114,7 @@ fn one_byte_changed_in_every_shape() {
 fn bytes_of_a_large_register() {
     let mut random = Random::new(94);
     let entries = distinct_grids(&mut random, 128, 15, 490);
-    let contents = holding(8, 16, 15, 500, &entries);
+    let contents = contents_of(8, 16, 15, 500, &entries);
     let whole = with_drawn_holdings(&mut random, contents).bytes();
     let mut met = [0, 0];
     for _ in 0..100 {

@@ -2,7 +2,7 @@
 
 mod common;
 
-use common::calls::holding;
+use common::calls::contents_of;
 use common::question_5::{check, check_layout};
 use reference::examples::register;
 use reference::holdings::Holdings;
@@ -13,7 +13,7 @@ fn cells_of_every_value_with_every_top() {
     for top in 0..=15 {
         for value in 0..=999 {
             for k in 0..3 {
-                let mut bytes = holding(1, 3, top, 1, &[vec![0; 3]]).bytes();
+                let mut bytes = contents_of(1, 3, top, 1, &[vec![0; 3]]).bytes();
                 bytes[31 + 3 * k..34 + 3 * k].copy_from_slice(&number(value, 3));
                 assert_eq!(check(&bytes), value <= top.into());
             }
@@ -25,7 +25,7 @@ fn cells_of_every_value_with_every_top() {
 fn holdings_of_every_value() {
     // A holding is 0 to 999, whatever top is, and one at least is not 0.
     for (k, others) in (0..8).flat_map(|k| [(k, 0), (k, 999)]) {
-        let mut contents = holding(1, 3, 0, 1, &[vec![0; 3]]);
+        let mut contents = contents_of(1, 3, 0, 1, &[vec![0; 3]]);
         for value in 0..=999 {
             let mut holdings = [others; 8];
             holdings[k] = value;
@@ -40,7 +40,7 @@ fn an_entry_that_nobody_holds() {
     // In any line, and also where the entry is no representative.
     let grids: Vec<Vec<u8>> = (0..4).map(|first| vec![first, 3 - first]).collect();
     for which in 0..16u8 {
-        let mut contents = holding(1, 2, 3, 5, &grids);
+        let mut contents = contents_of(1, 2, 3, 5, &grids);
         for (k, entry) in contents.entries.iter_mut().enumerate() {
             if which >> k & 1 == 1 {
                 entry.holdings = Holdings::default();
@@ -52,7 +52,7 @@ fn an_entry_that_nobody_holds() {
 
 #[test]
 fn holdings_that_reach_into_the_next_field() {
-    let whole = holding(1, 1, 9, 1, &[vec![5]]).bytes();
+    let whole = contents_of(1, 1, 9, 1, &[vec![5]]).bytes();
     for shifted in [
         "1000 0", "100 0 ", "  1000", " 1 000", "1    0", "10   0", "    01",
     ] {
@@ -87,7 +87,7 @@ fn not_laid_out(width: usize) -> Vec<Vec<u8>> {
 #[test]
 fn fields_that_are_not_laid_out() {
     let entries = [vec![1, 1, 1], vec![1, 1, 2]];
-    let whole = holding(1, 3, 15, 3, &entries).bytes();
+    let whole = contents_of(1, 3, 15, 3, &entries).bytes();
     for width in [6, 3] {
         let starts: Vec<usize> = match width {
             6 => (0..5).map(|k| 6 * k).collect(),

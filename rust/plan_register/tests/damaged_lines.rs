@@ -2,7 +2,7 @@
 
 mod common;
 
-use common::calls::holding;
+use common::calls::contents_of;
 use common::question_5::{check, check_layout};
 use plan_register::open;
 use reference::examples::{every_grid, shapes_up_to};
@@ -65,7 +65,7 @@ fn counts_that_are_off() {
     for capacity in [1, 5, 9, 12] {
         let entries: Vec<Vec<u8>> = (0..capacity as u8).map(|v| vec![v]).collect();
         for held in 0..=capacity {
-            let whole = holding(1, 1, 15, capacity, &entries[..held]).bytes();
+            let whole = contents_of(1, 1, 15, capacity, &entries[..held]).bytes();
             for count in (0..=capacity + 2).chain([99, 100, 500, 501, 999_999]) {
                 let mut bytes = whole.clone();
                 bytes[24..30].copy_from_slice(&number(count as u64, 6));
@@ -81,7 +81,7 @@ fn lines_without_holdings() {
     for (m, n) in shapes_up_to(128) {
         let top = random.between(1, 15) as u8;
         let entry = random.cells(m * n, top);
-        let contents = holding(m, n, top, 3, &[entry]);
+        let contents = contents_of(m, n, top, 3, &[entry]);
         assert!(check_layout(&contents.bytes()));
         assert!(!check_layout(&without_holdings(&contents)));
         let mut register = without_holdings(&contents);
@@ -119,7 +119,7 @@ fn the_first_unequal_cell_decides_in_every_shape() {
             // After it all is the other way round.
             lesser[k + 1..].fill(top);
             greater[k + 1..].fill(0);
-            let mut contents = holding(m, n, top, 2, &[lesser.clone(), greater]);
+            let mut contents = contents_of(m, n, top, 2, &[lesser.clone(), greater]);
             // Holdings have no part in the order.
             contents.entries[0].holdings = Holdings([999; 8]);
             assert!(check_layout(&contents.bytes()));

@@ -2,7 +2,7 @@
 
 mod common;
 
-use common::{check_one_class, check_same, represented, shuffled};
+use common::{check_one_class, check_same, represented};
 use reference::designs::{
     all, circulant, cyclic_latin, identity, klein_latin, product_latin, Design,
 };
@@ -27,7 +27,7 @@ fn shuffled_designs_have_one_representative_and_one_class() {
         let (m, n, top, name) = (design.m, design.n, design.top, &design.name);
         let representative = represented(m, n, top, &design.cells);
         for _ in 0..4 {
-            let other = shuffled(&mut random, m, n, &design.cells);
+            let other = random.shuffled(m, n, &design.cells);
             assert_eq!(represented(m, n, top, &other), representative, "{name}");
             check_one_class(m, n, top, &design.cells, &other);
             check_one_class(m, n, top, &other, &representative);
@@ -55,8 +55,8 @@ fn check_distinct(designs: &[Design], random: &mut Random) {
     for (k, a) in designs.iter().enumerate() {
         for (l, b) in designs.iter().enumerate() {
             let (m, n, top) = (a.m, a.n, a.top.max(b.top));
-            let one = shuffled(random, m, n, &a.cells);
-            let other = shuffled(random, m, n, &b.cells);
+            let one = random.shuffled(m, n, &a.cells);
+            let other = random.shuffled(m, n, &b.cells);
             if k == l {
                 check_one_class(m, n, top, &one, &other);
             } else {

@@ -4,7 +4,7 @@
 mod common;
 
 use common::calls::{
-    answer, check_call, check_count, distinct_grids, holding, with_drawn_holdings,
+    answer, check_call, check_count, contents_of, distinct_grids, with_drawn_holdings,
 };
 use common::pruned::Pruned;
 use plan_register::{prune, Client, Entered, Refusal, Register};
@@ -19,7 +19,7 @@ use reference::register::Answer;
 #[test]
 fn a_class_is_held_by_its_representative_alone() {
     // 10/01 is not least in its class, that is 01/10.
-    let before = holding(2, 2, 1, 3, &[cells("00/01"), cells("10/01")]).bytes();
+    let before = contents_of(2, 2, 1, 3, &[cells("00/01"), cells("10/01")]).bytes();
     let mut register = before.clone();
     let mut check = |call: Call, number: u32, place: u32| {
         assert_eq!(check_call(&mut register, &call), answer(number, place));
@@ -28,7 +28,7 @@ fn a_class_is_held_by_its_representative_alone() {
     assert_eq!(check(Call::Strike(1, cells("10/01")), 10, 0), before);
     let three = [cells("00/01"), cells("01/10"), cells("10/01")];
     let entered = check(Call::Enter(1, cells("10/01")), 0, 2);
-    assert_eq!(entered, holding(2, 2, 1, 3, &three).bytes());
+    assert_eq!(entered, contents_of(2, 2, 1, 3, &three).bytes());
     check(Call::Enter(2, cells("10/01")), 101, 2);
     check(Call::TerminalEnter(3, cells("10/01")), 101, 2);
     check(Call::Enter(1, cells("11/11")), 9, 0);
@@ -37,13 +37,13 @@ fn a_class_is_held_by_its_representative_alone() {
     check(Call::Strike(1, cells("10/01")), 10, 0);
     assert_eq!(check(Call::Strike(2, cells("10/01")), 0, 2), before);
     let entered = check(Call::TerminalEnter(1, cells("10/01")), 0, 2);
-    assert_eq!(entered, holding(2, 2, 1, 3, &three).bytes());
+    assert_eq!(entered, contents_of(2, 2, 1, 3, &three).bytes());
 }
 
 #[test]
 fn count_is_of_the_bounds_as_sent() {
     // Both entries lie in the bounds as sent; pruned, row 0 begins with 0 only.
-    let register = holding(2, 2, 1, 3, &[cells("00/01"), cells("10/01")]).bytes();
+    let register = contents_of(2, 2, 1, 3, &[cells("00/01"), cells("10/01")]).bytes();
     let (mut low, mut high) = (cells("00/01"), cells("10/01"));
     let sent = (low.clone(), high.clone());
     assert_eq!(check_count(&register, &sent), answer(0, 2));
@@ -53,7 +53,7 @@ fn count_is_of_the_bounds_as_sent() {
 
 #[test]
 fn an_entry_may_lie_in_bounds_of_which_prune_says_102() {
-    let register = holding(2, 2, 1, 3, &[cells("00/01"), cells("10/01")]).bytes();
+    let register = contents_of(2, 2, 1, 3, &[cells("00/01"), cells("10/01")]).bytes();
     let (mut low, mut high) = (cells("10/01"), cells("10/01"));
     assert_eq!(prune(2, 2, 1, &mut low, &mut high).number, 102);
     assert_eq!(check_count(&register, &(low, high)), answer(0, 1));
@@ -61,7 +61,7 @@ fn an_entry_may_lie_in_bounds_of_which_prune_says_102() {
 
 #[test]
 fn register_takes_such_bytes() {
-    let bytes = holding(2, 2, 1, 3, &[cells("10/01")]).bytes();
+    let bytes = contents_of(2, 2, 1, 3, &[cells("10/01")]).bytes();
     let mut register = Register::from_bytes(bytes).unwrap();
     let [client, ..] = Client::ALL;
     let struck = register.strike(client, &cells("10/01"));
@@ -125,7 +125,7 @@ fn check_lists(seed: u64, call: fn(&Pool, &mut Random) -> Call) {
         let (m, n) = (random.between(2, 3) as usize, random.between(1, 3) as usize);
         let (top, capacity) = (random.between(1, 2) as u8, random.between(4, 8) as usize);
         let entries = distinct_grids(&mut random, m * n, top, 4);
-        let contents = holding(m, n, top, capacity, &entries);
+        let contents = contents_of(m, n, top, capacity, &entries);
         let mut register = with_drawn_holdings(&mut random, contents).bytes();
         let mut pool = Pool::drawn(&mut random, m, n, top, 3);
         pool.grids.extend(entries);

@@ -1,6 +1,6 @@
 //! The C header, the wrapper and the library's source: the same numbers, the same calls.
 
-use plan_register::{numbers, Refusal};
+use plan_register::numbers;
 
 const HEADER: &str = include_str!("../../../include/plan_register.h");
 const NUMBERS: &str = include_str!("../src/numbers.rs");
@@ -48,7 +48,6 @@ fn the_numbers_are_those_of_documents_01_and_02() {
     let values: Vec<u32> = values.map(|(_, value)| value).collect();
     let refusals = [1, 2, 3, 4, 5, 6, 7, 8, 9, 10, 14, 15, 16];
     assert_eq!(values, [&[0], &refusals[..], &[101, 102, 103]].concat());
-    assert_eq!(refusals, Refusal::ALL.map(Refusal::number));
 }
 
 /// A call: its name, the types of its arguments and of its answer, in C's words.

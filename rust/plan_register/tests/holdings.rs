@@ -3,8 +3,10 @@
 
 mod common;
 
-use common::calls::{answer, check_answer, check_call, holding, made, opened, with_drawn_holdings};
-use common::met::Met;
+use common::calls::{
+    answer, check_answer, check_call, contents_of, made, opened, with_drawn_holdings,
+};
+use common::met::{answered, Met};
 use reference::calls::Call;
 use reference::examples::every_grid;
 use reference::grid::least;
@@ -31,7 +33,7 @@ fn held_of(held: &Held, class: &[u8], client: u64) -> u64 {
 /// A register of 2 by 2, top 3, full with three classes, the second with these holdings.
 fn full(holdings: Holdings) -> Vec<u8> {
     let grids = [vec![0, 0, 0, 1], vec![0, 1, 1, 0], vec![1, 1, 2, 3]];
-    let mut contents = holding(2, 2, 3, 3, &grids);
+    let mut contents = contents_of(2, 2, 3, 3, &grids);
     contents.entries[1].holdings = holdings;
     contents.bytes()
 }
@@ -88,7 +90,7 @@ fn the_line_goes_with_the_last_holding_of_all_clients() {
             }
             holdings = holdings.with_one_less(client);
             let left = match holdings.are_all_0() {
-                true => holding(2, 2, 3, 3, &[vec![0, 0, 0, 1], vec![1, 1, 2, 3]]).bytes(),
+                true => contents_of(2, 2, 3, 3, &[vec![0, 0, 0, 1], vec![1, 1, 2, 3]]).bytes(),
                 false => full(holdings),
             };
             check_answer(&register, &call, answer(0, 2), &left);
@@ -178,7 +180,7 @@ fn a_call_changes_no_other_holding() {
         let (top, capacity) = (random.between(0, 2) as u8, random.between(1, 6) as usize);
         let pool = Pool::drawn(&mut random, m, n, top, capacity + 2);
         let classes: Vec<Vec<u8>> = pool.grids.iter().map(|grid| least(m, n, grid)).collect();
-        let mut contents = holding(m, n, top, capacity, &classes);
+        let mut contents = contents_of(m, n, top, capacity, &classes);
         contents.entries.truncate(capacity / 2);
         let mut register = with_drawn_holdings(&mut random, contents).bytes();
         for _ in 0..40 {
@@ -194,10 +196,10 @@ fn a_call_changes_no_other_holding() {
                 _ => vec![],
             };
             check_change(&before, &held(&register), &call, &class, answer.number);
-            met.note(&call, answer);
+            met.note(answered(&call, answer));
         }
     }
-    for (call, number) in [
+    for kind in [
         ("enter", 0),
         ("enter", 16),
         ("enter", 101),
@@ -207,7 +209,7 @@ fn a_call_changes_no_other_holding() {
         ("terminal enter", 16),
         ("terminal enter", 101),
     ] {
-        assert!(met.times(call, number) > 50, "{met:?}");
+        assert!(met.times(kind) > 50, "{met:?}");
     }
 }
 

@@ -3,8 +3,8 @@
 mod common;
 
 use common::book::Book;
-use common::calls::{answer, check_count, holding, opened};
-use common::{represented, shuffled};
+use common::calls::{answer, check_count, contents_of, opened};
+use common::represented;
 use reference::grid::compare;
 use reference::random::Random;
 
@@ -15,7 +15,7 @@ const TOPS: [u8; 4] = [1, 9, 10, 15];
 
 /// The register with these representatives.
 fn book(top: u8, entries: &[Vec<u8>]) -> Book {
-    let contents = holding(M, N, top, CAPACITY, entries);
+    let contents = contents_of(M, N, top, CAPACITY, entries);
     assert_eq!(contents.entries.len(), entries.len());
     Book::holding(contents)
 }
@@ -41,7 +41,7 @@ fn full_registers() {
         assert_eq!(book.check_enter(8, &new), answer(9, 0));
         assert_eq!(book.check_strike(8, &new), answer(10, 0));
         for k in [0, 1, 249, 498, 499] {
-            let grid = shuffled(&mut random, M, N, &classes[k]);
+            let grid = random.shuffled(M, N, &classes[k]);
             let place = k as u32 + 1;
             // Client 1 holds one; client 8 takes one and gives it back.
             assert_eq!(book.check_enter(8, &grid), answer(101, place));
@@ -97,7 +97,7 @@ fn in_any_order(random: &mut Random, grids: &[Vec<u8>]) -> Vec<Vec<u8>> {
     let mut grids = grids.to_vec();
     for k in (0..grids.len()).rev() {
         grids.swap(k, random.below(k as u64 + 1) as usize);
-        grids[k] = shuffled(random, M, N, &grids[k]);
+        grids[k] = random.shuffled(M, N, &grids[k]);
     }
     grids
 }
@@ -112,7 +112,7 @@ fn long_lists() {
         for _ in 0..60 {
             let from = [0, 250, CAPACITY][random.below(3) as usize];
             let class = &classes[from + random.below(6) as usize];
-            let grid = shuffled(&mut random, M, N, class);
+            let grid = random.shuffled(M, N, class);
             let client = random.between(1, 2);
             let answer = match random.once_in(4) {
                 true => book.check_strike(client, &grid),

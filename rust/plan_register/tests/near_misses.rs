@@ -2,7 +2,7 @@
 
 mod common;
 
-use common::{check_same, check_two_classes, shuffled};
+use common::{check_same, check_two_classes};
 use reference::grid::{arrangement, identity};
 use reference::random::Random;
 
@@ -19,7 +19,7 @@ fn check_changed(seed: u64, change: Change) -> usize {
         let a = random.cells(m * n, 3);
         let mut b = a.clone();
         change(&mut random, m, n, &mut b);
-        let b = shuffled(&mut random, m, n, &b);
+        let b = random.shuffled(m, n, &b);
         one_class += usize::from(check_same(m, n, 3, &a, &b));
     }
     one_class
@@ -57,8 +57,7 @@ fn keep_sums(random: &mut Random, m: usize, n: usize, grid: &mut [u8]) {
 /// Each row is shuffled on its own, so that sorted it is the same.
 fn shuffle_each_row(random: &mut Random, _: usize, n: usize, grid: &mut [u8]) {
     for row in grid.chunks_mut(n) {
-        let columns = random.permutation(n);
-        let moved = arrangement(1, n, &[0], &columns, row);
+        let moved = random.shuffled(1, n, row);
         row.copy_from_slice(&moved);
     }
 }
@@ -140,7 +139,7 @@ fn one_cell_changed_in_the_largest_shape() {
         let a = random.cells(128, 1);
         let mut b = a.clone();
         change_one_cell(&mut random, 8, 16, &mut b);
-        let b = shuffled(&mut random, 8, 16, &b);
+        let b = random.shuffled(8, 16, &b);
         check_two_classes(8, 16, 3, &a, &b);
     }
 }

@@ -3,9 +3,10 @@
 
 mod common;
 
-use common::calls::{answer, check_count, distinct_grids, holding, made, opened};
+use common::calls::{answer, check_count, contents_of, distinct_grids, made, opened};
 use common::forms::form_for;
-use common::pruned::{entries, reached, Met, Pruned, REACHED};
+use common::met::Met;
+use common::pruned::{entries, reached, Outcome, Pruned, REACHED};
 use reference::bounds::{allperm, lies_in};
 use reference::calls::Call;
 use reference::examples::{cells, every_grid, shapes_up_to};
@@ -13,7 +14,6 @@ use reference::forms::{every_form, Form};
 use reference::lists::Pool;
 use reference::machine::Machine;
 use reference::random::Random;
-use std::collections::BTreeMap;
 
 #[test]
 fn every_form_of_tiny_shapes_on_several_registers() {
@@ -65,7 +65,13 @@ fn forms_of_every_shape_on_several_registers() {
 }
 
 /// Checks a list of so many calls, each followed by counts of a few forms that are pruned once.
-fn check_list(random: &mut Random, pool: &Pool, capacity: usize, calls: usize, met: &mut Met) {
+fn check_list(
+    random: &mut Random,
+    pool: &Pool,
+    capacity: usize,
+    calls: usize,
+    met: &mut Met<Outcome>,
+) {
     let (m, n, top) = (pool.m, pool.n, pool.top);
     let forms: Vec<Pruned> = (0..4)
         .map(|_| Pruned::once(m, n, top, pool.form(random)))
@@ -177,7 +183,7 @@ fn forms_on_registers_of_other_shapes_and_tops() {
                         (_, 0) => "no entry",
                         _ => "entries",
                     };
-                    met.note(other.which, found);
+                    met.note((other.which, found));
                 }
             }
         }
@@ -218,7 +224,7 @@ fn forms_on_registers_with_any_entries() {
         let (m, n) = (random.between(2, 4) as usize, random.between(1, 4) as usize);
         let top = random.between(1, 3) as u8;
         let entries = distinct_grids(&mut random, m * n, top, 4);
-        let register = holding(m, n, top, 6, &entries).bytes();
+        let register = contents_of(m, n, top, 6, &entries).bytes();
         for _ in 0..8 {
             let form = form_for(&mut random, m, n, top, &entries);
             let form = Pruned::once(m, n, top, form);
@@ -234,7 +240,7 @@ fn forms_on_registers_with_any_entries() {
                 Some(count) if count < sent => "fewer than as sent",
                 Some(_) => "one number",
             };
-            met.note(form.removed(), found);
+            met.note((form.removed(), found));
         }
     }
     let kinds = [
@@ -265,7 +271,7 @@ fn spoil(random: &mut Random, top: u8, register: &mut [u8], (low, high): &mut Fo
 fn no_count_changes_a_byte_of_the_register_or_the_bounds() {
     // Looked at by check_count, also where the count is refused.
     let mut random = Random::new(246);
-    let mut met = BTreeMap::new();
+    let mut met = Met::default();
     for (m, n) in shapes_up_to(128) {
         let top = random.between(1, 15) as u8;
         let pool = Pool::drawn(&mut random, m, n, top, 6);
@@ -276,11 +282,9 @@ fn no_count_changes_a_byte_of_the_register_or_the_bounds() {
             for mut form in [Some(sent), pruned].into_iter().flatten() {
                 let mut register = register.clone();
                 spoil(&mut random, top, &mut register, &mut form);
-                let number = check_count(&register, &form).number;
-                *met.entry(number).or_insert(0) += 1;
+                met.note(check_count(&register, &form).number);
             }
         }
     }
-    assert!(met.keys().eq(&[0, 5, 6, 7, 8]), "{met:?}");
-    assert!(met.values().all(|&met| met > 100), "{met:?}");
+    met.check(&[0, 5, 6, 7, 8], 101);
 }

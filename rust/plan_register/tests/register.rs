@@ -2,7 +2,7 @@
 
 mod common;
 
-use common::calls::{distinct_grids, holding, with_drawn_holdings};
+use common::calls::{contents_of, distinct_grids, with_drawn_holdings};
 use common::limits::{every_numbers, Numbers};
 use plan_register::{Client, Entered, Entry, Refusal, Register};
 use reference::calls::Call;
@@ -30,7 +30,7 @@ fn open_asks_the_limits_in_order() {
             Err(refusal) => assert_eq!(Err(refusal.number()), first_no(numbers)),
             Ok(register) => {
                 assert_eq!(first_no(numbers), Ok(()));
-                let empty = holding(m, n, top as u8, capacity, &[]);
+                let empty = contents_of(m, n, top as u8, capacity, &[]);
                 assert!(register.bytes() == empty.bytes());
             }
         }
@@ -43,7 +43,7 @@ fn what_a_register_states() {
     for (m, n) in shapes_up_to(128) {
         let (top, capacity) = (random.between(1, 15), random.between(2, 40));
         let grids = distinct_grids(&mut random, m * n, top as u8, 2);
-        let contents = holding(m, n, top as u8, capacity as usize, &grids);
+        let contents = contents_of(m, n, top as u8, capacity as usize, &grids);
         let contents = with_drawn_holdings(&mut random, contents);
         let register = Register::from_bytes(contents.bytes()).unwrap();
         assert_eq!((register.rows(), register.columns()), (m, n));
@@ -70,7 +70,7 @@ fn entries_by_place_and_from_both_ends() {
     let mut random = Random::new(136);
     let grids: Vec<Vec<u8>> = (0..16).map(|v| vec![v, 15 - v]).collect();
     for count in 0..=16 {
-        let contents = holding(1, 2, 15, 16, &grids[..count]);
+        let contents = contents_of(1, 2, 15, 16, &grids[..count]);
         let contents = with_drawn_holdings(&mut random, contents);
         let entries = entries(&contents);
         let register = Register::from_bytes(contents.bytes()).unwrap();
@@ -92,7 +92,7 @@ fn entries_by_place_and_from_both_ends() {
 
 #[test]
 fn other_bytes_are_refused() {
-    let bytes = holding(2, 2, 3, 2, &[cells("00/01")]).bytes();
+    let bytes = contents_of(2, 2, 3, 2, &[cells("00/01")]).bytes();
     let shorter = bytes[1..].to_vec();
     for other in [vec![], vec![0], vec![b' '; bytes.len()], shorter] {
         assert_eq!(Register::from_bytes(other), Err(Refusal::Layout));
@@ -136,7 +136,7 @@ fn answered(register: &mut Register, call: &Call) -> (u32, u64) {
 }
 
 /// Checks lists of calls, which the pool makes so, on registers of at most so many rows. A call
-/// that names no client cannot be made there. Returns how often each number was answered.
+/// whose client is none of 1 to 8 cannot be made there. Returns how often each number was answered.
 fn check_lists(seed: u64, rows: u64, call: fn(&Pool, &mut Random) -> Call) -> [usize; 102] {
     let mut random = Random::new(seed);
     let mut met = [0; 102];

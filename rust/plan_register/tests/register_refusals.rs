@@ -3,7 +3,7 @@
 
 mod common;
 
-use common::calls::{answer, check_answer, holding};
+use common::calls::{answer, check_answer, contents_of};
 use common::faults::{check, clients, holdings, registers, sets_of, sets_of_enter, slices};
 use reference::calls::Call;
 use reference::examples::cells;
@@ -13,7 +13,7 @@ use reference::layout::Contents;
 /// A register of 2 by 3, top 3, full with two entries, the second held as the questions ask that
 /// are to fail.
 fn full(failed: &[u32]) -> Contents {
-    let mut contents = holding(2, 3, 3, 2, &[cells("000/111"), cells("001/121")]);
+    let mut contents = contents_of(2, 3, 3, 2, &[cells("000/111"), cells("001/121")]);
     contents.entries[1].holdings = holdings(failed);
     contents
 }
@@ -60,7 +60,7 @@ fn strike_answers_the_first_no_of_5_6_7_15_10() {
 
 #[test]
 fn clients_1_to_8_pass_and_others_are_15() {
-    let mut contents = holding(1, 2, 3, 1, &[vec![0, 3]]);
+    let mut contents = contents_of(1, 2, 3, 1, &[vec![0, 3]]);
     contents.entries[0].holdings = Holdings([7; 8]);
     let register = contents.bytes();
     let far = [65_537, (1 << 32) + 1, (1 << 63) + 8, u64::MAX - 7, u64::MAX];
@@ -117,7 +117,7 @@ fn count_answers_the_first_no_of_5_6_7_8() {
 
 /// A register of 8 by 16 with one entry, of zeros, and room for another.
 fn large(top: u8) -> Vec<u8> {
-    holding(8, 16, top, 2, &[vec![0; 128]]).bytes()
+    contents_of(8, 16, top, 2, &[vec![0; 128]]).bytes()
 }
 
 #[test]
@@ -167,8 +167,8 @@ fn every_bound_is_asked() {
 #[test]
 fn the_edges_of_document_01() {
     for top in 0..=15 {
-        let empty = holding(1, 2, top, 1, &[]).bytes();
-        let held = holding(1, 2, top, 1, &[vec![0, top]]).bytes();
+        let empty = contents_of(1, 2, top, 1, &[]).bytes();
+        let held = contents_of(1, 2, top, 1, &[vec![0, top]]).bytes();
         let (at, above) = (vec![top, 0], vec![top + 1, 0]);
         check(&empty, &Call::Enter(1, above.clone()), 7);
         check(&empty, &Call::Enter(1, at.clone()), 0);

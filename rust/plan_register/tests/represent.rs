@@ -2,7 +2,7 @@
 
 mod common;
 
-use common::{random_shape, represented, shuffled, small_shapes};
+use common::{random_shape, represented, small_shapes};
 use reference::examples::{every_grid, shapes_up_to};
 use reference::grid::least;
 use reference::random::Random;
@@ -93,7 +93,7 @@ fn shuffled_copies_have_one_representative_which_is_its_own() {
         let (m, n) = random_shape(&mut random, 8);
         let top = random.between(0, 15) as u8;
         let grid = random.cells(m * n, top);
-        let other = shuffled(&mut random, m, n, &grid);
+        let other = random.shuffled(m, n, &grid);
         let representative = represented(m, n, top, &grid);
         assert_eq!(represented(m, n, top, &other), representative);
         assert_eq!(represented(m, n, top, &representative), representative);
@@ -106,7 +106,7 @@ fn shuffled_copies_of_the_largest_shape_have_one_representative() {
     for top in [1, 2, 15] {
         for _ in 0..100 {
             let grid = random.cells(128, top);
-            let other = shuffled(&mut random, 8, 16, &grid);
+            let other = random.shuffled(8, 16, &grid);
             let representative = represented(8, 16, top, &grid);
             assert_eq!(represented(8, 16, top, &other), representative);
             assert_eq!(represented(8, 16, top, &representative), representative);

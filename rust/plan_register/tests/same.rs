@@ -5,7 +5,7 @@ mod common;
 
 use common::sets::ORDER_SYSTEM;
 use common::{check_one_class, check_parting, check_same};
-use common::{random_shape, represented, shuffled};
+use common::{random_shape, represented, zeros_then_ones};
 use plan_register::same;
 use reference::examples::{plan, shapes_up_to};
 use reference::grid::arrangement;
@@ -48,7 +48,7 @@ fn shuffled_copies_are_in_one_class() {
         let (m, n) = random_shape(&mut random, 8);
         let top = random.between(0, 15) as u8;
         let a = random.cells(m * n, top);
-        let b = shuffled(&mut random, m, n, &a);
+        let b = random.shuffled(m, n, &a);
         check_one_class(m, n, top, &a, &b);
         check_one_class(m, n, top, &b, &a);
         check_one_class(m, n, top, &a, &represented(m, n, top, &a));
@@ -67,11 +67,6 @@ fn random_grids_are_in_one_class_where_the_reference_says_so() {
     assert!((1000..19_000).contains(&one_class), "{one_class}");
 }
 
-/// A representative: so many cells are 0, and the others, which follow, are 1.
-fn zeros_then_ones(cells: usize, zeros: usize) -> Vec<u8> {
-    (0..cells).map(|k| u8::from(k >= zeros)).collect()
-}
-
 #[test]
 fn plans_of_every_shape_agree_in_every_number_of_cells() {
     let mut random = Random::new(34);
@@ -79,7 +74,7 @@ fn plans_of_every_shape_agree_in_every_number_of_cells() {
         let zeros = vec![0; m * n];
         check_one_class(m, n, 1, &zeros, &zeros);
         for k in 0..m * n {
-            let other = shuffled(&mut random, m, n, &zeros_then_ones(m * n, k));
+            let other = random.shuffled(m, n, &zeros_then_ones(m * n, k));
             check_parting(m, n, 1, &zeros, &other, k);
         }
     }
@@ -91,10 +86,7 @@ fn plans_that_differ_in_the_last_cell_only() {
     for (m, n) in shapes_up_to(128) {
         let (mut a, mut b) = (vec![0; m * n], vec![0; m * n]);
         (a[m * n - 1], b[m * n - 1]) = (14, 15);
-        let (a, b) = (
-            shuffled(&mut random, m, n, &a),
-            shuffled(&mut random, m, n, &b),
-        );
+        let (a, b) = (random.shuffled(m, n, &a), random.shuffled(m, n, &b));
         check_parting(m, n, 15, &a, &b, m * n - 1);
     }
 }
@@ -115,10 +107,7 @@ fn arranging_the_plans_anew_changes_no_number() {
         let top = random.between(0, 2) as u8;
         let (a, b) = (random.cells(m * n, top), random.cells(m * n, top));
         let found = same(m, n, top.into(), &a, &b);
-        let (c, d) = (
-            shuffled(&mut random, m, n, &a),
-            shuffled(&mut random, m, n, &b),
-        );
+        let (c, d) = (random.shuffled(m, n, &a), random.shuffled(m, n, &b));
         for (a, b) in [(&c, &d), (&d, &c), (&a, &d), (&c, &b)] {
             let again = same(m, n, top.into(), a, b);
             assert_eq!((again.number, again.agreed), (found.number, found.agreed));

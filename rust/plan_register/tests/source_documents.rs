@@ -1,8 +1,10 @@
-//! The marked plans and the printed run of document 01, and examples of documents 000 and 002.
+//! The marked plans of document 01, its printed run as request 4 makes it, and examples of
+//! documents 000 and 002.
 
 mod common;
 
 use common::calls::{answer, check_answer, check_call, opened};
+use common::pruned::Pruned;
 use common::{check_one_class, check_parting, check_prune, check_pruned, represented};
 use plan_register::{represent, same, Counted};
 use reference::calls::Call;
@@ -65,7 +67,9 @@ fn m10_has_no_grid_with_allperm() {
 #[test]
 fn the_printed_run() {
     let mut bytes = opened(2, 2, 1, 2);
-    let form = (cells("00/00"), cells("01/11"));
+    // Command 3 prunes the form, and then counts.
+    let form = Pruned::once(2, 2, 1, (cells("00/00"), cells("01/11")));
+    let form = form.pruned.expect("a grid in the form has allperm");
     for (call, number, place) in [
         (Call::Enter(1, cells("10/01")), 0, 1),
         (Call::Enter(1, cells("01/10")), 101, 1),

@@ -3,116 +3,47 @@
 
 mod common;
 
-use common::calls::{check_call, holding, made, opened, with_drawn_holdings};
-use common::met::{Met, ANSWERS, TERMINAL_ANSWERS};
+use common::calls::{check_call, contents_of, made, opened};
+use common::lists::{
+    check_6_to_8_rows, check_full_registers, check_small_shapes, check_up_to_5_rows,
+};
+use common::met::{Answered, ANSWERS, TERMINAL_ANSWERS};
 use common::shapes_of;
 use plan_register::{enter, strike, terminal_enter};
 use reference::calls::Call;
 use reference::examples::every_grid;
-use reference::grid::{compare, least};
+use reference::grid::compare;
 use reference::holdings::Holdings;
 use reference::lists::Pool;
-use reference::machine::Machine;
 use reference::random::Random;
 
-/// A register beside the plain machine.
-struct Pair {
-    register: Vec<u8>,
-    machine: Machine,
-}
-
-impl Pair {
-    fn opened(pool: &Pool, capacity: usize) -> Pair {
-        let (m, n, top) = (pool.m, pool.n, pool.top);
-        let register = opened(m, n, top, capacity);
-        let machine = Machine::opened(m as u64, n as u64, top.into(), capacity as u64);
-        assert_eq!(register, machine.bytes());
-        Pair { register, machine }
-    }
-
-    /// Makes the call on both. Checks the answer and the bytes.
-    fn check(&mut self, call: &Call, met: &mut Met) {
-        let answer = check_call(&mut self.register, call);
-        assert_eq!(answer, call.on_machine(&mut self.machine), "{call:?}");
-        assert_eq!(self.register, self.machine.bytes(), "{call:?}");
-        met.note(call, answer);
-    }
-}
-
-/// Checks a list of so many calls of both sets on a register that is opened with this capacity.
-fn check_list(random: &mut Random, pool: &Pool, capacity: usize, calls: usize, met: &mut Met) {
-    let mut pair = Pair::opened(pool, capacity);
-    for _ in 0..calls {
-        pair.check(&pool.call_of_either_set(random), met);
-    }
-}
-
 /// Every number of both sets on registers of up to 5 rows: not 14.
-fn answers_up_to_5_rows() -> Vec<(&'static str, u32)> {
+fn answers_up_to_5_rows() -> Vec<Answered> {
     [&ANSWERS[..], &TERMINAL_ANSWERS].concat()
 }
 
 #[test]
 fn lists_on_small_shapes() {
-    let mut random = Random::new(221);
-    let mut met = Met::default();
-    for _ in 0..600 {
-        let (m, n) = (random.between(1, 3) as usize, random.between(1, 3) as usize);
-        let (top, capacity) = (random.between(0, 2) as u8, random.between(1, 5) as usize);
-        let pool = Pool::drawn(&mut random, m, n, top, capacity + 3);
-        check_list(&mut random, &pool, capacity, 60, &mut met);
-    }
+    let met = check_small_shapes(221, Pool::call_of_either_set);
     met.check(&answers_up_to_5_rows(), 100);
 }
 
 #[test]
 fn lists_on_every_shape_of_up_to_5_rows() {
-    let mut random = Random::new(222);
-    let mut met = Met::default();
-    for (m, n) in shapes_of(5, 80) {
-        let (top, capacity) = (random.between(0, 15) as u8, random.between(1, 9) as usize);
-        let pool = Pool::drawn(&mut random, m, n, top, capacity + 4);
-        check_list(&mut random, &pool, capacity, 80, &mut met);
-    }
+    let met = check_up_to_5_rows(222, Pool::call_of_either_set);
     met.check(&answers_up_to_5_rows(), 20);
 }
 
 #[test]
 fn lists_on_shapes_of_6_to_8_rows() {
-    // Few calls on 7 and 8 rows: the reference lists every row permutation.
-    let mut random = Random::new(223);
-    let mut met = Met::default();
-    for (m, n, calls) in [
-        (6, 1, 200),
-        (6, 4, 200),
-        (6, 16, 100),
-        (7, 1, 30),
-        (7, 16, 20),
-        (8, 1, 12),
-        (8, 16, 6),
-    ] {
-        let pool = Pool::drawn(&mut random, m, n, 1, 4);
-        check_list(&mut random, &pool, 2, calls, &mut met);
-    }
+    let met = check_6_to_8_rows(223, Pool::call_of_either_set, 1);
     met.check(&[&ANSWERS[..], &[("terminal enter", 14)]].concat(), 1);
-    assert!(met.times("terminal enter", 14) > 50, "{met:?}");
+    assert!(met.times(("terminal enter", 14)) > 50, "{met:?}");
 }
 
 #[test]
 fn lists_on_full_registers_of_every_capacity() {
-    let mut random = Random::new(224);
-    let mut met = Met::default();
-    for capacity in (1..=40).chain([99, 100, 101, 499, 500]) {
-        let pool = Pool::drawn(&mut random, 2, 2, 15, 2 * capacity);
-        let classes: Vec<Vec<u8>> = pool.grids.iter().map(|grid| least(2, 2, grid)).collect();
-        let mut contents = holding(2, 2, 15, capacity, &classes);
-        contents.entries.truncate(capacity);
-        let mut register = with_drawn_holdings(&mut random, contents).bytes();
-        for _ in 0..60 {
-            let call = pool.call_of_either_set(&mut random);
-            met.note(&call, check_call(&mut register, &call));
-        }
-    }
+    let met = check_full_registers(224, Pool::call_of_either_set);
     let with_16 = [("enter", 16), ("terminal enter", 16)];
     met.check(&[&answers_up_to_5_rows()[..], &with_16].concat(), 10);
 }
@@ -123,7 +54,7 @@ fn from_empty_to_full_through_both_sets() {
     let mut classes: Vec<Vec<u8>> = grids.filter(|grid| grid.is_sorted()).collect();
     classes.sort_by(|a, b| compare(a, b));
     let mut register = opened(1, 3, 15, 500);
-    let mut full = holding(1, 3, 15, 500, &classes[..500]);
+    let mut full = contents_of(1, 3, 15, 500, &classes[..500]);
     for (k, grid) in classes[..500].iter().enumerate() {
         let client = k % 8 + 1;
         let placed = match k % 2 {

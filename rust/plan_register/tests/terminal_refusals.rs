@@ -3,7 +3,7 @@
 
 mod common;
 
-use common::calls::{answer, check_answer, check_call, holding};
+use common::calls::{answer, check_answer, check_call, contents_of};
 use common::faults::{check, clients, holdings, registers, sets_of_enter, slices};
 use common::limits::{BIT_32, BIT_63, TERMINAL_ROWS};
 use common::numbers::Numbers;
@@ -143,7 +143,7 @@ fn last_row(m: usize, row: [u8; 3]) -> Vec<u8> {
 /// questions ask that are to fail.
 fn full(failed: &[u32], m: usize) -> Contents {
     let grids = [last_row(m, [0, 1, 1]), last_row(m, [0, 2, 3])];
-    let mut contents = holding(m, 3, 3, 2, &grids);
+    let mut contents = contents_of(m, 3, 3, 2, &grids);
     contents.entries[1].holdings = holdings(failed);
     contents
 }
@@ -173,8 +173,8 @@ fn enter_answers_the_first_no_of_5_14_6_7_15_9_16() {
 
 #[test]
 fn enter_asks_every_length_and_every_cell() {
-    let register = holding(5, 16, 14, 2, &[vec![0; 80]]).bytes();
-    let large = holding(6, 16, 14, 2, &[vec![0; 96]]).bytes();
+    let register = contents_of(5, 16, 14, 2, &[vec![0; 80]]).bytes();
+    let large = contents_of(6, 16, 14, 2, &[vec![0; 96]]).bytes();
     for length in 0..200 {
         let call = Call::TerminalEnter(1, vec![0; length]);
         check(&register, &call, if length == 80 { 101 } else { 6 });
@@ -190,7 +190,7 @@ fn enter_asks_every_length_and_every_cell() {
 #[test]
 fn where_a_terminal_is_refused_the_order_system_is_not() {
     for m in 6..=8 {
-        let mut register = holding(m, 1, 3, 2, &[]).bytes();
+        let mut register = contents_of(m, 1, 3, 2, &[]).bytes();
         let grid: Vec<u8> = (0..m as u8).map(|cell| cell % 4).collect();
         let at_terminal = Call::TerminalEnter(1, grid.clone());
         check_answer(&register, &at_terminal, answer(14, 0), &register);

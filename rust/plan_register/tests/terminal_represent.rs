@@ -4,7 +4,7 @@
 mod common;
 
 use common::sets::{represented_by_both, TERMINAL};
-use common::{random_shape, shapes_of, shuffled, small_shapes};
+use common::{random_shape, shapes_of, small_shapes};
 use reference::designs::{
     all, cyclic, equal_columns, equal_rows, identity_rows, two_rows, zero, Design,
 };
@@ -57,7 +57,7 @@ fn check_design(random: &mut Random, design: &Design) {
     let representative = represented_by_both(m, n, top, &design.cells);
     assert_eq!(representative, least(m, n, &design.cells), "{name}");
     for _ in 0..4 {
-        let other = shuffled(random, m, n, &design.cells);
+        let other = random.shuffled(m, n, &design.cells);
         let written = represented_by_both(m, n, top, &other);
         assert_eq!(written, representative, "{name}");
     }
@@ -121,7 +121,7 @@ fn shuffled_copies_have_one_representative_which_is_its_own() {
         let top = random.between(0, 15) as u8;
         let grid = random.cells(m * n, top);
         let representative = represented_by_both(m, n, top, &grid);
-        let other = shuffled(&mut random, m, n, &grid);
+        let other = random.shuffled(m, n, &grid);
         assert_eq!(TERMINAL.represented(m, n, top, &other), representative);
         let again = TERMINAL.represented(m, n, top, &representative);
         assert_eq!(again, representative);

@@ -4,7 +4,7 @@
 mod common;
 
 use common::sets::{ORDER_SYSTEM, TERMINAL};
-use common::{random_shape, shapes_of, shuffled};
+use common::{random_shape, shapes_of, zeros_then_ones};
 use plan_register::{same, terminal_same};
 use reference::designs::all;
 use reference::examples::{every_grid, plan};
@@ -73,7 +73,7 @@ fn both_sets_answer_alike_on_random_pairs_of_every_shape() {
             for _ in 0..20 {
                 let a = random.cells(m * n, top);
                 let b = match random.once_in(2) {
-                    true => shuffled(&mut random, m, n, &a),
+                    true => random.shuffled(m, n, &a),
                     false => random.cells(m * n, top),
                 };
                 met[check_alike(m, n, top, &a, &b) as usize] += 1;
@@ -106,7 +106,7 @@ fn shuffled_copies_are_in_one_class() {
         let (m, n) = random_shape(&mut random, 5);
         let top = random.between(0, 15) as u8;
         let a = random.cells(m * n, top);
-        let b = shuffled(&mut random, m, n, &a);
+        let b = random.shuffled(m, n, &a);
         TERMINAL.check_one_class(m, n, top, &a, &b);
         TERMINAL.check_one_class(m, n, top, &b, &a);
         let least = TERMINAL.represented(m, n, top, &a);
@@ -120,11 +120,11 @@ fn designs_of_up_to_5_rows() {
     let designs: Vec<_> = all().into_iter().filter(|design| design.m <= 5).collect();
     for a in &designs {
         let (m, n) = (a.m, a.n);
-        let one = shuffled(&mut random, m, n, &a.cells);
+        let one = random.shuffled(m, n, &a.cells);
         TERMINAL.check_one_class(m, n, a.top, &a.cells, &one);
         for b in designs.iter().filter(|b| (b.m, b.n) == (m, n)) {
             let top = a.top.max(b.top);
-            let other = shuffled(&mut random, m, n, &b.cells);
+            let other = random.shuffled(m, n, &b.cells);
             TERMINAL.check_same(m, n, top, &one, &other);
         }
     }
@@ -142,17 +142,12 @@ fn pairs_that_differ_in_one_cell_or_two() {
         let (mut changed, mut exchanged) = (a.clone(), a.clone());
         changed[k] = (a[k] + 1) % 3;
         exchanged.swap(k, l);
-        let changed = shuffled(&mut random, m, n, &changed);
-        let exchanged = shuffled(&mut random, m, n, &exchanged);
+        let changed = random.shuffled(m, n, &changed);
+        let exchanged = random.shuffled(m, n, &exchanged);
         assert!(!TERMINAL.check_same(m, n, 2, &a, &changed));
         one_class += usize::from(TERMINAL.check_same(m, n, 2, &a, &exchanged));
     }
     assert!((100..500).contains(&one_class), "{one_class}");
-}
-
-/// A representative: so many cells are 0, and the others, which follow, are 1.
-fn zeros_then_ones(cells: usize, zeros: usize) -> Vec<u8> {
-    (0..cells).map(|k| u8::from(k >= zeros)).collect()
 }
 
 #[test]
@@ -162,7 +157,7 @@ fn plans_of_every_shape_agree_in_every_number_of_cells() {
         let zeros = vec![0; m * n];
         TERMINAL.check_one_class(m, n, 1, &zeros, &zeros);
         for k in 0..m * n {
-            let other = shuffled(&mut random, m, n, &zeros_then_ones(m * n, k));
+            let other = random.shuffled(m, n, &zeros_then_ones(m * n, k));
             TERMINAL.check_parting(m, n, 1, &zeros, &other, k);
             ORDER_SYSTEM.check_parting(m, n, 1, &zeros, &other, k);
         }

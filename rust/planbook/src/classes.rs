@@ -37,12 +37,6 @@ pub fn drawn_grids(random: &mut Random, m: usize, n: usize, top: u8, count: usiz
     grids
 }
 
-/// The grid with its rows and its columns shuffled.
-pub fn shuffled(random: &mut Random, m: usize, n: usize, grid: &[u8]) -> Vec<u8> {
-    let (rows, columns) = (random.permutation(m), random.permutation(n));
-    arrangement(m, n, &rows, &columns, grid)
-}
-
 /// Is this the least of the grid and so many shuffled copies, the columns of each sorted?
 pub fn is_least_of_some(
     random: &mut Random,

@@ -7,15 +7,15 @@
 //! |-------------|-------------------------------------------------------------|
 //! | `program`   | finds the program and runs it                               |
 //! | `checks`    | runs it and compares what it prints                         |
-//! | `lines`     | the lines of inputs, as document 01 lays them               |
+//! | `lines`     | the lines of inputs, as documents 01 and 02 lay them        |
 //! | `inputs`    | inputs: random ones, edited ones                            |
-//! | `malformed` | lines that are not laid as document 01 says                 |
+//! | `malformed` | lines that are not laid as documents 01 and 02 say          |
 //! | `outputs`   | the printed lines and the register of an output             |
 //! | `book`      | an input beside its output, where representatives are known |
 //! | `classes`   | classes of grids in which no two rows have the same cells   |
 
 pub mod book;
-pub mod checks;
+mod checks;
 pub mod classes;
 pub mod inputs;
 pub mod lines;

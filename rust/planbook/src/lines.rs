@@ -1,4 +1,4 @@
-//! The lines of inputs, as document 01 lays them.
+//! The lines of inputs, as documents 01 and 02 lay them.
 
 use reference::layout::number;
 

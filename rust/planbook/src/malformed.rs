@@ -1,10 +1,10 @@
-//! Lines that are not laid as document 01 says.
+//! Lines that are not laid as documents 01 and 02 say.
 
 use crate::lines::{command, ended};
 use reference::layout::number;
 
 /// Numbers that are no commands.
-pub const OTHER_COMMANDS: [u64; 13] = [0, 4, 5, 9, 10, 11, 12, 13, 21, 31, 100, 100_001, 999_999];
+const OTHER_COMMANDS: [u64; 13] = [0, 4, 5, 9, 10, 11, 12, 13, 21, 31, 100, 100_001, 999_999];
 
 /// Fields that hold no number, each 6 wide.
 pub const NO_NUMBERS: [&[u8; 6]; 20] = [
@@ -31,7 +31,7 @@ pub const NO_NUMBERS: [&[u8; 6]; 20] = [
 ];
 
 /// Fields that hold no cell, each 3 wide.
-pub const NO_CELLS: [&[u8; 3]; 28] = [
+const NO_CELLS: [&[u8; 3]; 28] = [
     b"   ", b"0  ", b" 0 ", b"1  ", b" 1 ", b" 00", b"000", b" 01", b"001", b"010", b"256", b"260",
     b"300", b"999", b" +1", b" -1", b" -0", b"+ 1", b"1.0", b" .1", b"1 1", b"0x1", b"\t 1",
     b" \t1", b"\0\x001", b"  \0", b"  \xff", b" 1\r",

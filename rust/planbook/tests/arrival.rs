@@ -6,7 +6,7 @@ use planbook::program::{root, run_in_pieces, run_on_file};
 use reference::planbook::transcript;
 use reference::random::Random;
 
-/// Document 01's input.
+/// The input of the printed run, as request 4 makes it.
 const INPUT: &[u8] = include_bytes!("../../../crates/planbook/stdin");
 
 /// Checks that pieces print what they print in one piece.

@@ -48,7 +48,8 @@ fn the_program_prints_what_the_guide_says() {
 }
 
 #[test]
-fn the_guide_explains_the_run_of_document_01() {
+fn the_guide_explains_the_printed_run() {
+    // As request 4 makes it.
     let input = include_str!("../../../crates/planbook/stdin");
     let output = include_str!("../../../crates/planbook/stdout");
     assert_eq!(runs()[0], (input.to_string(), output));

@@ -2,7 +2,7 @@
 //! taken from a register that the program printed, once that is checked.
 
 use planbook::book::Book;
-use planbook::classes::{class_key, drawn_grids, is_least_of_some, shuffled};
+use planbook::classes::{class_key, drawn_grids, is_least_of_some};
 use planbook::lines::{ended, enter, line_1, LIMIT};
 use planbook::outputs::Output;
 use planbook::run;
@@ -70,7 +70,7 @@ fn add(
     representatives: &[Vec<u8>],
 ) -> u64 {
     let k = random.below(grids.len() as u64) as usize;
-    let (grid, representative) = (shuffled(random, M, N, &grids[k]), &representatives[k]);
+    let (grid, representative) = (random.shuffled(M, N, &grids[k]), &representatives[k]);
     let (top, client) = (book.contents.top as u8, random.between(1, 3));
     let (low, high) = match random.below(8) {
         0..=3 => return book.enter(client, &grid, representative),
@@ -109,7 +109,7 @@ fn symmetric_grids_of_7_and_8_rows() {
         let (m, n, top) = (design.m, design.n, design.top);
         let representative = least(m, n, &design.cells);
         let mut book = Book::opened([m as u64, n as u64, top.into(), 2]);
-        let mut copy = || shuffled(&mut random, m, n, &design.cells);
+        let mut copy = || random.shuffled(m, n, &design.cells);
         assert_eq!(book.strike(1, &copy(), &representative), 10);
         assert_eq!(book.enter(1, &design.cells, &representative), 0);
         for client in 4..=8 {
@@ -132,7 +132,7 @@ fn one_cell_makes_another_class() {
     let first = drawn_grids(&mut random, M, N, 15, 1).remove(0);
     let mut grids = vec![first];
     while grids.len() < 30 {
-        let mut grid = shuffled(&mut random, M, N, &grids[0]);
+        let mut grid = random.shuffled(M, N, &grids[0]);
         let k = random.below(128) as usize;
         grid[k] = (grid[k] + random.between(1, 15) as u8) % 16;
         let key = class_key(M, N, &grid);
@@ -146,7 +146,7 @@ fn one_cell_makes_another_class() {
         assert_eq!(book.enter(1, grid, entry), 0);
     }
     for (grid, entry) in grids.iter().zip(&entries) {
-        let grid = shuffled(&mut random, M, N, grid);
+        let grid = random.shuffled(M, N, grid);
         assert_eq!(book.enter(2, &grid, entry), 101);
     }
     book.check();
@@ -157,7 +157,7 @@ fn check_whole_input(random: &mut Random, grids: &[Vec<u8>], entries: &[Vec<u8>]
     let mut book = book(15, CAPACITY);
     for k in 0..ENTERS {
         let k = k % grids.len();
-        book.enter(1, &shuffled(random, M, N, &grids[k]), &entries[k]);
+        book.enter(1, &random.shuffled(M, N, &grids[k]), &entries[k]);
     }
     assert_eq!(book.contents.entries.len(), grids.len());
     book.malformed(&ended(vec![b'x'; LIMIT - 1 - book.input.len()]));

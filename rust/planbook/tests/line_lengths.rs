@@ -4,10 +4,10 @@ use planbook::lines::{count, count_all, enter, line_1, strike};
 use planbook::outputs::{refusal, Output};
 use planbook::{check, check_each};
 
-/// Document 01's input.
+/// The input of the printed run, as request 4 makes it.
 const INPUT: &[u8] = include_bytes!("../../../crates/planbook/stdin");
 
-/// The lines of document 01's input.
+/// The lines of the printed input.
 fn lines() -> Vec<Vec<u8>> {
     let lines = INPUT.split_inclusive(|&byte| byte == b'\n');
     lines.map(<[u8]>::to_vec).collect()

@@ -1,7 +1,6 @@
 //! Long lists of commands that are laid as they should be.
 
 use planbook::check_each;
-use planbook::classes::shuffled;
 use planbook::inputs::drawn;
 use planbook::lines::{count, count_all, enter, line_1, strike};
 use planbook::outputs::{check_met, Met, Output, ANSWERS};
@@ -101,7 +100,7 @@ fn registers_of_every_capacity_are_filled() {
         let mut input = line_1([2, 3, 15, capacity]);
         for grid in &pool.grids {
             let client = random.between(1, 2);
-            input.extend(enter(client, &shuffled(&mut random, 2, 3, grid)));
+            input.extend(enter(client, &random.shuffled(2, 3, grid)));
         }
         input.extend(count_all(6, 15));
         for _ in 0..20 {
@@ -119,7 +118,7 @@ fn registers_of_every_capacity_are_filled() {
 /// Commands on a design, shuffled anew in each: it is held by one line until nobody holds any.
 fn on_design(random: &mut Random, design: &Design) -> Vec<u8> {
     let (m, n) = (design.m, design.n);
-    let mut copy = || shuffled(random, m, n, &design.cells);
+    let mut copy = || random.shuffled(m, n, &design.cells);
     [
         line_1([m as u64, n as u64, design.top.into(), 2]),
         strike(1, &copy()),
@@ -162,7 +161,7 @@ fn the_order_of_enters_leaves_no_trace() {
         for k in random.permutation(12) {
             let grid = &pool.grids[usize::from(k)];
             let client = u64::from(k % 8) + 1;
-            input.extend(enter(client, &shuffled(&mut random, 3, 4, grid)));
+            input.extend(enter(client, &random.shuffled(3, 4, grid)));
         }
         input
     };

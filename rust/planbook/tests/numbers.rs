@@ -19,6 +19,12 @@ fn every_field(bytes: &[u8], width: usize) -> Vec<Vec<u8>> {
     fields
 }
 
+/// Every list of three likely bytes, none of them a line feed.
+fn every_likely_field() -> Vec<Vec<u8>> {
+    let bytes = LIKELY.iter().copied().filter(|&byte| byte != b'\n');
+    every_field(&bytes.collect::<Vec<u8>>(), 3)
+}
+
 /// Checks the command lines behind line 1 of a register of one cell, top 15, in as many runs as
 /// they need. Returns what is printed for each.
 fn check_lines(lines: &[Vec<u8>]) -> Vec<[u64; 3]> {
@@ -38,12 +44,7 @@ fn times(printed: &[[u64; 3]], command: u64) -> usize {
 
 #[test]
 fn every_cell_of_likely_bytes() {
-    let bytes: Vec<u8> = LIKELY
-        .iter()
-        .copied()
-        .filter(|&byte| byte != b'\n')
-        .collect();
-    let fields = every_field(&bytes, 3);
+    let fields = every_likely_field();
     for head in [b"     1     1", b"     2     8"] {
         let line = |field: &Vec<u8>| ended([&head[..], field].concat());
         let printed = check_lines(&fields.iter().map(line).collect::<Vec<_>>());
@@ -54,12 +55,7 @@ fn every_cell_of_likely_bytes() {
 
 #[test]
 fn every_client_that_ends_in_likely_bytes() {
-    let bytes: Vec<u8> = LIKELY
-        .iter()
-        .copied()
-        .filter(|&byte| byte != b'\n')
-        .collect();
-    let fields = every_field(&bytes, 3);
+    let fields = every_likely_field();
     for head in [b"     1   ", b"     2   ", b"     1  7", b"     2407"] {
         let line = |field: &Vec<u8>| ended([&head[..], field, b"  0"].concat());
         let printed = check_lines(&fields.iter().map(line).collect::<Vec<_>>());

@@ -73,14 +73,6 @@ fn the_first_fault_of_every_set_decides() {
 }
 
 #[test]
-fn one_fault_fewer_at_a_time() {
-    for k in 0..ORDER.len() {
-        let input = with_faults(&ORDER[k..], 1, 0);
-        check_both(&input, &refusal(ORDER[k]));
-    }
-}
-
-#[test]
 fn numbers_of_zero() {
     // 0 passes for top, and fails for the others, in their order.
     for (numbers, number) in [

@@ -1,11 +1,11 @@
-//! Runs whose output is written out: document 01's, the examples, marked plans.
+//! Runs whose output is written out: the printed run, the examples, the README's, marked plans.
 
 use planbook::check;
 use planbook::lines::{count, enter, line_1, strike};
 use reference::examples::{held_register, plan};
 use reference::forms::written;
 
-/// Document 01's input, as it is stored beside the program.
+/// The input of the printed run, as request 4 makes it.
 const INPUT: &str = include_str!("../../../crates/planbook/stdin");
 
 /// And its output.
@@ -27,7 +27,7 @@ fn entered(top: u64, capacity: u64, enters: &[(u64, &str)]) -> String {
 }
 
 /// The register with this one entry, of which client 1 holds so many, as text.
-fn holding(top: u64, capacity: u64, entry: &str, held: u64) -> String {
+fn register_with(top: u64, capacity: u64, entry: &str, held: u64) -> String {
     let (m, n, _) = plan(entry);
     let bytes = held_register(m as u64, n as u64, top, capacity, &[(entry, [held])]);
     String::from_utf8(bytes).expect("a register is text")
@@ -36,7 +36,7 @@ fn holding(top: u64, capacity: u64, entry: &str, held: u64) -> String {
 /// Checks that all of these grids, entered in turn, leave this one entry, at place 1.
 fn check_one_class(top: u64, entry: &str, grids: &[&str]) {
     let again = "     1   101     1\n".repeat(grids.len() - 1);
-    let register = holding(top, 3, entry, grids.len() as u64);
+    let register = register_with(top, 3, entry, grids.len() as u64);
     let expected = "     1     0     1\n".to_string() + &again + &register;
     let enters: Vec<(u64, &str)> = grids.iter().map(|&grid| (1, grid)).collect();
     assert_eq!(entered(top, 3, &enters), expected);
@@ -52,7 +52,7 @@ fn counted(grid: &str, bounds: &str) -> String {
 }
 
 #[test]
-fn the_run_that_document_01_prints() {
+fn the_printed_run() {
     assert_eq!(printed(INPUT.as_bytes()), OUTPUT);
 }
 
@@ -65,9 +65,18 @@ fn two_arrangements_of_marked_plan_1_are_held_on_one_line() {
                                           \n";
     let example = include_bytes!("../../../examples/two_by_three.txt");
     assert_eq!(printed(example), expected);
-    let (one, other) = ("223/231", "123/322");
-    assert_eq!(entered(3, 2, &[(1, one), (2, other)]), expected);
-    assert_eq!(entered(3, 2, &[(2, other), (1, one)]), expected);
+    let other_way_round = [(2, "123/322"), (1, "223/231")];
+    assert_eq!(entered(3, 2, &other_way_round), expected);
+}
+
+#[test]
+fn the_readme_shows_the_first_example() {
+    let example = include_str!("../../../examples/two_by_three.txt");
+    let shown = format!("{example}prints:\n{}", printed(example.as_bytes()));
+    let lines: Vec<&str> = shown.lines().map(str::trim_end).collect();
+    let lines = lines.join("\n");
+    let block = format!("```text\nexamples/two_by_three.txt:\n{lines}\n```\n");
+    assert!(include_str!("../../../README.md").contains(&block));
 }
 
 #[test]
@@ -79,7 +88,6 @@ fn two_arrangements_of_marked_plan_2_are_held_on_one_line() {
                                     \n";
     let example = include_bytes!("../../../examples/two_by_two.txt");
     assert_eq!(printed(example), expected);
-    assert_eq!(entered(1, 2, &[(1, "10/01"), (1, "01/10")]), expected);
     assert_eq!(entered(1, 2, &[(1, "01/10"), (1, "10/01")]), expected);
 }
 

@@ -46,20 +46,51 @@ fn lines_1_of_spaces_and_digits() {
     assert!(outputs.iter().any(|output| output.len() > 19));
 }
 
+/// Pieces of command lines: the line feed before a line and its head, or a cell.
+const PIECES: [&[u8]; 7] = [
+    b"\n     1     1",
+    b"\n     2     1",
+    b"\n     3",
+    b"  0",
+    b"  0",
+    b"  1",
+    b"  1",
+];
+
+/// So many pieces of command lines, and now and then up to 12 of these bytes.
+fn pieces(random: &mut Random, bytes: &[u8], count: usize) -> Vec<u8> {
+    let mut pieces = Vec::new();
+    for _ in 0..count {
+        pieces.extend(PIECES[random.below(PIECES.len() as u64) as usize]);
+        if random.once_in(16) {
+            let count = random.between(1, 12) as usize;
+            pieces.extend(out_of(random, bytes, count));
+        }
+    }
+    pieces
+}
+
 #[test]
-fn likely_bytes_behind_line_1() {
+fn likely_pieces_behind_line_1() {
     let mut random = Random::new(233);
     let mut inputs = Vec::new();
     for bytes in [LIKELY, b"  1\n", b"     0123\n", b" \n"] {
         for _ in 0..60 {
             let (m, n) = (random.between(1, 2), random.between(1, 2));
-            let length = random.below(4000) as usize;
             let head = line_1([m, n, 1, 2]);
-            inputs.push([head, out_of(&mut random, bytes, length)].concat());
+            let count = random.below(800) as usize;
+            inputs.push([head, pieces(&mut random, bytes, count)].concat());
         }
     }
+    let mut met = Met::new();
     for (input, output) in inputs.iter().zip(check_each(&inputs)) {
-        assert!(!Output::read(input, &output).register.is_empty());
+        let output = Output::read(input, &output);
+        assert!(!output.register.is_empty());
+        output.count(&mut met);
+    }
+    assert!(met[&(0, 12)] > 4000, "{met:?}");
+    for answer in [(1, 0), (1, 9), (1, 101), (2, 0), (2, 10), (3, 0), (3, 8)] {
+        assert!(met[&answer] > 50, "{met:?}");
     }
 }
 

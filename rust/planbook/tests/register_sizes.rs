@@ -1,7 +1,6 @@
 //! Registers just within 65,536 bytes, and one line longer.
 
 use planbook::book::Book;
-use planbook::classes::shuffled;
 use planbook::lines::{enter, line_1, strike, LIMIT};
 use planbook::outputs::{refusal, Output};
 use planbook::{check, check_both};
@@ -107,7 +106,7 @@ fn a_register_of_500_entries_of_35_cells() {
         assert_eq!(book.strike(1, grid, least), 10);
     }
     let (grid, least) = &grids[250];
-    let arranged = shuffled(&mut random, 5, 7, grid);
+    let arranged = random.shuffled(5, 7, grid);
     assert_eq!(book.enter(2, &arranged, least), 101);
     assert_eq!(book.strike(1, grid, least), 0);
     assert_eq!(book.enter(1, &grids[500].0, &grids[500].1), 9);

@@ -24,10 +24,10 @@ pub struct Bounds {
 pub const LISTED_GRIDS: u64 = 1024;
 
 /// Up to this many columns allperm lists the permutations of a row; above, it sorts the row.
-pub const LISTED_COLUMNS: usize = 4;
+const LISTED_COLUMNS: usize = 4;
 
 /// Is the value within low to high, both included?
-pub fn within(low: u8, high: u8, value: u8) -> bool {
+fn within(low: u8, high: u8, value: u8) -> bool {
     rank(low) <= rank(value) && rank(value) <= rank(high)
 }
 
@@ -142,12 +142,12 @@ pub fn kept_by_extremal(m: usize, n: usize, top: u8, low: &[u8], high: &[u8]) ->
 }
 
 /// The extremal grid: row 0 at its lows, the other rows at their highs.
-pub fn extremal(n: usize, low: &[u8], high: &[u8]) -> Vec<u8> {
+fn extremal(n: usize, low: &[u8], high: &[u8]) -> Vec<u8> {
     [&low[..n], &high[n..]].concat()
 }
 
 /// The extremal grid with the value `v` in cell `k`.
-pub fn extremal_with(n: usize, low: &[u8], high: &[u8], k: usize, v: u8) -> Vec<u8> {
+fn extremal_with(n: usize, low: &[u8], high: &[u8], k: usize, v: u8) -> Vec<u8> {
     let mut grid = extremal(n, low, high);
     grid[k] = v;
     grid
@@ -178,7 +178,7 @@ pub fn prune_by_extremal(m: usize, n: usize, top: u8, low: &[u8], high: &[u8]) -
 }
 
 /// The pruned form: by listing where the form has few grids, else by the extremal grids.
-pub fn pruned_form(m: usize, n: usize, top: u8, low: &[u8], high: &[u8]) -> Option<Bounds> {
+fn pruned_form(m: usize, n: usize, top: u8, low: &[u8], high: &[u8]) -> Option<Bounds> {
     if number_of_grids(top, low, high) <= LISTED_GRIDS {
         prune_by_listing(m, n, top, low, high)
     } else {

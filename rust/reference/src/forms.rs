@@ -2,7 +2,7 @@
 
 use crate::bounds::sorted;
 use crate::examples::every_grid;
-use crate::grid::{arrangement, compare, rank};
+use crate::grid::{compare, rank};
 use crate::random::Random;
 
 /// A low and a high for each cell.
@@ -83,7 +83,7 @@ pub fn without_allperm(random: &mut Random, m: usize, n: usize, top: u8) -> Form
         *h = between(random, *l, top);
     }
     let other = random.between(1, m as u64 - 1) as usize * n;
-    for (k, h) in shuffled(random, &row).into_iter().enumerate() {
+    for (k, h) in random.shuffled(1, n, &row).into_iter().enumerate() {
         low[other + k] = between(random, 0, h);
         high[other + k] = h;
     }
@@ -97,7 +97,7 @@ pub fn close(random: &mut Random, m: usize, n: usize, top: u8) -> Form {
     let mut low = near(random, top, &row);
     let mut high: Vec<u8> = low.iter().map(|&l| between(random, l, top)).collect();
     for _ in 1..m {
-        for value in shuffled(random, &row) {
+        for value in random.shuffled(1, n, &row) {
             let raised = (value + u8::from(random.once_in(16))).min(top);
             low.push(between(random, 0, raised));
             high.push(raised);
@@ -126,10 +126,6 @@ fn near(random: &mut Random, top: u8, row: &[u8]) -> Vec<u8> {
         }
     }
     near
-}
-
-fn shuffled(random: &mut Random, row: &[u8]) -> Vec<u8> {
-    arrangement(1, row.len(), &[0], &random.permutation(row.len()), row)
 }
 
 fn between(random: &mut Random, low: u8, high: u8) -> u8 {

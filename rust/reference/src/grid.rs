@@ -4,7 +4,7 @@
 
 use std::cmp::Ordering;
 
-pub use crate::permutation::{identity, is_permutation, permutations, Permutation};
+pub use crate::permutation::{identity, is_permutation, permutations};
 
 /// The rank by which every two cell values are compared: values go by their number, 0 the lowest.
 pub fn rank(value: u8) -> u8 {
@@ -12,7 +12,7 @@ pub fn rank(value: u8) -> u8 {
 }
 
 /// The comparison of two cell values.
-pub fn compare_cells(a: u8, b: u8) -> Ordering {
+fn compare_cells(a: u8, b: u8) -> Ordering {
     rank(a).cmp(&rank(b))
 }
 

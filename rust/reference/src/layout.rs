@@ -5,7 +5,7 @@ use crate::holdings::{Holdings, CLIENTS};
 use crate::questions;
 
 /// The length of line 1: five numbers, each 6 wide, and a line feed.
-pub const FIRST_LINE: usize = 31;
+const FIRST_LINE: usize = 31;
 
 /// The number in decimal, right-justified, padded by spaces to the width.
 pub fn number(value: u64, width: usize) -> Vec<u8> {
@@ -35,7 +35,7 @@ pub fn read_numbers(bytes: &[u8], width: usize) -> Option<Vec<u64>> {
 
 /// The length of each line after line 1: the cells and the eight holdings, each 3 wide, and a line
 /// feed.
-pub fn line_length(m: u64, n: u64) -> u64 {
+fn line_length(m: u64, n: u64) -> u64 {
     3 * (m * n + CLIENTS) + 1
 }
 

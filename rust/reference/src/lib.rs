@@ -19,7 +19,7 @@
 //! | `register`     | open, enter, strike, count, a terminal's enter       |
 //! | `machine`      | the plain machine of demand 3                        |
 //! | `planbook`     | the program, input bytes to output bytes             |
-//! | `random`       | a small generator for tests                          |
+//! | `random`       | a small generator for tests and benchmarks           |
 //! | `examples`     | grids and registers for tests                        |
 //! | `designs`      | grids with much symmetry, for tests and benchmarks   |
 //! | `forms`        | bounds, for tests and benchmarks                     |

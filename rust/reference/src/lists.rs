@@ -5,7 +5,6 @@ use crate::bounds::prune;
 use crate::calls::Call;
 use crate::designs::{equal_columns, equal_rows, two_rows, zero};
 use crate::forms::{around, close, drawn, ordered, Form};
-use crate::grid::arrangement;
 use crate::holdings::{Holdings, CLIENTS, MOST};
 use crate::random::Random;
 
@@ -55,8 +54,7 @@ impl Pool {
     /// A grid of the pool, its rows and columns shuffled.
     pub fn grid(&self, random: &mut Random) -> Vec<u8> {
         let grid = &self.grids[random.below(self.grids.len() as u64) as usize];
-        let (rows, columns) = (random.permutation(self.m), random.permutation(self.n));
-        arrangement(self.m, self.n, &rows, &columns, grid)
+        random.shuffled(self.m, self.n, grid)
     }
 
     /// Bounds of one kind or another, each low at most its high.

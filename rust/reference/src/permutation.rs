@@ -7,7 +7,7 @@ pub const ROW_LIMIT: usize = 8;
 pub const TERMINAL_ROW_LIMIT: usize = 5;
 
 /// The most columns of a grid: the positions of a column permutation.
-pub const COLUMN_LIMIT: usize = 16;
+const COLUMN_LIMIT: usize = 16;
 
 /// Document 01's order: the first `size` positions of `at` list each number below `size` once.
 #[derive(Clone, Copy, Debug, PartialEq, Eq)]

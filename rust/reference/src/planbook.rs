@@ -6,7 +6,7 @@ use crate::questions;
 use crate::register::{count, enter, open, strike, Answer};
 
 /// The most bytes of the input, and the most bytes of a register.
-pub const LIMIT: u64 = 65_536;
+const LIMIT: u64 = 65_536;
 
 /// A command line: 1 enter, 2 strike, 3 prune and then count.
 enum Command {

@@ -1,4 +1,6 @@
-//! A small deterministic generator for tests.
+//! A small deterministic generator for tests and benchmarks.
+
+use crate::grid::arrangement;
 
 /// Xorshift with 64 bits of state.
 #[derive(Clone, Debug)]
@@ -15,7 +17,7 @@ impl Random {
     }
 
     /// The next 64 bits.
-    pub fn bits(&mut self) -> u64 {
+    fn bits(&mut self) -> u64 {
         self.state ^= self.state << 13;
         self.state ^= self.state >> 7;
         self.state ^= self.state << 17;
@@ -51,5 +53,11 @@ impl Random {
             result.swap(i, self.below(i as u64 + 1) as usize);
         }
         result
+    }
+
+    /// The grid with its rows and its columns shuffled.
+    pub fn shuffled(&mut self, m: usize, n: usize, grid: &[u8]) -> Vec<u8> {
+        let (rows, columns) = (self.permutation(m), self.permutation(n));
+        arrangement(m, n, &rows, &columns, grid)
     }
 }

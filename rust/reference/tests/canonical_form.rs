@@ -1,9 +1,7 @@
 //! Least arrangements, represent and same.
 
-mod common;
-
-use common::{cells, every_grid, plan, shapes_up_to};
 use reference::bounds::allperm;
+use reference::examples::{cells, every_grid, plan, shapes_up_to};
 use reference::grid::{
     arrangement, arrangements, canonical, compare, compare_columns, identity, is_permutation,
     least, least_brute,
@@ -35,11 +33,6 @@ fn check_same(m: usize, n: usize, top: u8, a: &[u8], b: &[u8]) {
     assert_eq!((orders.number, orders.agreed as usize), (0, m * n));
     check_orders(m, n, orders.rows, orders.columns);
     assert_eq!(arrangement(m, n, &orders.rows, &orders.columns, a), b);
-}
-
-fn random_arrangement(random: &mut Random, m: usize, n: usize, grid: &[u8]) -> Vec<u8> {
-    let (rows, columns) = (random.permutation(m), random.permutation(n));
-    arrangement(m, n, &rows, &columns, grid)
 }
 
 #[test]
@@ -89,7 +82,7 @@ fn all_arrangements_of_a_grid_have_its_representative() {
         );
         let top = random.between(0, 3) as u8;
         let grid = random.cells(m * n, top);
-        let other = random_arrangement(&mut random, m, n, &grid);
+        let other = random.shuffled(m, n, &grid);
         let least = represented(m, n, top, &grid);
         assert_eq!(represented(m, n, top, &other), least);
         assert_eq!(represented(m, n, top, &least), least);
@@ -104,7 +97,7 @@ fn the_largest_shape() {
     let mut random = Random::new(5);
     for top in [1, 15] {
         let grid = random.cells(128, top);
-        let other = random_arrangement(&mut random, 8, 16, &grid);
+        let other = random.shuffled(8, 16, &grid);
         assert_eq!(
             represented(8, 16, top, &grid),
             represented(8, 16, top, &other)

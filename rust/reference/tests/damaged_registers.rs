@@ -1,8 +1,6 @@
 //! Question 5 on bytes that are nearly a register.
 
-mod common;
-
-use common::{held_register, register};
+use reference::examples::{held_register, register};
 use reference::grid::compare;
 use reference::layout::{number, read_number, Contents};
 use reference::random::Random;
@@ -62,7 +60,7 @@ fn laid_out_again(text: &str) -> Option<()> {
     (again == text).then_some(())
 }
 
-/// The registers that are damaged here: (rows, columns, top, capacity, entries).
+/// The registers that are damaged here.
 fn registers() -> Vec<Vec<u8>> {
     vec![
         held_register(

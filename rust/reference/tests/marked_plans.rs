@@ -2,8 +2,9 @@
 
 mod common;
 
-use common::{cells, form, plan};
+use common::form;
 use reference::bounds::{allperm, allperm_by_listing, allperm_by_sorting, prune, Counted};
+use reference::examples::{cells, plan};
 use reference::grid::arrangement;
 use reference::grid_calls::{represent, same, Arranged, Matched};
 

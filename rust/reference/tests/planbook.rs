@@ -1,7 +1,5 @@
 //! The program `planbook`.
 
-mod common;
-
 use reference::bounds::some_grid;
 use reference::forms::drawn;
 use reference::machine::Machine;
@@ -11,7 +9,7 @@ use reference::register::Answer;
 use std::io::Write;
 use std::process::{Command, Stdio};
 
-/// Document 01's input, as it is stored beside the program.
+/// The input of the printed run, as request 4 makes it.
 const INPUT: &str = include_str!("../../../crates/planbook/stdin");
 
 /// And its output.
@@ -161,7 +159,7 @@ fn any_well_laid_numbers_go_on_to_questions_1_to_4_and_13() {
     for (m, n, top, capacity, number) in cases {
         let line = line_1(m, n, top, capacity);
         assert_eq!(run(&line), ended(number), "{line:?}");
-        assert_eq!(run(line + "     1  0\n\n"), ended(number));
+        assert_eq!(run(line + "     1     1  0\n\n"), ended(number));
     }
 }
 

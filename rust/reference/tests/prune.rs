@@ -2,12 +2,13 @@
 
 mod common;
 
-use common::{every_grid, form, shapes_up_to};
+use common::form;
 use reference::bounds::{
     allperm, allperm_by_listing, allperm_by_sorting, grids, kept_by_extremal, kept_by_listing,
     lies_in, number_of_grids, number_of_values, prune, prune_by_extremal, prune_by_listing,
     some_grid, values, Bounds, Counted, LISTED_GRIDS,
 };
+use reference::examples::{every_grid, shapes_up_to};
 use reference::forms::{close, drawn, every_form, Form};
 use reference::grid::rank;
 use reference::random::Random;

@@ -3,8 +3,9 @@
 mod common;
 
 use common::faults::{client, holding, numbers, possible, refusal, sets_of, slice};
-use common::{cells, held_register, register, unopened};
+use common::unopened;
 use reference::bounds::{prune, Counted};
+use reference::examples::{cells, held_register, register};
 use reference::grid_calls::{represent, same, Arranged, Matched};
 use reference::layout::{register_length, Contents};
 use reference::machine::Machine;

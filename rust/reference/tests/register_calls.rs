@@ -2,10 +2,11 @@
 
 mod common;
 
-use common::{cells, held_register, register, unopened};
+use common::unopened;
 use reference::bounds::prune;
+use reference::examples::{cells, every_grid, held_register, register};
 use reference::forms::drawn;
-use reference::grid::{arrangement, least};
+use reference::grid::least;
 use reference::layout::Contents;
 use reference::lists::client;
 use reference::machine::Machine;
@@ -143,7 +144,7 @@ fn equal_bytes_mean_equal_holdings() {
     // Every list of three enters by two clients of two classes.
     let enters: Vec<(u64, [u8; 1])> = vec![(1, [0]), (1, [1]), (2, [0]), (2, [1])];
     let mut met: Vec<(Vec<u8>, [[u64; 2]; 2])> = Vec::new();
-    for list in common::every_grid(3, 3) {
+    for list in every_grid(3, 3) {
         let mut bytes = opened(1, 1, 1, 2);
         let mut held = [[0; 2]; 2];
         for k in list {
@@ -343,15 +344,15 @@ fn random_form(random: &mut Random, cells: usize, top: u8) -> (Vec<u8>, Vec<u8>)
 /// A list of random calls. Adds to `met` how often each number was answered.
 fn random_list(random: &mut Random, shape: [u64; 4], calls: usize, met: &mut [u64; 104]) {
     let [m, n, top, capacity] = shape;
-    let (cells, least_top) = ((m * n) as usize, top as u8);
     let mut pair = Pair::opened(m, n, top, capacity);
+    let (cells, top) = ((m * n) as usize, top as u8);
     for _ in 0..calls {
         let number = match random.below(7) {
-            0..=2 => pair.enter(client(random), &random_grid(random, cells, least_top)),
-            3 => pair.strike(client(random), &random_grid(random, cells, least_top)),
+            0..=2 => pair.enter(client(random), &random_grid(random, cells, top)),
+            3 => pair.strike(client(random), &random_grid(random, cells, top)),
             4 => pair.strike(client(random), &held_grid(random, &pair, cells)),
             _ => {
-                let (low, high) = random_form(random, cells, least_top);
+                let (low, high) = random_form(random, cells, top);
                 pair.count(&low, &high)
             }
         };
@@ -367,8 +368,7 @@ fn held_grid(random: &mut Random, pair: &Pair, cells: usize) -> Vec<u8> {
     }
     let class = held.keys().nth(random.below(held.len() as u64) as usize);
     let (m, n) = (pair.machine.rows as usize, pair.machine.columns as usize);
-    let (rows, columns) = (random.permutation(m), random.permutation(n));
-    let grid = arrangement(m, n, &rows, &columns, class.unwrap());
+    let grid = random.shuffled(m, n, class.unwrap());
     assert_eq!(&least(m, n, &grid), class.unwrap());
     grid
 }
@@ -417,7 +417,7 @@ fn a_list_on_the_largest_shape_answers_as_the_machine() {
     assert_eq!(pair.enter(1, &one), 0);
     assert_eq!(pair.enter(1, &two), 0);
     assert_eq!(pair.count(&[0; 128], &[15; 128]), 0);
-    let turned = arrangement(8, 16, &random.permutation(8), &random.permutation(16), &one);
+    let turned = random.shuffled(8, 16, &one);
     assert_eq!(pair.enter(2, &turned), 101);
     assert_eq!(pair.strike(2, &turned), 0);
     assert_eq!(pair.strike(2, &one), 10);
@@ -428,7 +428,7 @@ fn a_list_on_the_largest_shape_answers_as_the_machine() {
 #[test]
 fn all_500_lines_are_used() {
     let mut pair = Pair::opened(1, 3, 15, 500);
-    let mut grids = common::every_grid(3, 15);
+    let mut grids = every_grid(3, 15);
     grids.retain(|g| &least(1, 3, g) == g);
     assert!(grids.len() > 500);
     for k in Random::new(16).permutation(250) {

@@ -2,8 +2,9 @@
 
 mod common;
 
-use common::{cells, form, plan};
+use common::form;
 use reference::bounds::{allperm, kept_by_extremal, kept_by_listing, prune};
+use reference::examples::{cells, plan};
 use reference::grid::{arrangement, arrangements, compare, least, least_brute};
 use reference::grid_calls::same;
 use std::collections::BTreeSet;

@@ -4,8 +4,8 @@
 mod common;
 
 use common::faults::{client, holding, numbers, possible, refusal, sets_of, slice};
-use common::{cells, held_register, register};
 use reference::calls::Call;
+use reference::examples::{cells, held_register, register};
 use reference::examples::{every_grid, shapes_up_to};
 use reference::grid::identity;
 use reference::grid_calls::{

@@ -18,7 +18,7 @@ pub fn opened(m: usize, n: usize, top: u8, capacity: usize) -> Vec<u8> {
     let answer = placed(open(m, n, top.into(), capacity, lent.slice_mut()));
     assert_eq!(answer, self::answer(0, 0));
     let register = lent.slice().to_vec();
-    lent.check(&holding(m, n, top, capacity, &[]).bytes());
+    lent.check(&contents_of(m, n, top, capacity, &[]).bytes());
     register
 }
 
@@ -105,7 +105,7 @@ fn beginning(register: &[u8]) -> String {
 
 /// What a register holds with these grids, which are sorted, and each kept once. Client 1 holds one
 /// of each.
-pub fn holding(m: usize, n: usize, top: u8, capacity: usize, grids: &[Vec<u8>]) -> Contents {
+pub fn contents_of(m: usize, n: usize, top: u8, capacity: usize, grids: &[Vec<u8>]) -> Contents {
     let mut grids: Vec<Vec<u8>> = grids.to_vec();
     grids.sort_by(|a, b| compare(a, b));
     grids.dedup();

@@ -59,8 +59,8 @@ pub fn registers(failed: &[u32], contents: &Contents) -> Vec<Vec<u8>> {
     let mut held_by_nobody = contents.clone();
     held_by_nobody.entries[1].holdings = Holdings::default();
     let mut without_holdings = bytes.clone();
-    let first_line = 31 + 3 * (contents.rows * contents.columns) as usize;
-    without_holdings[first_line..first_line + 24].fill(b' ');
+    let start = 31 + 3 * (contents.rows * contents.columns) as usize;
+    without_holdings[start..start + 24].fill(b' ');
     let with = |place: usize, digit: u8| {
         let mut bytes = bytes.clone();
         bytes[place] = digit;

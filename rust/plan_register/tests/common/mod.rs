@@ -9,7 +9,8 @@
 //! | `calls`      | calls on a register, each compared with the reference          |
 //! | `forms`      | bounds to count the entries of a register in                   |
 //! | `pruned`     | bounds that are pruned once, and registers to count them in    |
-//! | `met`        | which numbers the calls of lists answered                      |
+//! | `met`        | what came up, and how often                                    |
+//! | `lists`      | lists of calls on a register, against reference and machine    |
 //! | `faults`     | registers and slices that fail questions                       |
 //! | `question_5` | question 5 on bytes that may be no register                    |
 //! | `book`       | a register beside what it is to hold, for shapes of many rows  |
@@ -21,6 +22,7 @@ pub mod faults;
 pub mod forms;
 mod lent;
 pub mod limits;
+pub mod lists;
 pub mod met;
 pub mod numbers;
 pub mod pruned;
@@ -30,7 +32,7 @@ pub mod sets;
 pub use lent::Lent;
 use plan_register::{prune, Counted};
 use reference::examples::shapes_up_to;
-use reference::grid::{agreed, arrangement};
+use reference::grid::agreed;
 use reference::random::Random;
 use sets::ORDER_SYSTEM;
 
@@ -95,10 +97,9 @@ pub fn check_pruned(
     lent_high.check(new_high);
 }
 
-/// The grid with its rows and its columns shuffled.
-pub fn shuffled(random: &mut Random, m: usize, n: usize, grid: &[u8]) -> Vec<u8> {
-    let (rows, columns) = (random.permutation(m), random.permutation(n));
-    arrangement(m, n, &rows, &columns, grid)
+/// A representative: so many cells are 0, and the others, which follow, are 1.
+pub fn zeros_then_ones(cells: usize, zeros: usize) -> Vec<u8> {
+    (0..cells).map(|k| u8::from(k >= zeros)).collect()
 }
 
 /// A number of rows and one of columns within the limits, the rows at most `rows`.

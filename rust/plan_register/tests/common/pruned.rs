@@ -1,13 +1,13 @@
 //! Bounds that are pruned once, and registers to count them in that only calls wrote.
 
 use super::calls::{check_count, made, opened};
+use super::met::{found, Met};
 use plan_register::prune;
 use reference::calls::Call;
 use reference::forms::Form;
 use reference::layout::Contents;
 use reference::lists::Pool;
 use reference::random::Random;
-use std::collections::BTreeMap;
 
 /// Bounds as they are sent, and what the library's prune makes of them: `None` where it says 102.
 pub struct Pruned {
@@ -40,15 +40,10 @@ impl Pruned {
 
     /// Checks both counts on a register that only calls wrote: they are one number, and 0 where
     /// prune says 102. Notes what was found, and returns the number.
-    pub fn check_reached(&self, register: &[u8], met: &mut Met) -> u64 {
+    pub fn check_reached(&self, register: &[u8], met: &mut Met<Outcome>) -> u64 {
         let (sent, pruned) = self.counts(register);
         assert_eq!(pruned.unwrap_or(0), sent, "{:?}", self.sent);
-        let found = match sent as usize {
-            0 => "no entry",
-            count if count < entries(register).len() => "some entries",
-            _ => "all entries",
-        };
-        met.note(self.removed(), found);
+        met.note((self.removed(), found(sent, entries(register).len())));
         sent
     }
 
@@ -62,8 +57,11 @@ impl Pruned {
     }
 }
 
-/// What may be found on registers that only calls wrote: what prune removed, and what was counted.
-pub const REACHED: [(&str, &str); 7] = [
+/// What prune removed, and what was then counted.
+pub type Outcome = (&'static str, &'static str);
+
+/// What may come up on registers that only calls wrote.
+pub const REACHED: [Outcome; 7] = [
     ("no grid", "no entry"),
     ("nothing", "all entries"),
     ("nothing", "no entry"),
@@ -72,26 +70,6 @@ pub const REACHED: [(&str, &str); 7] = [
     ("values", "no entry"),
     ("values", "some entries"),
 ];
-
-/// How often each was found, two things together.
-#[derive(Debug, Default)]
-pub struct Met {
-    times: BTreeMap<(&'static str, &'static str), usize>,
-}
-
-impl Met {
-    /// Notes that these two were found together.
-    pub fn note(&mut self, one: &'static str, other: &'static str) {
-        *self.times.entry((one, other)).or_default() += 1;
-    }
-
-    /// Checks that these, which are sorted, were each found so often at least, and no others were.
-    pub fn check(&self, kinds: &[(&str, &str)], times: usize) {
-        let found: Vec<(&str, &str)> = self.times.keys().copied().collect();
-        assert_eq!(found, kinds, "{self:?}");
-        assert!(self.times.values().all(|&met| met >= times), "{self:?}");
-    }
-}
 
 /// The register that an open with this capacity and then so many enters, enters at a terminal and
 /// strikes of two clients leave.

@@ -10,8 +10,8 @@ use reference::questions::{terminal_rows, Asked};
 
 /// One set of the calls. Its row orders have so many positions.
 pub struct Set<const LIMIT: usize> {
-    pub represent: fn(usize, usize, usize, &[u8], &mut [u8]) -> Arranged<LIMIT>,
-    pub same: fn(usize, usize, usize, &[u8], &[u8]) -> Matched<LIMIT>,
+    represent: fn(usize, usize, usize, &[u8], &mut [u8]) -> Arranged<LIMIT>,
+    same: fn(usize, usize, usize, &[u8], &[u8]) -> Matched<LIMIT>,
     /// What is asked of the rows directly after question 1.
     further_rows: fn(u64) -> Asked,
 }

@@ -1,9 +1,8 @@
 //! What several tests share.
-#![allow(dead_code, unused_imports)]
+#![allow(dead_code)]
 
 pub mod faults;
 
-pub use reference::examples::{cells, every_grid, held_register, plan, register, shapes_up_to};
 use reference::layout::register_length;
 
 /// The bounds of a form that is written as one (low, high) for each cell.

@@ -1,5 +1,5 @@
 -- `counts` meets its contract. The loop's invariant: `sum` is the number of the cells before column j, of which each weighs at most
--- 17 to the 14th. The measure is what is left of n.
+-- 16 to the 14th. The measure is what is left of n.
 use Prim.Native.Nat.{_-_, _≤_}
 use native.Mathlib.Omega.{arith}
 use Rattle.canonical.proofs.CountLaws.{weight-most, Counted, counted-none, counted-next, counted-all}

@@ -10,7 +10,7 @@ use Rattle.counting.proofs.within.count_within.Statement.{statement}
 use Rattle.counting.proofs.within.count_within.Tie as tie
 
 abbrev Inv-loop : tie.InvT-loop
-Inv-loop register count low high width length lows spans found₀ from₀ e₀ found from e = Counting register count low high found from e
+Inv-loop register count low high width length lows spans found₀ from₀ e₀ found from e = Counting register low high found from e
 
 abbrev μ-loop : tie.MeasureT-loop
 μ-loop register count low high width length lows spans found₀ from₀ e₀ found from e = count - e

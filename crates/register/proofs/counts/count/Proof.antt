@@ -7,7 +7,7 @@ use borrow.Author.Tests.{not-true}
 use Rattle.layout.specs.Layout.{laidOut}
 use Rattle.machine.proofs.CountSteps.{count-unlaid, count-no, count-made}
 use Rattle.register.proofs.AskSteps.{laid-yes, laid-head, head-size, head-valid}
-use Rattle.register.proofs.CountParts.{count-ready, count-small}
+use Rattle.register.proofs.CountSteps.{count-ready, count-small}
 use Rattle.register.proofs.counts.count.Statement.{statement}
 use Rattle.register.proofs.counts.count.Tie as tie
 

@@ -1,4 +1,4 @@
--- `compare_entry` meets its contract: what is read from the line is the entry.
+-- `compare_entry` meets its contract: what is read from the line is the entry's grid.
 use native.Mathlib.Omega.{arith}
 use lib.ListN.{length}
 use borrow.Author.Needs.{needs}

@@ -1,3 +1,4 @@
+-- `entries_laid` meets its contract.
 use borrow.Author.Needs.{needs}
 use mathlib.Core.Logic.{Iff·trans}
 use Rattle.scan.proofs.LineLaws.{start-fits, lines-entries}

@@ -1,4 +1,4 @@
--- The loop's invariant: line `e` begins at `at`, and the lines up to it are laid out and ascend.
+-- `lines_laid` meets its contract. The loop's invariant: line `e` begins at `at`, and the lines up to it are laid out and ascend.
 use mathlib.Core.Path.{_≡_, refl, sym}
 use Prim.Native.Nat.{_+_, _-_, _<_}
 use native.Mathlib.Omega.{arith}

@@ -1,4 +1,4 @@
--- The loop's invariant: `laid` and `none` are the answers for the first `k` fields.
+-- `holdings_laid` meets its contract. The loop's invariant: `laid` and `none` are the answers for the first `k` fields.
 use Prim.Native.Nat.{_≤_, _-_}
 use native.Mathlib.Omega.{arith}
 use borrow.Author.Needs.{needs}

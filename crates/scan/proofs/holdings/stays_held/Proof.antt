@@ -1,3 +1,4 @@
+-- `stays_held` meets its contract.
 use mathlib.Core.Path.{refl}
 use borrow.Author.Needs.{needs}
 use Rattle.scan.specs.Holdings.{isHolding}

@@ -1,3 +1,4 @@
+-- `stays_none` meets its contract.
 use mathlib.Core.Path.{refl}
 use Rattle.scan.specs.Holdings.{isNone}
 use Rattle.scan.proofs.holdings.stays_none.Statement.{statement}

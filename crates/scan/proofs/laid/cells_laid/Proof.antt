@@ -1,4 +1,4 @@
--- The loop's invariant: `laid` is the answer for the first `k` bytes.
+-- `cells_laid` meets its contract. The loop's invariant: `laid` is the answer for the first `k` bytes.
 use mathlib.Core.Path.{_≡_, sym, _∙_}
 use Prim.Native.Nat.{_≤_, _-_}
 use native.Mathlib.Omega.{arith}

@@ -1,3 +1,4 @@
+-- `rest` meets its contract.
 use native.Mathlib.Omega.{arith}
 use Rattle.scan.proofs.FitLaws.{rest-teen, rest-other}
 use Rattle.scan.proofs.laid.rest.Statement.{statement}

@@ -1,3 +1,4 @@
+-- `smaller` meets its contract.
 use native.Mathlib.Omega.{arith}
 use Rattle.scan.proofs.FitLaws.{smaller-first, smaller-second}
 use Rattle.scan.proofs.laid.smaller.Statement.{statement}

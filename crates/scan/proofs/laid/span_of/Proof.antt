@@ -1,3 +1,4 @@
+-- `span_of` meets its contract.
 use borrow.Author.Needs.{needs}
 use Rattle.scan.proofs.FitLaws.{span-is}
 use Rattle.scan.proofs.laid.span_of.Statement.{statement}

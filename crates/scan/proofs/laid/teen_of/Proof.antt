@@ -1,3 +1,4 @@
+-- `teen_of` meets its contract.
 use native.Mathlib.Omega.{arith}
 use Rattle.scan.proofs.FitLaws.{teen-low, teen-high}
 use Rattle.scan.proofs.laid.teen_of.Statement.{statement}

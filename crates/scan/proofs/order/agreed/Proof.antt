@@ -1,3 +1,4 @@
+-- `agreed` meets its contract. The loop's invariant: the first `i` bytes are the same. The measure is what is left of the width.
 use native.Mathlib.Omega.{arith}
 use borrow.Author.Tests.{not-false}
 use mathlib.Core.Path.{sym, _∙_}

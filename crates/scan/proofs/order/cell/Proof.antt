@@ -1,3 +1,4 @@
+-- `cell` meets its contract.
 use mathlib.Core.Path.{_∙_}
 use borrow.Author.Needs.{needs}
 use Rattle.lines.proofs.FieldLaws.{stated-at}

@@ -1,4 +1,4 @@
--- The loop's invariant: the cells before `k` agree.
+-- `comes_before` meets its contract. The loop's invariant: the cells before `k` agree.
 use mathlib.Core.Path.{sym, _∙_}
 use Prim.Native.Nat.{_-_, _≤_}
 use native.Mathlib.Omega.{arith}

@@ -1,3 +1,4 @@
+-- `same_from` meets its contract. The loop's invariant: `same` says whether the first `n` bytes are the same. The measure is what is left of 16.
 use native.Mathlib.Omega.{arith}
 use borrow.Author.Needs.{needs}
 use mathlib.Core.Path.{_≡_, sym, _∙_}

@@ -1,3 +1,4 @@
+-- `stays_same` meets its contract.
 use native.Mathlib.Omega.{arith}
 use Rattle.scan.proofs.order.stays_same.Statement.{statement}
 use Rattle.scan.proofs.order.stays_same.Tie as tie

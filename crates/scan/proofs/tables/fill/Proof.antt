@@ -1,3 +1,4 @@
+-- `fill` meets its contract. The loop's invariant: the entries of the first `k` cells are written. The measure is what is left of the cells.
 use mathlib.Core.Path.{_≡_, refl, ap, _∙_}
 use Prim.Native.Nat.{_-_, _≤_}
 use native.Mathlib.Omega.{arith}
