@@ -1,4 +1,4 @@
-//! A plain reference for the plan register: document 01 and requests 1 to 4 of document 02.
+//! A plain reference for the plan register: document 01 and requests 1 to 5 of document 02.
 //!
 //! It is written to be seen right: every row permutation is listed, the columns
 //! are sorted, the least arrangement is taken; bounds are pruned by listing every
