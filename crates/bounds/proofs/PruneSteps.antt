@@ -27,12 +27,12 @@ use native.Mathlib.Decide.{decLt}
 use native.Mathlib.Nat.{add-zero, zero-add}
 use native.Mathlib.Numerals.{add-one}
 use native.Mathlib.Omega.{arith}
-use lib.ListN.{length, getD, take, drop, length-take}
+use lib.ListN.{length, getD, take, drop}
 use lib.Dec.{leb}
 use borrow.Author.Tests.{leb-true, le-leb}
 use Rattle.permutations.specs.Lists.{tabulate, numbers, select, every}
 use Rattle.permutations.proofs.BoolLaws.{and-yes, refuted}
-use Rattle.permutations.proofs.ListLaws.{every-next, part-within, part-is, length-numbers}
+use Rattle.permutations.proofs.ListLaws.{every-next, part-within, part-is, part-length, length-numbers}
 use Rattle.permutations.proofs.SelectLaws.{select-yes, select-no, length-select}
 use Rattle.grids.specs.Order.{rank}
 use Rattle.grids.specs.Asked.{limitsNo}
@@ -227,9 +227,6 @@ module _ (m n top : ℕ) (low high : List ℕ) where
     pub prune-size : m * n ≤ 128
     prune-size = size-fits m n (limits .rows-limits .1) (limits .column-limits .1)
 
-    part-size : (x : List ℕ) → length x ≡ 128 → length (take (m * n - 0) x) ≡ m * n
-    part-size x h = simp length-take (omega (arith, prune-size))
-
     pub narrow-ready : (x y : List ℕ) → length x ≡ 128 → length y ≡ 128 →
         NarrowSizes m n low high (take (m * n - 0) x) (take (m * n - 0) y) × Values (m * n) 15 (cellAt high)
     narrow-ready x y hx hy = (
@@ -238,8 +235,8 @@ module _ (m n top : ℕ) (low high : List ℕ) where
         column-limits = limits .column-limits;
         low-size = bounds .low-size;
         high-size = bounds .high-size;
-        new-low-size = part-size x hx;
-        new-high-size = part-size y hy;
+        new-low-size = part-length x (m * n) (omega (arith, prune-size));
+        new-high-size = part-length y (m * n) (omega (arith, prune-size));
       },
       bounds-wider (limits .top-limit) bounds .high-cap,
     )

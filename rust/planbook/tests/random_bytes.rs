@@ -46,6 +46,31 @@ fn lines_1_of_spaces_and_digits() {
     assert!(outputs.iter().any(|output| output.len() > 19));
 }
 
+/// Inputs with a good line 1, and behind it what is drawn with some bytes or others.
+fn behind_line_1(seed: u64, draw: fn(&mut Random, &[u8]) -> Vec<u8>) -> Vec<Vec<u8>> {
+    let mut random = Random::new(seed);
+    let mut inputs = Vec::new();
+    for bytes in [LIKELY, b"  1\n", b"     0123\n", b" \n"] {
+        for _ in 0..60 {
+            let (m, n) = (random.between(1, 2), random.between(1, 2));
+            let head = line_1([m, n, 1, 2]);
+            inputs.push([head, draw(&mut random, bytes)].concat());
+        }
+    }
+    inputs
+}
+
+#[test]
+fn likely_bytes_behind_line_1() {
+    let inputs = behind_line_1(233, |random, bytes| {
+        let length = random.below(4000) as usize;
+        out_of(random, bytes, length)
+    });
+    for (input, output) in inputs.iter().zip(check_each(&inputs)) {
+        assert!(!Output::read(input, &output).register.is_empty());
+    }
+}
+
 /// Pieces of command lines: the line feed before a line and its head, or a cell.
 const PIECES: [&[u8]; 7] = [
     b"\n     1     1",
@@ -57,10 +82,10 @@ const PIECES: [&[u8]; 7] = [
     b"  1",
 ];
 
-/// So many pieces of command lines, and now and then up to 12 of these bytes.
-fn pieces(random: &mut Random, bytes: &[u8], count: usize) -> Vec<u8> {
+/// Up to 800 pieces of command lines, and now and then up to 12 of these bytes.
+fn pieces(random: &mut Random, bytes: &[u8]) -> Vec<u8> {
     let mut pieces = Vec::new();
-    for _ in 0..count {
+    for _ in 0..random.below(800) {
         pieces.extend(PIECES[random.below(PIECES.len() as u64) as usize]);
         if random.once_in(16) {
             let count = random.between(1, 12) as usize;
@@ -72,16 +97,7 @@ fn pieces(random: &mut Random, bytes: &[u8], count: usize) -> Vec<u8> {
 
 #[test]
 fn likely_pieces_behind_line_1() {
-    let mut random = Random::new(233);
-    let mut inputs = Vec::new();
-    for bytes in [LIKELY, b"  1\n", b"     0123\n", b" \n"] {
-        for _ in 0..60 {
-            let (m, n) = (random.between(1, 2), random.between(1, 2));
-            let head = line_1([m, n, 1, 2]);
-            let count = random.below(800) as usize;
-            inputs.push([head, pieces(&mut random, bytes, count)].concat());
-        }
-    }
+    let inputs = behind_line_1(235, pieces);
     let mut met = Met::new();
     for (input, output) in inputs.iter().zip(check_each(&inputs)) {
         let output = Output::read(input, &output);
