@@ -29,9 +29,10 @@ use Rattle.grids.specs.Grids.{cell, arrangement}
 use Rattle.grids.proofs.OrderLaws.{≼-refl, ≼-trans, ≼-antisymm, ≺-≼}
 use Rattle.canonical.specs.declared.search.Orders.{Orders}
 use Rattle.canonical.specs.declared.search.Bound.{Bound}
-use Rattle.canonical.specs.Search.{Begins, Covers, leadingRows, rowAt, IsOrders, Searching, Candidate, Improves, Bounded}
-use Rattle.canonical.proofs.LeadingRows.{leading-is, leading-row, leading-decides, best-whole}
-use Rattle.canonical.proofs.SearchSteps.{covers-lower}
+use Rattle.branches.specs.Branches.{Begins, Covers}
+use Rattle.canonical.specs.Search.{leadingRows, rowAt, IsOrders, Searching, Candidate, Improves, Bounded}
+use Rattle.branches.proofs.LeadingRows.{leading-is, leading-row, leading-decides, best-whole}
+use Rattle.branches.proofs.BranchLaws.{covers-lower}
 use Rattle.canonical.proofs.SearchLaws.{improves-refl, improves-trans, searching-better, candidate-lower, bound-below, bound-above}
 
 abbrev pub Branch : ℕ → ℕ → List ℕ → ℕ → Orders → ℕ → Orders → Type 0

@@ -38,7 +38,7 @@ use Rattle.canonical.specs.declared.search.Orders.{Orders}
 use Rattle.canonical.specs.Represent.{Produces, Starting, RepresentedBy}
 use Rattle.canonical.specs.Same.{classNumber, classAgreed, ComparedBy, sameQuestions, sameNumber, sameAgreed}
 use Rattle.canonical.specs.Search.{leadingRows, LeastOrders}
-use Rattle.canonical.proofs.LeadingRows.{leading-is}
+use Rattle.branches.proofs.LeadingRows.{leading-is}
 use Rattle.canonical.proofs.CallLaws.{same-pass, same-103, same-leasts, same-orders}
 use Rattle.canonical.proofs.AgreedLaws.{same-agreed}
 

@@ -22,8 +22,8 @@ use Rattle.canonical.specs.declared.search.Orders.{Orders}
 use Rattle.canonical.specs.declared.search.Bound.{Bound}
 use Rattle.canonical.specs.Counts.{counts, CountsRows, FirstGreatest, MarksLess}
 use Rattle.canonical.specs.Search.{leadingRows, rowAt, lesserOrders, Searching, Candidate, Bounded}
-use Rattle.canonical.proofs.LeadingRows.{leading-is, leading-row, leading-lower}
-use Rattle.canonical.proofs.SearchSteps.{placed-next}
+use Rattle.branches.proofs.LeadingRows.{leading-is, leading-row, leading-lower}
+use Rattle.branches.proofs.BranchLaws.{placed-next}
 use Rattle.canonical.proofs.SearchLaws.{lesser-is, lesser-improves, lesser-lower}
 use Rattle.canonical.proofs.BoundLaws.{Branch, strictly-covers}
 use Rattle.canonical.proofs.CountLaws.{counts-lower, counts-permuted, counts-whole}

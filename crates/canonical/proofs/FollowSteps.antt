@@ -27,10 +27,11 @@ use Rattle.grids.proofs.ComparisonLaws.{greater-yes}
 use Rattle.canonical.specs.declared.search.Orders.{Orders}
 use Rattle.canonical.specs.declared.search.Found.{Found}
 use Rattle.canonical.specs.Blocks.{Split}
-use Rattle.canonical.specs.Search.{Covers, leadingRows, rowAt, lesserOrders, Searching, Candidate, Improves, Settled, Searched, BranchOutcome, Followed, FollowOutcome}
+use Rattle.branches.specs.Branches.{Covers}
+use Rattle.canonical.specs.Search.{leadingRows, rowAt, lesserOrders, Searching, Candidate, Improves, Settled, Searched, BranchOutcome, Followed, FollowOutcome}
 use Rattle.canonical.proofs.BlockLaws.{blocked-next}
-use Rattle.canonical.proofs.LeadingRows.{leading-more, leading-row}
-use Rattle.canonical.proofs.SearchSteps.{covers-lower, covers-cut, placed-stay}
+use Rattle.branches.proofs.LeadingRows.{leading-more, leading-row}
+use Rattle.branches.proofs.BranchLaws.{covers-lower, covers-cut, placed-stay}
 use Rattle.canonical.proofs.SymmetryLaws.{alike-fewer, alike-covered}
 use Rattle.canonical.proofs.SearchLaws.{improves-refl, improves-trans, improves-fewer, bound-below, lesser-improves, lesser-equal}
 

@@ -1,9 +1,7 @@
-pub mod SearchSteps
 pub mod CallLaws
 pub mod AgreedLaws
 pub mod TerminalCalls
 pub mod BlockLaws
-pub mod LeadingRows
 pub mod OneRow
 pub mod InsertionLaws
 pub mod InsertionSteps

@@ -31,11 +31,12 @@ use Rattle.grids.proofs.LeastLaws.{is-least}
 use Rattle.canonical.specs.declared.search.Orders.{Orders}
 use Rattle.canonical.specs.declared.search.Bound.{Bound}
 use Rattle.canonical.specs.declared.search.Found.{Found}
-use Rattle.canonical.specs.Search.{Covers, leadingRows, rowAt, IsOrders, Searching, Candidate, Improves, Bounded, Searched, InCommon, BranchOutcome, Followed, LeastOrders}
+use Rattle.branches.specs.Branches.{Covers}
+use Rattle.canonical.specs.Search.{leadingRows, rowAt, IsOrders, Searching, Candidate, Improves, Bounded, Searched, InCommon, BranchOutcome, Followed, LeastOrders}
 use Rattle.canonical.proofs.BlockLaws.{blocked-ascending, blocked-start}
-use Rattle.canonical.proofs.LeadingRows.{leading-is, leading-more}
+use Rattle.branches.proofs.LeadingRows.{leading-is, leading-more}
 use Rattle.canonical.proofs.RepeatedRows.{row-cells}
-use Rattle.canonical.proofs.SearchSteps.{covers-lower, covers-placed, covers-next, covers-equal, covers-least, placed-stay}
+use Rattle.branches.proofs.BranchLaws.{covers-lower, covers-placed, covers-next, covers-equal, covers-least, placed-stay}
 use Rattle.canonical.proofs.SymmetryLaws.{alike-last}
 use Rattle.canonical.proofs.SearchLaws.{improves-refl, improves-trans}
 use Rattle.canonical.proofs.FollowSteps.{followed-next}

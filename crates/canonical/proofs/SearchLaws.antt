@@ -30,8 +30,8 @@ use Rattle.canonical.specs.declared.search.Orders.{Orders}
 use Rattle.canonical.specs.Blocks.{BlocksSorted}
 use Rattle.canonical.specs.Search.{leadingRows, rowAt, lesserOrders, IsOrders, Searching, Candidate, Improves}
 use Rattle.canonical.proofs.BlockLaws.{sorted-ascending, sorted-leading}
-use Rattle.canonical.proofs.LeadingRows.{leading-fewer, leading-lower, leading-row, leading-decides}
-use Rattle.canonical.proofs.SearchSteps.{placed-stay, placed-next}
+use Rattle.branches.proofs.LeadingRows.{leading-fewer, leading-lower, leading-row, leading-decides}
+use Rattle.branches.proofs.BranchLaws.{placed-stay, placed-next}
 
 -- ---- improving the best
 

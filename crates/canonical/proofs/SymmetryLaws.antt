@@ -1,11 +1,10 @@
 -- Symmetries of the grid that the search finds: two row orders with one arrangement.
 --
---   covers-alike    ==  what covers the branch that begins like one of two orders with one arrangement covers the branch that begins like the other
 --   alike-fewer     ==  a branch that holds a copy of the best is in a larger one that does
 --   alike-covered   ==  a branch that is a copy of one tried before is covered
 --   common-none, common-next  ==  counting the rows that two orders begin with in common
 --   alike-last      ==  the last row placed gives the best's arrangement: the branch holds a copy of it
-use mathlib.Core.Path.{_≡_, sym, ap, ap₂, _∙_}
+use mathlib.Core.Path.{_≡_, sym, ap₂, _∙_}
 use mathlib.Core.List.{List}
 use Prim.Native.Nat.{ℕ, suc, _+_, _≤_, _<_}
 use native.Mathlib.Nat.{not-suc-le-zero}
@@ -13,58 +12,24 @@ use native.Mathlib.Decide.{ℕ-discrete}
 use native.Mathlib.Omega.{arith}
 use lib.ListN.{getD, take}
 use lib.Seq.{getD-take}
-use Rattle.permutations.specs.Permutations.{IsPermutation, composed, inverse, swapped}
+use Rattle.permutations.specs.Permutations.{swapped}
 use Rattle.permutations.specs.Padded.{IsPadded}
 use Rattle.permutations.specs.Rows.{rowNumbers}
 use Rattle.permutations.specs.Columns.{columnNumbers}
-use Rattle.permutations.proofs.PermutationLaws.{at-composed, at-inverse, position-at, composed-permutation, inverse-permutation, through}
 use Rattle.grids.specs.Grids.{cell, arrangement}
 use Rattle.grids.proofs.OrderLaws.{agree-next}
-use Rattle.grids.proofs.GridLaws.{arrangement-twice}
 use Rattle.canonical.specs.declared.search.Orders.{Orders}
-use Rattle.canonical.specs.Search.{Begins, Covers, leadingRows, IsOrders, Alike, InCommon}
-use Rattle.canonical.proofs.LeadingRows.{leading-is}
-use Rattle.canonical.proofs.SearchSteps.{covers-agree, placed-stay, placed-next}
+use Rattle.branches.specs.Branches.{Begins, Covers}
+use Rattle.canonical.specs.Search.{leadingRows, IsOrders, Alike, InCommon}
+use Rattle.branches.proofs.LeadingRows.{leading-is}
+use Rattle.branches.proofs.BranchLaws.{covers-agree, placed-stay, placed-next}
+use Rattle.branches.proofs.BranchSymmetry.{covers-alike}
 
 -- the orders' own permutations give the arrangement
 own : (m n : ℕ) (g : List ℕ) (o : Orders) → arrangement m n (take m (rowNumbers (o .rows))) (take n (columnNumbers (o .columns))) g ≡ leadingRows m n g o
 own m n g o =
     leading-is n g (take m (rowNumbers (o .rows))) (take n (columnNumbers (o .columns))) (rowNumbers (o .rows)) (columnNumbers (o .columns)) m λ i j im jn.
     ap₂ (λ (a b : ℕ). cell n g a b) (getD-take m (rowNumbers (o .rows)) i 0 im) (getD-take n (columnNumbers (o .columns)) j 0 jn)
-
-pub covers-alike : (m n : ℕ) (g : List ℕ) (k : ℕ) (p q p′ q′ r : List ℕ) → k ≤ m → IsPermutation m p → IsPermutation n q → IsPermutation m p′ → IsPermutation n q′ →
-    arrangement m n p q g ≡ arrangement m n p′ q′ g → Covers m n g k p r → Covers m n g k p′ r
-unfolding Covers Begins
-covers-alike m n g k p q p′ q′ r km op oq op′ oq′ e c s os begins t ot =
-    rw (← same) (c (composed m p u) (composed-permutation m p u op ou) front (composed n q v) (composed-permutation n q v oq ov))
-  where
-    u : List ℕ
-    u = composed m (inverse m p′) s
-
-    v : List ℕ
-    v = composed n (inverse n q′) t
-
-    ou : IsPermutation m u
-    ou = composed-permutation m (inverse m p′) s (inverse-permutation m p′ op′) os
-
-    ov : IsPermutation n v
-    ov = composed-permutation n (inverse n q′) t (inverse-permutation n q′ oq′) ot
-
-    same : arrangement m n (composed m p u) (composed n q v) g ≡ arrangement m n s t g
-    same =
-        sym (arrangement-twice m n p q u v g ou ov)
-        ∙ ap (arrangement m n u v) e
-        ∙ arrangement-twice m n p′ q′ u v g ou ov
-        ∙ ap₂ (λ (a b : List ℕ). arrangement m n a b g) (through m p′ op′ s os) (through n q′ oq′ t ot)
-
-    front : (i : ℕ) → i < k → getD (composed m p u) i 0 ≡ getD p i 0
-    front i ik =
-        at-composed m p u i (omega arith)
-        ∙ ap (λ (x : ℕ). getD p x 0)
-        (at-composed m (inverse m p′) s i (omega arith)
-        ∙ ap (λ (x : ℕ). getD (inverse m p′) x 0) (begins i ik)
-        ∙ at-inverse m p′ (getD p′ i 0) (op′ .within i (omega arith))
-        ∙ position-at m p′ op′ i (omega arith))
 
 pub alike-fewer : (m n : ℕ) (g : List ℕ) (k : ℕ) (next placed : List ℕ) (out : Orders) (back : ℕ) → ((i : ℕ) → i < k → getD next i 0 ≡ getD placed i 0) →
     Alike m n g (suc k) next out back → Alike m n g k placed out back

@@ -1,8 +1,6 @@
 -- The search over partial row orders. Between functions: no answer of a call is defined here.
 -- The best arrangement found so far, and the branch at hand, are each kept as a row order and a column order.
 --
---   Begins k placed p        ==  the row order p begins with the first k rows of placed
---   Covers m n g k placed r  ==  r comes no later than any arrangement whose row order begins so
 --   leadingRows k n g o      ==  the first k rows of the arrangement of g by the orders o
 --   rowAt n g k o            ==  its row k
 --   lesserOrders found next best  ==  next, if it was found less; else best
@@ -38,17 +36,11 @@ use Rattle.grids.specs.Order.{_≼_}
 use Rattle.grids.specs.Grids.{row, permutedRow, arrangement}
 use Rattle.grids.specs.Sorted.{Ascending}
 use Rattle.grids.specs.Least.{least}
+use Rattle.branches.specs.Branches.{Begins, Covers}
 use Rattle.canonical.specs.declared.search.Orders.{Orders}
 use Rattle.canonical.specs.declared.search.Bound.{Bound}
 use Rattle.canonical.specs.declared.search.Found.{Found}
 use Rattle.canonical.specs.Blocks.{Blocked, BlocksSorted}
-
-unfoldable pub Begins : ℕ → List ℕ → List ℕ → Type 0
-Begins k placed p = (i : ℕ) → i < k → getD p i 0 ≡ getD placed i 0
-
-unfoldable pub Covers : ℕ → ℕ → List ℕ → ℕ → List ℕ → List ℕ → Type 0
-Covers m n g k placed r =
-    (p : List ℕ) → IsPermutation m p → Begins k placed p → (q : List ℕ) → IsPermutation n q → r ≼ arrangement m n p q g
 
 abbrev pub leadingRows : ℕ → ℕ → List ℕ → Orders → List ℕ
 leadingRows k n g o = arrangement k n (rowNumbers (o .rows)) (columnNumbers (o .columns)) g

@@ -9,6 +9,7 @@ use permutations::columns::ColumnNumber;
 use permutations::columns::ColumnPermutation;
 use permutations::rows::RowNumber;
 use permutations::rows::RowPermutation;
+use two_values::arranging;
 ghost use mathlib.Core.Path.{_≡_};
 ghost use Prim.Native.Nat.{_*_, _≤_, _<_};
 ghost use lib.ListN.{length};
@@ -149,11 +150,17 @@ fn first_bound(
     }
 }
 
-// The orders of the least arrangement.
+// The orders of the least arrangement. Grids with two values have a search of their own.
 pub fn least_orders(grid: &[u8], m: usize, n: usize) -> Orders
     requires { ⌜ (m ≤ 5) × (n ≤ 16) × (length (now grid) ≡ m * n) ⌝ }
     ensures { λ r. ⌜ LeastOrders m n (now (grid .entry)) r ⌝ }
 {
+    let quick = arranging::least_arrangement(grid, m, n);
+    if quick.found {
+        let rows = quick.rows;
+        let columns = quick.columns;
+        return Orders { rows, columns };
+    }
     let start = Orders {
         rows: RowPermutation::identity(m),
         columns: ColumnPermutation::identity(n),

@@ -1,4 +1,4 @@
--- The steps of the search over partial row orders.
+-- What covers a branch of the search over partial row orders, step by step.
 --
 --   placed-stay, placed-next  ==  the rows placed, and the row that is placed next
 --   covers-next     ==  what covers every row that can be placed next covers the branch
@@ -26,8 +26,8 @@ use Rattle.grids.specs.Grids.{cell, arrangement, OneClass}
 use Rattle.grids.specs.Sorted.{Ascending}
 use Rattle.grids.specs.Least.{IsLeast}
 use Rattle.grids.proofs.OrderLaws.{≼-trans, ≼-antisymm}
-use Rattle.canonical.specs.Search.{Begins, Covers}
-use Rattle.canonical.proofs.LeadingRows.{leading-is, leading-decides, best-whole}
+use Rattle.branches.specs.Branches.{Begins, Covers}
+use Rattle.branches.proofs.LeadingRows.{leading-is, leading-decides, best-whole}
 
 -- row orders that list the same rows, cell by cell, give the same leading rows
 same-rows : (k n : ℕ) (g p r q : List ℕ) → ((i : ℕ) → i < k → getD p i 0 ≡ getD r i 0) → arrangement k n p q g ≡ arrangement k n r q g

@@ -1,0 +1,4 @@
+pub mod LeadingRows
+pub mod BranchLaws
+pub mod BranchSymmetry
+pub mod DominatedRows

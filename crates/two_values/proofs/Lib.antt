@@ -1,0 +1,17 @@
+pub mod CountLaws
+pub mod SumLaws
+pub mod LoopLaws
+pub mod TableLaws
+pub mod ValueLaws
+pub mod SortLaws
+pub mod SortedRows
+pub mod RefinedLaws
+pub mod KeyLaws
+pub mod KeyedRows
+pub mod SymmetryLaws
+pub mod BitLaws
+pub mod DominationLaws
+pub mod SearchSteps
+pub mod PlaceLaws
+pub mod ReachedLaws
+pub mod ArrangedLaws

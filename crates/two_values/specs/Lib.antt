@@ -1,0 +1,7 @@
+pub mod Sums
+pub mod TwoValues
+pub mod Tables
+pub mod Search
+pub mod Symmetries
+pub mod Domination
+pub mod Arranged
