@@ -1,24 +1,26 @@
--- Rows that another row dominates: exchanging the two rows and two columns makes no row of an arrangement greater.
+-- Rows that another row dominates: exchanging the two rows, and columns in pairs, makes no row of an arrangement greater.
 --
 --   Sorts m n g      ==  for every row order there is a column order that sorts the columns by it
 --   covers-dominated ==  what covers placing a row next covers placing a row that it dominates
-use mathlib.Core.Path.{_≡_, refl, sym, ap, ap₂, _∙_}
+use mathlib.Core.Path.{_≡_, sym, ap, _∙_}
 use mathlib.Core.List.{List}
+use mathlib.Core.Logic.{_⊎_, inl, inr}
 use Prim.Native.Nat.{ℕ, suc, _+_, _*_, _/_, _%_, _≤_, _<_}
 use native.Mathlib.Decide.{ℕ-discrete, decLt}
 use native.Mathlib.Omega.{arith}
-use lib.ListN.{length, getD, take}
+use lib.ListN.{getD, take}
 use lib.Seq.{getD-take}
 use Rattle.permutations.specs.Permutations.{IsPermutation, composed, swapped}
+use Rattle.permutations.specs.Lists.{tabulate}
 use Rattle.permutations.specs.Padded.{IsPadded}
-use Rattle.permutations.proofs.ListLaws.{at-tabulate}
+use Rattle.permutations.proofs.ListLaws.{length-tabulate, at-tabulate}
 use Rattle.permutations.proofs.PermutationLaws.{listed, at-composed, composed-permutation}
 use Rattle.permutations.proofs.SwapLaws.{at-whole}
 use Rattle.permutations.proofs.Transpositions.{exchange, exchange-first, exchange-second, exchange-other, transposition, at-transposition, transposition-permutation}
 use Rattle.grids.specs.Order.{rank, _≼_}
 use Rattle.grids.specs.Grids.{cell, arrangement}
 use Rattle.grids.specs.Sorted.{Ascending, permutedColumn}
-use Rattle.grids.proofs.OrderLaws.{≼-trans, ≼-by-index, tabulate-at}
+use Rattle.grids.proofs.OrderLaws.{≼-trans, ≼-by-index, tabulate-at, trichotomy}
 use Rattle.grids.proofs.GridLaws.{row-column, length-arrangement, cell-arrangement}
 use Rattle.grids.proofs.SortedColumns.{best-columns}
 use Rattle.branches.specs.Branches.{Begins, Covers, Dominates}
@@ -49,8 +51,8 @@ by-cell m n g p q p′ q′ h =
 abbrev pub Sorts : ℕ → ℕ → List ℕ → Type 0
 Sorts m n g = (p : List ℕ) → (q : List ℕ) × IsPermutation n q × Ascending m n g p q
 
-module _ (m n : ℕ) (g : List ℕ) (k : ℕ) (p : List ℕ) (m8 : m ≤ 8) (km : k < m) (o : IsPadded 8 m p) (s t c d : ℕ) (ks : k ≤ s) (sm : s < m) (kt : k ≤ t) (tm : t < m)
-    (h : Dominates m n g p k s t c d) where
+module _ (m n : ℕ) (g : List ℕ) (k : ℕ) (p : List ℕ) (m8 : m ≤ 8) (km : k < m) (o : IsPadded 8 m p) (s t : ℕ) (f : ℕ → ℕ) (ks : k ≤ s) (sm : s < m) (kt : k ≤ t) (tm : t < m)
+    (h : Dominates m n g p k s t f) where
   once : (i j : ℕ) → i < m → j < m → getD p i 0 ≡ getD p j 0 → i ≡ j
   once i j im jm e = o .permutation .once i j im jm (getD-take m p i 0 im ∙ e ∙ sym (getD-take m p j 0 jm))
 
@@ -69,24 +71,30 @@ module _ (m n : ℕ) (g : List ℕ) (k : ℕ) (p : List ℕ) (m8 : m ≤ 8) (km 
   unfolding y
   ym = at-whole 8 m p o s sm
 
-  -- with the two columns exchanged, the row at s has the cells of the row at t, and the other way round
-  s-as-t : (e : ℕ) → e < n → cell n g y (exchange c d e) ≡ cell n g x e
+  -- with the columns exchanged, the row at s has the cells of the row at t, and the other way round
+  s-as-t : (e : ℕ) → e < n → cell n g y (f e) ≡ cell n g x e
   unfolding x y
-  s-as-t e en = go (ℕ-discrete e c) (ℕ-discrete e d)
-    where
-      go : Dec (e ≡ c) → Dec (e ≡ d) → cell n g (getD p s 0) (exchange c d e) ≡ cell n g (getD p t 0) e
-      go (yes a) b = rw (a, exchange-first c d) (h .at-second)
-      go (no a) (yes b) = rw (b, exchange-second c d) (h .at-first)
-      go (no a) (no b) = rw (exchange-other c d e a b) (h .elsewhere e en a b)
+  s-as-t e en = h .exchanged e en
 
-  t-as-s : (e : ℕ) → e < n → cell n g x (exchange c d e) ≡ cell n g y e
+  t-as-s : (e : ℕ) → e < n → cell n g x (f e) ≡ cell n g y e
   unfolding x y
-  t-as-s e en = go (ℕ-discrete e c) (ℕ-discrete e d)
-    where
-      go : Dec (e ≡ c) → Dec (e ≡ d) → cell n g (getD p t 0) (exchange c d e) ≡ cell n g (getD p s 0) e
-      go (yes a) b = rw (a, exchange-first c d) (sym (h .at-first))
-      go (no a) (yes b) = rw (b, exchange-second c d) (sym (h .at-second))
-      go (no a) (no b) = rw (exchange-other c d e a b) (sym (h .elsewhere e en a b))
+  t-as-s e en = rw (h .back e en) at (sym (h .exchanged (f e) (h .within e en)))
+
+  -- the columns so exchanged, as a list
+  paired : List ℕ
+  paired = tabulate 0 n f
+
+  at-paired : (j : ℕ) → j < n → getD paired j 0 ≡ f j
+  unfolding paired
+  at-paired j jn = at-tabulate n f j 0 jn
+
+  paired-permutation : IsPermutation n paired
+  unfolding paired
+  paired-permutation = record {
+    size = length-tabulate 0 n f;
+    within = λ j jn. rw (at-paired j jn) (h .within j jn);
+    once = λ i j im jn e. sym (h .back i im) ∙ ap f (sym (at-paired i im) ∙ e ∙ at-paired j jn) ∙ h .back j jn;
+  }
 
   -- a row order of the branch of t, its columns sorted
   module _ (p′ : List ℕ) (op : IsPermutation m p′) (begins : Begins (suc k) (swapped p k t) p′) (q : List ℕ) (oq : IsPermutation n q) (up : Ascending m n g p′ q) where
@@ -102,15 +110,15 @@ module _ (m n : ℕ) (g : List ℕ) (k : ℕ) (p : List ℕ) (m8 : m ≤ 8) (km 
     at-p″ i im = at-composed m (transposition m x y) p′ i im ∙ at-transposition m x y (getD p′ i 0) (op .within i im)
 
     q″ : List ℕ
-    q″ = composed n (transposition n c d) q
+    q″ = composed n paired q
 
     oq″ : IsPermutation n q″
     unfolding q″
-    oq″ = composed-permutation n (transposition n c d) q (transposition-permutation n c d (h .first-column) (h .second-column)) oq
+    oq″ = composed-permutation n paired q paired-permutation oq
 
-    at-q″ : (j : ℕ) → j < n → getD q″ j 0 ≡ exchange c d (getD q j 0)
+    at-q″ : (j : ℕ) → j < n → getD q″ j 0 ≡ f (getD q j 0)
     unfolding q″
-    at-q″ j jn = at-composed n (transposition n c d) q j jn ∙ at-transposition n c d (getD q j 0) (oq .within j jn)
+    at-q″ j jn = at-composed n paired q j jn ∙ at-paired (getD q j 0) (oq .within j jn)
 
     front : (i : ℕ) → i < k → getD p′ i 0 ≡ getD p i 0
     unfolding Begins
@@ -131,36 +139,38 @@ module _ (m n : ℕ) (g : List ℕ) (k : ℕ) (p : List ℕ) (m8 : m ≤ 8) (km 
             let ny : getD p i 0 ≡ y → ⊥ = λ z. let w : i ≡ s = once i s (omega arith) sm z in omega arith in
             rw (front i (omega arith), placed-stay m n g k p m8 km o s ks i (omega arith)) (exchange-other x y (getD p i 0) nx ny)
 
-    -- the first of the two columns comes first
-    c-first : (c ≡ d → ⊥) → (a b : ℕ) → a < n → b < n → getD q a 0 ≡ c → getD q b 0 ≡ d → a < b
+    -- of two columns that f exchanges, that with the lower cell in the row at t comes first
+    lower-first : (a b : ℕ) → a < n → b < n → f (getD q b 0) ≡ getD q a 0 → rank (cell n g x (getD q a 0)) < rank (cell n g x (getD q b 0)) → a < b
     unfolding Ascending permutedColumn x
-    c-first ne a b an bn ea eb = go (decLt a b)
+    lower-first a b an bn e lower = go (decLt a b)
       where
         go : Dec (a < b) → a < b
         go (yes l) = l
         go (no l) =
-            let up′ = rw (ea, eb) at (up b a (omega arith) an) in
-            let z : rank (cell n g (getD p′ k 0) d) ≤ rank (cell n g (getD p′ k 0) c) =
-            tabulate-at m (λ i. cell n g (getD p′ i 0) d) (λ i. cell n g (getD p′ i 0) c) up′ k km
-            (λ i ik. rw (front i ik) (sym (h .placed i ik))) in
-            let w = h .in-order ne in
+            let z : rank (cell n g (getD p′ k 0) (getD q b 0)) ≤ rank (cell n g (getD p′ k 0) (getD q a 0)) =
+            tabulate-at m (λ i. cell n g (getD p′ i 0) (getD q b 0)) (λ i. cell n g (getD p′ i 0) (getD q a 0)) (up b a (omega arith) an) k km
+            (λ i ik. rw (front i ik) (sym (rw e at (h .placed i ik (getD q b 0) (oq .within b bn))))) in
             absurd (omega (arith, rw next at z))
 
-    -- the other rows: those placed do not tell the two columns apart, and the others have the lower cell in the second
-    other : (u : ℕ) → u < m → (u ≡ x → ⊥) → (u ≡ y → ⊥) → rank (cell n g u d) ≤ rank (cell n g u c)
+    -- the other rows: those placed do not tell a column from what it is exchanged with, and the others have no higher cell in the second of the two
+    other : (u v : ℕ) → u < m → v < n → (u ≡ x → ⊥) → (u ≡ y → ⊥) → rank (cell n g x v) < rank (cell n g x (f v)) → rank (cell n g u (f v)) ≤ rank (cell n g u v)
     unfolding x y
-    other u um nx ny =
+    other u v um vn nx ny lower =
         let z = listed m (take m p) (o .permutation) u um in
         let e : getD p (z .0) 0 ≡ u = sym (getD-take m p (z .0) 0 (z .1)) ∙ z .2 in
         go (z .0) (z .1) e (decLt (z .0) k)
       where
-        go : (i : ℕ) → i < m → getD p i 0 ≡ u → Dec (i < k) → rank (cell n g u d) ≤ rank (cell n g u c)
-        go i im e (yes ik) = let w : rank (cell n g u d) ≡ rank (cell n g u c) = rw (← e) (ap rank (sym (h .placed i ik))) in omega arith
+        go : (i : ℕ) → i < m → getD p i 0 ≡ u → Dec (i < k) → rank (cell n g u (f v)) ≤ rank (cell n g u v)
+        go i im e (yes ik) = let w : rank (cell n g u (f v)) ≡ rank (cell n g u v) = rw (← e) (ap rank (h .placed i ik v vn)) in omega arith
         go i im e (no ik) =
-            rw (← e) (h .others i (omega arith) im (λ z. ny (sym e ∙ ap (λ (v : ℕ). getD p v 0) z)) (λ z. nx (sym e ∙ ap (λ (v : ℕ). getD p v 0) z)))
+            rw (← e) (h .others i (omega arith) im (λ z. ny (sym e ∙ ap (λ (v : ℕ). getD p v 0) z)) (λ z. nx (sym e ∙ ap (λ (v : ℕ). getD p v 0) z)) v vn lower)
 
-    step : (i j : ℕ) → i < m → j < n → ((e : ℕ) → e < j → cell n g (exchange x y (getD p′ i 0)) (exchange c d (getD q e 0)) ≡ cell n g (getD p′ i 0) (getD q e 0)) →
-        rank (cell n g (exchange x y (getD p′ i 0)) (exchange c d (getD q j 0))) ≤ rank (cell n g (getD p′ i 0) (getD q j 0))
+    tells : (v : ℕ) → v < n → (f v ≡ v → ⊥) → cell n g x v ≡ cell n g x (f v) → ⊥
+    unfolding x
+    tells v vn ne e = h .moved v vn ne (sym e)
+
+    step : (i j : ℕ) → i < m → j < n → ((e : ℕ) → e < j → cell n g (exchange x y (getD p′ i 0)) (f (getD q e 0)) ≡ cell n g (getD p′ i 0) (getD q e 0)) →
+        rank (cell n g (exchange x y (getD p′ i 0)) (f (getD q j 0))) ≤ rank (cell n g (getD p′ i 0) (getD q j 0))
     step i j im jn same = go (ℕ-discrete u x) (ℕ-discrete u y)
       where
         u : ℕ
@@ -173,20 +183,22 @@ module _ (m n : ℕ) (g : List ℕ) (k : ℕ) (p : List ℕ) (m8 : m ≤ 8) (km 
         vn = oq .within j jn
 
         -- a row that is neither of the two
-        apart : exchange x y u ≡ u → (u ≡ x → ⊥) → (u ≡ y → ⊥) → Dec (v ≡ c) → Dec (v ≡ d) → rank (cell n g u (exchange c d v)) ≤ rank (cell n g u v)
-        apart stays nx ny (yes a) b = rw (a, exchange-first c d) (other u (op .within i im) nx ny)
-        apart stays nx ny (no a) (no b) = rw (exchange-other c d v a b) (omega arith)
-        apart stays nx ny (no a) (yes b) =
-            let z = listed n q oq c (h .first-column) in
-            let l = c-first (λ e. a (b ∙ sym e)) (z .0) j (z .1) jn (z .2) b in
-            let w : cell n g u d ≡ cell n g u c = rw (stays, z .2, exchange-first c d) at (same (z .0) l) in
-            let r : rank (cell n g u d) ≡ rank (cell n g u c) = ap rank w in
-            rw (b, exchange-second c d) (omega arith)
+        apart : exchange x y u ≡ u → (u ≡ x → ⊥) → (u ≡ y → ⊥) → Dec (f v ≡ v) → (rank (cell n g x v) < rank (cell n g x (f v))) ⊎ ((cell n g x v ≡ cell n g x (f v)) ⊎ (rank (cell n g x (f v)) < rank (cell n g x v))) →
+            rank (cell n g u (f v)) ≤ rank (cell n g u v)
+        apart stays nx ny (yes e) o = rw e (omega arith)
+        apart stays nx ny (no ne) (inl lower) = other u v (op .within i im) vn nx ny lower
+        apart stays nx ny (no ne) (inr (inl e)) = absurd (tells v vn ne e)
+        apart stays nx ny (no ne) (inr (inr lower)) =
+            let z = listed n q oq (f v) (h .within v vn) in
+            let l = lower-first (z .0) j (z .1) jn (sym (z .2)) (rw (z .2) lower) in
+            let w : cell n g u v ≡ cell n g u (f v) = rw (stays, z .2, h .back v vn) at (same (z .0) l) in
+            let r : rank (cell n g u v) ≡ rank (cell n g u (f v)) = ap rank w in
+            omega arith
 
-        go : Dec (u ≡ x) → Dec (u ≡ y) → rank (cell n g (exchange x y u) (exchange c d v)) ≤ rank (cell n g u v)
+        go : Dec (u ≡ x) → Dec (u ≡ y) → rank (cell n g (exchange x y u) (f v)) ≤ rank (cell n g u v)
         go (yes a) b = rw (a, exchange-first x y, s-as-t v vn) (omega arith)
         go (no a) (yes b) = rw (b, exchange-second x y, t-as-s v vn) (omega arith)
-        go (no a) (no b) = let f = exchange-other x y u a b in rw f (apart f a b (ℕ-discrete v c) (ℕ-discrete v d))
+        go (no a) (no b) = let e = exchange-other x y u a b in rw e (apart e a b (ℕ-discrete (f v) v) (trichotomy (cell n g x v) (cell n g x (f v))))
 
     no-later : arrangement m n p″ q″ g ≼ arrangement m n p′ q g
     no-later = by-cell m n g p″ q″ p′ q λ i j im jn same.

@@ -2,8 +2,8 @@
 --
 --   Begins k placed p        ==  the row order p begins with the first k rows of placed
 --   Covers m n g k placed r  ==  r comes no later than any arrangement whose row order begins so
---   Dominates m n g p k s t c d  ==  the rows at positions s and t of p differ in columns c and d alone, where their cells are exchanged; c comes first where the row at t is placed
---                                next; the first k rows do not tell c from d; in every other row the cell in d ranks no higher than that in c
+--   Dominates m n g p k s t f  ==  with the columns exchanged by f the row at position s of p has the cells of the row at t; the first k rows do not tell a column from what f makes of it;
+--                                the row at t does, where f moves it, and of the two columns that comes first in which it has the lower cell; every other row has no lower cell there
 use mathlib.Core.Path.{_≡_}
 use mathlib.Core.List.{List}
 use Prim.Native.Nat.{ℕ, _≤_, _<_}
@@ -19,12 +19,11 @@ unfoldable pub Covers : ℕ → ℕ → List ℕ → ℕ → List ℕ → List �
 Covers m n g k placed r =
     (p : List ℕ) → IsPermutation m p → Begins k placed p → (q : List ℕ) → IsPermutation n q → r ≼ arrangement m n p q g
 
-pub record Dominates (m n : ℕ) (g p : List ℕ) (k s t c d : ℕ) : Type 0 where
-  pub first-column : c < n
-  pub second-column : d < n
-  pub elsewhere : (j : ℕ) → j < n → (j ≡ c → ⊥) → (j ≡ d → ⊥) → cell n g (getD p s 0) j ≡ cell n g (getD p t 0) j
-  pub at-first : cell n g (getD p s 0) c ≡ cell n g (getD p t 0) d
-  pub at-second : cell n g (getD p s 0) d ≡ cell n g (getD p t 0) c
-  pub in-order : (c ≡ d → ⊥) → rank (cell n g (getD p t 0) c) < rank (cell n g (getD p t 0) d)
-  pub placed : (i : ℕ) → i < k → cell n g (getD p i 0) c ≡ cell n g (getD p i 0) d
-  pub others : (i : ℕ) → k ≤ i → i < m → (i ≡ s → ⊥) → (i ≡ t → ⊥) → rank (cell n g (getD p i 0) d) ≤ rank (cell n g (getD p i 0) c)
+pub record Dominates (m n : ℕ) (g p : List ℕ) (k s t : ℕ) (f : ℕ → ℕ) : Type 0 where
+  pub within : (j : ℕ) → j < n → f j < n
+  pub back : (j : ℕ) → j < n → f (f j) ≡ j
+  pub exchanged : (j : ℕ) → j < n → cell n g (getD p s 0) (f j) ≡ cell n g (getD p t 0) j
+  pub placed : (i : ℕ) → i < k → (j : ℕ) → j < n → cell n g (getD p i 0) (f j) ≡ cell n g (getD p i 0) j
+  pub moved : (j : ℕ) → j < n → (f j ≡ j → ⊥) → cell n g (getD p t 0) (f j) ≡ cell n g (getD p t 0) j → ⊥
+  pub others : (i : ℕ) → k ≤ i → i < m → (i ≡ s → ⊥) → (i ≡ t → ⊥) → (j : ℕ) → j < n → rank (cell n g (getD p t 0) j) < rank (cell n g (getD p t 0) (f j)) →
+      rank (cell n g (getD p i 0) (f j)) ≤ rank (cell n g (getD p i 0) j)

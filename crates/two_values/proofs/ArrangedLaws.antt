@@ -4,7 +4,7 @@
 --   places-first    ==  the columns before any row is placed
 --   starting        ==  how the search stands at first
 --   searched-least  ==  the branch with no row placed, searched, gives the least arrangement
-use mathlib.Core.Path.{_≡_, refl, sym, ap, ap₂, _∙_}
+use mathlib.Core.Path.{_≡_, sym, ap, _∙_}
 use mathlib.Core.List.{List}
 use mathlib.Core.Bool.{Bool, true, true≢false}
 use Prim.Native.Nat.{ℕ, _-_, _*_, _≤_, _<_}
@@ -29,7 +29,7 @@ use Rattle.branches.proofs.BranchLaws.{covers-least}
 use Rattle.two_values.specs.declared.search.Found.{Found}
 use Rattle.two_values.specs.TwoValues.{TwoValued, placesAfter, sortedRows}
 use Rattle.two_values.specs.Tables.{ByColumns, ByRows, SortsBy}
-use Rattle.two_values.specs.Search.{PlacesBy, Symmetries, Standing, Outcome}
+use Rattle.two_values.specs.Search.{PlacesBy, Standing, Outcome}
 use Rattle.two_values.specs.Arranged.{firstPlace, FirstPlaces}
 use Rattle.two_values.proofs.SortedRows.{sorted-any}
 use Rattle.two_values.proofs.RefinedLaws.{places-start, sorts-ascending}

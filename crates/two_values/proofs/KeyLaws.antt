@@ -1,8 +1,5 @@
 -- Laws of the numbers of rows: they are in the order of the next rows.
 --
---   bit-most, bit-low, bit-high  ==  the number of a value: at most 1, 0 for the lower, 1 for the higher
---   bit-lower, bit-ascends       ==  of two cells, the lower has the lesser number
---   cell-inside                  ==  where a cell stands among all cells
 --   row-keys-are                 ==  the numbers that the tables give are those of the rows
 --   after-count                  ==  how many columns come after one, counted in sorted order
 --   after-room                   ==  a column's number leaves room for those before it
@@ -17,11 +14,9 @@ use mathlib.Core.Bool.{true, false, true≢false}
 use mathlib.Core.Logic.{_⊎_, inl, inr}
 use Prim.Native.Nat.{ℕ, suc, _+_, _-_, _*_, _^_, _≤_, _<_}
 use native.Mathlib.Nat.{zero-mul}
-use native.Mathlib.Decide.{ℕ-discrete}
 use native.Mathlib.Omega.{arith}
 use lib.ListN.{length, getD}
-use lib.Arith.{digits-lt}
-use borrow.Author.Tests.{eq-eqb, ne-eqb, lt-ltb, le-ltb}
+use borrow.Author.Tests.{lt-ltb, le-ltb}
 use Rattle.permutations.specs.Lists.{tabulate}
 use Rattle.permutations.specs.Permutations.{IsPermutation}
 use Rattle.permutations.proofs.BoolLaws.{yes-or-no, refuted}
@@ -29,51 +24,14 @@ use Rattle.permutations.proofs.ListLaws.{length-tabulate, at-tabulate, tabulate
 use Rattle.grids.specs.Order.{rank, _≼_, _≺_, FirstUnequal, less, equal}
 use Rattle.grids.specs.Grids.{cell, permutedRow, arrangement}
 use Rattle.grids.specs.Sorted.{permutedColumn, Ascending}
-use Rattle.grids.proofs.OrderLaws.{rank-injective, ≼-refl, ≼-trans, ≺-≼, ≼-≺, ≺-trans, ≼-prefix, first-unequal, tabulate-at, less-decides, equal-eq, eq-equal}
+use Rattle.grids.proofs.OrderLaws.{≼-refl, ≼-trans, ≺-≼, ≼-≺, ≺-trans, ≼-prefix, first-unequal, tabulate-at, less-decides, equal-eq, eq-equal}
 use Rattle.branches.proofs.LeadingRows.{leading-cells, leading-more}
 use Rattle.two_values.specs.Sums.{sumTo, count}
 use Rattle.two_values.specs.TwoValues.{TwoValued, bit, columnsAfter, placesAfter, key}
 use Rattle.two_values.specs.Tables.{high, ByColumns, RowKeys}
+use Rattle.two_values.proofs.BitLaws.{bit-most, bit-lower, bit-ascends, cell-inside}
 use Rattle.two_values.proofs.CountLaws.{count-ext, count-less, count-after, count-from}
 use Rattle.two_values.proofs.SumLaws.{sum-ext, sum-none-past, sum-permuted, count-permuted, weighted-less}
-
--- ---- the number of a value
-
-pub bit-low : (low v : ℕ) → v ≡ low → bit low v ≡ 0
-unfolding bit
-bit-low low v e = rw (eq-eqb v low e, bit)
-
-pub bit-high : (low v : ℕ) → (v ≡ low → ⊥) → bit low v ≡ 1
-unfolding bit
-bit-high low v ne = rw (ne-eqb v low ne, bit)
-
-pub bit-most : (low v : ℕ) → bit low v ≤ 1
-bit-most low v = go (ℕ-discrete v low)
-  where
-    go : Dec (v ≡ low) → bit low v ≤ 1
-    go (yes e) = omega (arith, bit-low low v e)
-    go (no ne) = omega (arith, bit-high low v ne)
-
-module _ (g : List ℕ) (low : ℕ) (two : TwoValued g low) where
-  pub bit-lower : (i j : ℕ) → i < length g → j < length g → rank (getD g i 0) < rank (getD g j 0) → bit low (getD g i 0) < bit low (getD g j 0)
-  bit-lower i j il jl h = go (ℕ-discrete (getD g i 0) low)
-    where
-      upper : getD g j 0 ≡ low → ⊥
-      upper e = let z : rank (getD g j 0) ≡ rank low = ap rank e in omega (arith, two .lowest i il)
-
-      go : Dec (getD g i 0 ≡ low) → bit low (getD g i 0) < bit low (getD g j 0)
-      go (yes e) = omega (arith, bit-low low (getD g i 0) e, bit-high low (getD g j 0) upper)
-      go (no ne) = let z : rank (getD g i 0) ≡ rank (getD g j 0) = ap rank (two .one-more i j il jl ne upper) in absurd (omega arith)
-
-  pub bit-ascends : (i j : ℕ) → i < length g → j < length g → rank (getD g i 0) ≤ rank (getD g j 0) → bit low (getD g i 0) ≤ bit low (getD g j 0)
-  bit-ascends i j il jl h = go (ℕ-discrete (rank (getD g i 0)) (rank (getD g j 0)))
-    where
-      go : Dec (rank (getD g i 0) ≡ rank (getD g j 0)) → bit low (getD g i 0) ≤ bit low (getD g j 0)
-      go (yes e) = omega (arith, ap (bit low) (rank-injective (getD g i 0) (getD g j 0) e))
-      go (no ne) = omega (arith, bit-lower i j il jl (omega arith))
-
-pub cell-inside : (m n : ℕ) (g : List ℕ) → length g ≡ m * n → (r c : ℕ) → r < m → c < n → r * n + c < length g
-cell-inside m n g size r c rm cn = rw size (digits-lt rm cn)
 
 -- ---- the numbers of the tables
 

@@ -13,13 +13,12 @@ use native.Mathlib.Omega.{arith}
 use lib.ListN.{length, getD}
 use Rattle.permutations.specs.Padded.{IsPadded}
 use Rattle.permutations.specs.Permutations.{swapped}
-use Rattle.grids.specs.Order.{_≼_, _≺_, less}
+use Rattle.grids.specs.Order.{_≼_, _≺_}
 use Rattle.grids.specs.Grids.{cell, permutedRow, arrangement}
 use Rattle.grids.specs.Sorted.{permutedColumn}
 use Rattle.grids.proofs.OrderLaws.{≼-dec, ≼-antisymm}
 use Rattle.branches.proofs.LeadingRows.{leading-fewer, leading-row}
 use Rattle.branches.proofs.BranchLaws.{placed-stay}
-use Rattle.two_values.specs.Sums.{sumTo, count}
 use Rattle.two_values.specs.TwoValues.{TwoValued, bit, columnsAfter, key, columnOrder, sortedRows}
 use Rattle.two_values.proofs.CountLaws.{count-ext}
 use Rattle.two_values.proofs.SumLaws.{sum-ext}

@@ -12,6 +12,8 @@ pub mod SymmetryLaws
 pub mod BitLaws
 pub mod DominationLaws
 pub mod SearchSteps
+pub mod PairLaws
 pub mod PlaceLaws
 pub mod ReachedLaws
 pub mod ArrangedLaws
+pub mod SettledLaws

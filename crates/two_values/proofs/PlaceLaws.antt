@@ -11,21 +11,22 @@
 --   Turn            ==  all that holds before a turn of the loop of `place`, whatever was the best before it
 --   turn-first, turn-skip, turn-stands, turn-back, turn-next, turn-all  ==  these steps, of a turn
 --   standing-small, standing-row  ==  the numbers of columns, and of a row, are within the tables
+--   known-still, set-still  ==  what is known of the best stays, where its number is written again
 --   cut             ==  where the best's next row is lower than all that can come next, the branch is searched
 use mathlib.Core.Path.{_≡_, refl, sym, ap, _∙_}
 use mathlib.Core.List.{List}
 use mathlib.Core.Bool.{Bool, true, false, true≢false}
 use mathlib.Core.Logic.{_⊎_, inl, inr}
-use Prim.Native.Nat.{ℕ, suc, _+_, _*_, _≤_, _<_}
+use Prim.Native.Nat.{ℕ, suc, _+_, _≤_, _<_}
 use native.Mathlib.Decide.{ℕ-discrete, decLt}
 use native.Mathlib.Omega.{arith}
 use native.Mathlib.Numerals.{add-one}
 use lib.ListN.{length, getD, set, take, length-set}
 use lib.Seq.{getD-take, getD-set-same, getD-set-other}
 use Rattle.permutations.specs.declared.rows.RowPermutation.{RowPermutation}
-use Rattle.permutations.specs.Permutations.{IsPermutation, swapped}
+use Rattle.permutations.specs.Permutations.{swapped}
 use Rattle.permutations.specs.Padded.{IsPadded}
-use Rattle.permutations.specs.Rows.{rowNumbers, IsRowPermutation, ListsRows}
+use Rattle.permutations.specs.Rows.{rowNumbers, ListsRows}
 use Rattle.permutations.proofs.SwapLaws.{at-whole, swapped-whole}
 use Rattle.grids.specs.Order.{_≼_, _≺_}
 use Rattle.grids.specs.Grids.{cell, arrangement}
@@ -35,39 +36,39 @@ use Rattle.branches.proofs.BranchLaws.{covers-next, covers-agree, covers-lower,
 use Rattle.branches.proofs.BranchSymmetry.{covers-alike}
 use Rattle.branches.proofs.LeadingRows.{leading-is}
 use Rattle.two_values.specs.declared.search.Found.{Found}
-use Rattle.two_values.specs.TwoValues.{TwoValued, placesAfter, key, columnOrder, sortedRows}
+use Rattle.two_values.specs.TwoValues.{placesAfter, key, columnOrder, sortedRows}
 use Rattle.two_values.specs.Tables.{Below16, Refined, RowKeys}
-use Rattle.two_values.specs.Search.{PlacesBy, Next, Chosen, Symmetries, CoveredRows, Spreads, Known, Follows, Lowest, Cuts, Lowers, Rekeyed, IsFollowed, Tables, Standing, Alike, Outcome}
-use Rattle.two_values.proofs.SortedRows.{order-permutation, sorted-agree, sorted-decides, sorted-covered}
+use Rattle.two_values.specs.Search.{Next, Marked, Chosen, Symmetries, CoveredRows, Spreads, Known, Follows, Lowest, Cuts, Lowers, Rekeyed, IsFollowed, Standing, Alike, Outcome}
+use Rattle.two_values.proofs.SortedRows.{order-permutation, sorted-decides, sorted-covered}
 use Rattle.two_values.proofs.RefinedLaws.{places-agree, places-are, refined-places}
 use Rattle.two_values.proofs.KeyLaws.{row-keys-are}
 use Rattle.two_values.proofs.KeyedRows.{key-agree, key-lower, key-same, same-key, rows-fewer, rows-swapped}
 
-pub record Started (m n : ℕ) (g : List ℕ) (low k : ℕ) (p : List ℕ) (fresh : Bool) (before : Found) (marks : List ℕ) (least t : ℕ) (now : Found) (covered : List ℕ) : Type 0 where
+pub record Started (m n : ℕ) (g : List ℕ) (low k : ℕ) (p : List ℕ) (fresh : Bool) (before : Found) (keys dropped : List ℕ) (least t : ℕ) (now : Found) (covered : List ℕ) : Type 0 where
   pub known : Known m n g low now
   pub leading : sortedRows k n g (rowNumbers (now .best)) ≡ sortedRows k n g p
   pub least-key : key n g low k (rowNumbers (now .best)) ≡ least
   pub lower : fresh ≡ false → sortedRows m n g (rowNumbers (now .best)) ≼ sortedRows m n g (rowNumbers (before .best))
   pub from : ((fresh ≡ false) × (rowNumbers (now .best) ≡ rowNumbers (before .best))) ⊎ Begins k p (rowNumbers (now .best))
-  pub tried : Begins k p (rowNumbers (now .best)) → (s : ℕ) × (k ≤ s) × (s < t) × (getD marks s 0 ≡ 0 → ⊥) × (getD p s 0 ≡ getD (rowNumbers (now .best)) k 0)
-  pub covers : (s : ℕ) → k ≤ s → s < t → (getD marks s 0 ≡ 0 → ⊥) → Covers m n g (suc k) (swapped p k s) (sortedRows m n g (rowNumbers (now .best)))
+  pub tried : Begins k p (rowNumbers (now .best)) → (s : ℕ) × (k ≤ s) × (s < t) × Marked p keys least dropped s × (getD p s 0 ≡ getD (rowNumbers (now .best)) k 0)
+  pub covers : (s : ℕ) → k ≤ s → s < t → Marked p keys least dropped s → Covers m n g (suc k) (swapped p k s) (sortedRows m n g (rowNumbers (now .best)))
   pub rows : CoveredRows m n g k p (sortedRows m n g (rowNumbers (now .best))) covered
 
-pub record Following (m n : ℕ) (g : List ℕ) (low k : ℕ) (p : List ℕ) (fresh : Bool) (before : Found) (marks : List ℕ) (least t : ℕ) (new : Bool) (now : Found) (covered : List ℕ) : Type 0 where
+pub record Following (m n : ℕ) (g : List ℕ) (low k : ℕ) (p : List ℕ) (fresh : Bool) (before : Found) (keys dropped : List ℕ) (least t : ℕ) (new : Bool) (now : Found) (covered : List ℕ) : Type 0 where
   pub first : k ≤ t
   pub back : k ≤ now .back
   pub size : length covered ≡ 8
   pub keys-size : length (now .keys) ≡ 8
-  pub keys : (i : ℕ) → i < k → getD (now .keys) i 0 ≡ key n g low i p
+  pub placed-keys : (i : ℕ) → i < k → getD (now .keys) i 0 ≡ key n g low i p
   pub next-key : getD (now .keys) k 0 ≡ least
-  pub untried : new ≡ true → (s : ℕ) → k ≤ s → s < t → getD marks s 0 ≡ 0
+  pub untried : new ≡ true → (s : ℕ) → k ≤ s → s < t → Marked p keys least dropped s → ⊥
   pub uncovered : new ≡ true → (r : ℕ) → getD covered r 0 ≡ 0
   pub lowering : new ≡ true → fresh ≡ false → least < getD (before .keys) k 0
-  pub started : new ≡ false → Started m n g low k p fresh before marks least t now covered
+  pub started : new ≡ false → Started m n g low k p fresh before keys dropped least t now covered
   pub symmetries : Symmetries m n g (now .symmetries) (now .kept)
 
 -- whatever else changed, the best, its columns and the numbers of its rows did not
-known-still : (m n : ℕ) (g : List ℕ) (low : ℕ) (f r : Found) → r .best ≡ f .best → r .after ≡ f .after → ((i : ℕ) → getD (r .keys) i 0 ≡ getD (f .keys) i 0) →
+pub known-still : (m n : ℕ) (g : List ℕ) (low : ℕ) (f r : Found) → r .best ≡ f .best → r .after ≡ f .after → ((i : ℕ) → getD (r .keys) i 0 ≡ getD (f .keys) i 0) →
     Known m n g low f → Known m n g low r
 known-still m n g low f r b a keys h = record {
   rows = rw b (h .rows);
@@ -88,7 +89,7 @@ outcome-for m n g low k p fresh before old f e h = record {
   symmetries = h .symmetries;
 }
 
-set-still : (l : List ℕ) (k v : ℕ) → v ≡ getD l k 0 → k < length l → (i : ℕ) → getD (set l k v) i 0 ≡ getD l i 0
+pub set-still : (l : List ℕ) (k v : ℕ) → v ≡ getD l k 0 → k < length l → (i : ℕ) → getD (set l k v) i 0 ≡ getD l i 0
 set-still l k v e h i = go (ℕ-discrete i k)
   where
     go : Dec (i ≡ k) → getD (set l k v) i 0 ≡ getD l i 0
@@ -177,15 +178,15 @@ module _ (m n : ℕ) (g : List ℕ) (low : ℕ) (x y : List ℕ) (k : ℕ) (P : 
         k′ : Known m n g low r
         k′ = known-still m n g low before r (rk′ .best) (rk′ .after) (λ i. ap (λ (l : List ℕ). getD l i 0) (rk′ .keys) ∙ set-still (before .keys) k known e (rw (s .keys-size) (omega arith)) i) (f .known)
 
-    pub following-first : (marks : List ℕ) (least known : ℕ) (b new : Bool) (now : Found) (covered : List ℕ) → known ≡ getD (before .keys) k 0 → Cuts fresh known least b → b ≡ false →
-        Lowers fresh known least new → Rekeyed m k least before now → length covered ≡ 8 → ((r : ℕ) → getD covered r 0 ≡ 0) → Following m n g low k p fresh before marks least k new now covered
+    pub following-first : (dropped : List ℕ) (least known : ℕ) (b new : Bool) (now : Found) (covered : List ℕ) → known ≡ getD (before .keys) k 0 → Cuts fresh known least b → b ≡ false →
+        Lowers fresh known least new → Rekeyed m k least before now → length covered ≡ 8 → ((r : ℕ) → getD covered r 0 ≡ 0) → Following m n g low k p fresh before keys dropped least k new now covered
     unfolding CoveredRows
-    following-first marks least known b new now covered e c y l rk′ size zero = record {
+    following-first dropped least known b new now covered e c y l rk′ size zero = record {
       first = omega arith;
       back = let w = rk′ .back in omega arith;
       size = size;
       keys-size = rw (rk′ .keys) (length-set (before .keys) k least ∙ s .keys-size);
-      keys = λ i ik. rw (rk′ .keys) (getD-set-other (before .keys) k i least 0 (omega arith) ∙ s .keys i ik);
+      placed-keys = λ i ik. rw (rk′ .keys) (getD-set-other (before .keys) k i least 0 (omega arith) ∙ s .keys i ik);
       next-key = rw (rk′ .keys) (getD-set-same (before .keys) k least 0 (rw (s .keys-size) (omega arith)));
       untried = λ z t kt tk. absurd (omega arith);
       uncovered = λ z. zero;
@@ -194,7 +195,7 @@ module _ (m n : ℕ) (g : List ℕ) (low : ℕ) (x y : List ℕ) (k : ℕ) (P : 
       symmetries = rw (rk′ .symmetries, rk′ .kept) (s .symmetries);
     }
       where
-        started : new ≡ false → Started m n g low k p fresh before marks least k now covered
+        started : new ≡ false → Started m n g low k p fresh before keys dropped least k now covered
         started z = record {
           known = k′;
           leading = rw (rk′ .best) (f .leading);
@@ -216,15 +217,15 @@ module _ (m n : ℕ) (g : List ℕ) (low : ℕ) (x y : List ℕ) (k : ℕ) (P : 
             k′ = known-still m n g low before now (rk′ .best) (rk′ .after)
                 (λ i. ap (λ (q : List ℕ). getD q i 0) (rk′ .keys) ∙ set-still (before .keys) k least same (rw (s .keys-size) (omega arith)) i) (f .known)
 
-  module _ (marks : List ℕ) (least t : ℕ) (new : Bool) (now : Found) (covered : List ℕ) (tm : t < m) (h : Following m n g low k p fresh before marks least t new now covered) where
-    pub following-skip : (b : Bool) → IsFollowed marks covered t (getD p t 0) b → b ≡ false → Following m n g low k p fresh before marks least (t + 1) new now covered
+  module _ (keys dropped : List ℕ) (least t : ℕ) (new : Bool) (now : Found) (covered : List ℕ) (tm : t < m) (h : Following m n g low k p fresh before keys dropped least t new now covered) where
+    pub following-skip : (b : Bool) → IsFollowed (getD keys (getD p t 0) 0) least dropped covered t (getD p t 0) b → b ≡ false → Following m n g low k p fresh before keys dropped least (t + 1) new now covered
     unfolding CoveredRows
     following-skip b f y = record {
       first = omega (arith, h .first);
       back = h .back;
       size = h .size;
       keys-size = h .keys-size;
-      keys = h .keys;
+      placed-keys = h .placed-keys;
       next-key = h .next-key;
       untried = λ z u ku ut. untried z u ku ut (ℕ-discrete u t);
       uncovered = h .uncovered;
@@ -242,21 +243,20 @@ module _ (m n : ℕ) (g : List ℕ) (low : ℕ) (x y : List ℕ) (k : ℕ) (P : 
       symmetries = h .symmetries;
     }
       where
-        untried : new ≡ true → (u : ℕ) → k ≤ u → u < t + 1 → Dec (u ≡ t) → getD marks u 0 ≡ 0
-        untried z u ku ut (no e) = h .untried z u ku (omega arith)
-        untried z u ku ut (yes e) = rw e (go (ℕ-discrete (getD marks t 0) 0))
-          where
-            go : Dec (getD marks t 0 ≡ 0) → getD marks t 0 ≡ 0
-            go (yes w) = w
-            go (no w) = absurd (f .passed-over y w (h .uncovered z (getD p t 0)))
+        passed : Marked p keys least dropped t → getD covered (getD p t 0) 0 ≡ 0 → ⊥
+        passed w = f .passed-over y (w .has-least) (w .stays)
 
-        covers : Started m n g low k p fresh before marks least t now covered → (u : ℕ) → k ≤ u → u < t + 1 → (getD marks u 0 ≡ 0 → ⊥) → Dec (u ≡ t) →
+        untried : new ≡ true → (u : ℕ) → k ≤ u → u < t + 1 → Dec (u ≡ t) → Marked p keys least dropped u → ⊥
+        untried z u ku ut (no e) w = h .untried z u ku (omega arith) w
+        untried z u ku ut (yes e) w = passed (rw e at w) (h .uncovered z (getD p t 0))
+
+        covers : Started m n g low k p fresh before keys dropped least t now covered → (u : ℕ) → k ≤ u → u < t + 1 → Marked p keys least dropped u → Dec (u ≡ t) →
             Covers m n g (suc k) (swapped p k u) (sortedRows m n g (rowNumbers (now .best)))
         covers d u ku ut nz (no e) = d .covers u ku (omega arith) nz
-        covers d u ku ut nz (yes e) = rw e (d .rows t (h .first) tm (f .passed-over y (rw e at nz)))
+        covers d u ku ut nz (yes e) = rw e (d .rows t (h .first) tm (passed (rw e at nz)))
 
     -- the row at position t is followed: the order with it next
-    module _ (keys : List ℕ) (rk : RowKeys x a keys) (chosen : Chosen m n g k p keys least marks) (marked : getD marks t 0 ≡ 0 → ⊥) (Q : RowPermutation) (lists : ListsRows (swapped p k t) (P .size) Q) where
+    module _ (rk : RowKeys x a keys) (marked : Marked p keys least dropped t) (Q : RowPermutation) (lists : ListsRows (swapped p k t) (P .size) Q) where
       kt : k ≤ t
       kt = h .first
 
@@ -281,7 +281,7 @@ module _ (m n : ℕ) (g : List ℕ) (low : ℕ) (x y : List ℕ) (k : ℕ) (P : 
 
       q-key : key n g low k q ≡ least
       unfolding q
-      q-key = sym (candidate-key keys rk t kt tm) ∙ chosen .only-least t kt tm marked
+      q-key = sym (candidate-key keys rk t kt tm) ∙ marked .has-least
 
       earlier-key : (i : ℕ) → i < k → key n g low i q ≡ key n g low i p
       earlier-key i ik = key-agree n g low i q p (λ j ji. q-stays j (omega arith))
@@ -314,9 +314,9 @@ module _ (m n : ℕ) (g : List ℕ) (low : ℕ) (x y : List ℕ) (k : ℕ) (P : 
 
           keys-are : (i : ℕ) → i < suc k → Dec (i ≡ k) → getD (now .keys) i 0 ≡ key n g low i q
           keys-are i ik (yes z) = rw z (h .next-key ∙ sym q-key)
-          keys-are i ik (no z) = h .keys i (omega arith) ∙ sym (earlier-key i (omega arith))
+          keys-are i ik (no z) = h .placed-keys i (omega arith) ∙ sym (earlier-key i (omega arith))
 
-          follows : Started m n g low k p fresh before marks least t now covered → Follows m n g low (suc k) q now
+          follows : Started m n g low k p fresh before keys dropped least t now covered → Follows m n g low (suc k) q now
           follows d = record {
             known = d .known;
             leading = equal-key (rowNumbers (now .best)) q (d .known .rows .whole) oq (d .leading ∙ sym q-lead) (d .least-key ∙ sym q-key);
@@ -326,7 +326,7 @@ module _ (m n : ℕ) (g : List ℕ) (low : ℕ) (x y : List ℕ) (k : ℕ) (P : 
               last : Begins (suc k) q (rowNumbers (now .best)) → getD (rowNumbers (now .best)) k 0 ≡ getD p t 0
               last w = begins-last (rowNumbers (now .best)) w
 
-              apart : (u : ℕ) × (k ≤ u) × (u < t) × (getD marks u 0 ≡ 0 → ⊥) × (getD p u 0 ≡ getD (rowNumbers (now .best)) k 0) → getD (rowNumbers (now .best)) k 0 ≡ getD p t 0 → ⊥
+              apart : (u : ℕ) × (k ≤ u) × (u < t) × Marked p keys least dropped u × (getD p u 0 ≡ getD (rowNumbers (now .best)) k 0) → getD (rowNumbers (now .best)) k 0 ≡ getD p t 0 → ⊥
               apart z w = let e = once (z .0) t (omega (arith, z .2)) tm (z .4 ∙ w) in omega (arith, z .2)
 
       -- the search of its branch found f
@@ -398,12 +398,12 @@ module _ (m n : ℕ) (g : List ℕ) (low : ℕ) (x y : List ℕ) (k : ℕ) (P : 
         }
 
         -- the best's next row was tried: those of the rows before t, or the row at t itself
-        tried : Begins k p best → (u : ℕ) × (k ≤ u) × (u < t + 1) × (getD marks u 0 ≡ 0 → ⊥) × (getD p u 0 ≡ getD best k 0)
+        tried : Begins k p best → (u : ℕ) × (k ≤ u) × (u < t + 1) × Marked p keys least dropped u × (getD p u 0 ≡ getD best k 0)
         unfolding best
         tried b = go (out .from)
           where
             go : ((new ≡ false) × (rowNumbers (f .best) ≡ rowNumbers (now .best))) ⊎ Begins (suc k) q (rowNumbers (f .best)) →
-                (u : ℕ) × (k ≤ u) × (u < t + 1) × (getD marks u 0 ≡ 0 → ⊥) × (getD p u 0 ≡ getD (rowNumbers (f .best)) k 0)
+                (u : ℕ) × (k ≤ u) × (u < t + 1) × Marked p keys least dropped u × (getD p u 0 ≡ getD (rowNumbers (f .best)) k 0)
             go (inr w) = (t, kt, omega arith, marked, sym (begins-last (rowNumbers (f .best)) w))
             go (inl e) = let d = h .started (e .0) .tried (rw (e .1) at b) in (d .0, d .1, omega (arith, d .2), d .3, d .4 ∙ ap (λ (l : List ℕ). getD l k 0) (sym (e .1)))
 
@@ -450,14 +450,14 @@ module _ (m n : ℕ) (g : List ℕ) (low : ℕ) (x y : List ℕ) (k : ℕ) (P : 
                         copied w (z .0) (z .1) (omega (arith, z .2)) (z .4 ∙ ap (λ (l : List ℕ). getD l k 0) (sym (e .1))) (still (e .0) (z .0) (d .covers (z .0) (z .1) (z .2) (z .3)))
 
         pub following-next : (row : ℕ) → row ≡ getD p t 0 → (covered′ : List ℕ) → Spreads m n g k p (set covered row 1) covered′ → k ≤ f .back →
-            Following m n g low k p fresh before marks least (t + 1) false f covered′
+            Following m n g low k p fresh before keys dropped least (t + 1) false f covered′
         unfolding best q CoveredRows
         following-next row e covered′ spread kb = record {
           first = omega arith;
           back = kb;
           size = spread .size;
           keys-size = out .keys-size;
-          keys = λ i ik. out .known .keys i (omega arith) ∙ earlier i ik;
+          placed-keys = λ i ik. out .known .keys i (omega arith) ∙ earlier i ik;
           next-key = out .known .keys k km ∙ best-key;
           untried = λ z. absurd (true≢false (sym z));
           uncovered = λ z. absurd (true≢false (sym z));
@@ -475,12 +475,12 @@ module _ (m n : ℕ) (g : List ℕ) (low : ℕ) (x y : List ℕ) (k : ℕ) (P : 
           symmetries = out .symmetries;
         }
           where
-            covers : (u : ℕ) → k ≤ u → u < t + 1 → (getD marks u 0 ≡ 0 → ⊥) → Dec (u ≡ t) → Covers m n g (suc k) (swapped p k u) (sortedRows m n g (rowNumbers (f .best)))
+            covers : (u : ℕ) → k ≤ u → u < t + 1 → Marked p keys least dropped u → Dec (u ≡ t) → Covers m n g (suc k) (swapped p k u) (sortedRows m n g (rowNumbers (f .best)))
             covers u ku ut nz (yes z) = rw z (this kb)
             covers u ku ut nz (no z) = go new refl
               where
                 go : (b : Bool) → new ≡ b → Covers m n g (suc k) (swapped p k u) (sortedRows m n g (rowNumbers (f .best)))
-                go true w = absurd (nz (h .untried w u ku (omega arith)))
+                go true w = absurd (h .untried w u ku (omega arith) nz)
                 go false w = still w u (h .started w .covers u ku (omega arith) nz)
 
             rows : (u : ℕ) → k ≤ u → u < m → (getD (set covered row 1) (getD p u 0) 0 ≡ 0 → ⊥) → Dec (getD p u 0 ≡ row) → Covers m n g (suc k) (swapped p k u) (sortedRows m n g (rowNumbers (f .best)))
@@ -494,16 +494,16 @@ module _ (m n : ℕ) (g : List ℕ) (low : ℕ) (x y : List ℕ) (k : ℕ) (P : 
                 go true w = absurd (nz′ (h .uncovered w (getD p u 0)))
                 go false w = still w u (h .started w .rows u ku um nz′)
 
-  pub followed-all : (keys : List ℕ) → RowKeys x a keys → (marks : List ℕ) (least t : ℕ) (new : Bool) (now : Found) (covered : List ℕ) → m ≤ t → Lowest m k p keys least → Chosen m n g k p keys least marks →
-      Following m n g low k p fresh before marks least t new now covered → Outcome m n g low k p fresh before now
+  pub followed-all : (keys : List ℕ) → RowKeys x a keys → (dropped : List ℕ) (least t : ℕ) (new : Bool) (now : Found) (covered : List ℕ) → m ≤ t → Lowest m k p keys least → Chosen m n g k p keys least dropped →
+      Following m n g low k p fresh before keys dropped least t new now covered → Outcome m n g low k p fresh before now
   unfolding Next
-  followed-all keys rk marks least t new now covered mt low-is chosen h = go new refl
+  followed-all keys rk dropped least t new now covered mt low-is chosen h = go new refl
     where
       go : (b : Bool) → new ≡ b → Outcome m n g low k p fresh before now
       go true e =
           let r = low-is .reached in
           let c = chosen .as-good (r .0) (r .1) (r .2) (r .3) in
-          absurd (c .3 (h .untried e (c .0) (c .1) (omega (arith, c .2))))
+          absurd (h .untried e (c .0) (c .1) (omega (arith, c .2)) (c .3))
       go false e = record {
         known = d .known;
         keys-size = h .keys-size;
@@ -515,7 +515,7 @@ module _ (m n : ℕ) (g : List ℕ) (low : ℕ) (x y : List ℕ) (k : ℕ) (P : 
         symmetries = h .symmetries;
       }
         where
-          d : Started m n g low k p fresh before marks least t now covered
+          d : Started m n g low k p fresh before keys dropped least t now covered
           d = h .started e
 
           each : (u : ℕ) → k ≤ u → u < m → Dec (getD keys (getD p u 0) 0 ≡ least) → Covers m n g (suc k) (swapped p k u) (sortedRows m n g (rowNumbers (now .best)))
@@ -536,41 +536,38 @@ standing-row m n g low x y k P a fresh f s t tm row e = let w = at-whole 8 m (ro
 
 -- ---- the loop of `place`
 
-pub record Turn (m n : ℕ) (g : List ℕ) (low : ℕ) (x y : List ℕ) (k : ℕ) (P : RowPermutation) (a : List ℕ) (fresh : Bool) (least : ℕ) (marks : List ℕ) (start : Found) (t : ℕ) (new : Bool) (now : Found)
+pub record Turn (m n : ℕ) (g : List ℕ) (low : ℕ) (x y : List ℕ) (k : ℕ) (P : RowPermutation) (a : List ℕ) (fresh : Bool) (keys : List ℕ) (least : ℕ) (dropped : List ℕ) (start : Found) (t : ℕ) (new : Bool) (now : Found)
     (covered : List ℕ) : Type 0 where
   pub before : Found
-  pub keys : List ℕ
   pub stands : Standing m n g low x y k P a fresh before
   pub within : k < m
   pub row-keys : RowKeys x a keys
   pub lowest : Lowest m k (rowNumbers P) keys least
-  pub chosen : Chosen m n g k (rowNumbers P) keys least marks
+  pub chosen : Chosen m n g k (rowNumbers P) keys least dropped
   pub same-best : before .best ≡ start .best
-  pub following : Following m n g low k (rowNumbers P) fresh before marks least t new now covered
+  pub following : Following m n g low k (rowNumbers P) fresh before keys dropped least t new now covered
 
-module _ (m n : ℕ) (g : List ℕ) (low : ℕ) (x y : List ℕ) (k : ℕ) (P : RowPermutation) (a : List ℕ) (fresh : Bool) (least : ℕ) (marks : List ℕ) where
-  pub turn-first : (before start : Found) (keys : List ℕ) (known : ℕ) (b new : Bool) (covered : List ℕ) → Standing m n g low x y k P a fresh before → k < m → RowKeys x a keys → Lowest m k (rowNumbers P) keys least →
-      Chosen m n g k (rowNumbers P) keys least marks → known ≡ getD (before .keys) k 0 → Cuts fresh known least b → b ≡ false → Lowers fresh known least new → Rekeyed m k least before start → length covered ≡ 8 →
-      ((r : ℕ) → getD covered r 0 ≡ 0) → Turn m n g low x y k P a fresh least marks start k new start covered
-  turn-first before start keys known b new covered s km rk l c e cuts y lowers rk′ size zero = record {
+module _ (m n : ℕ) (g : List ℕ) (low : ℕ) (x y : List ℕ) (k : ℕ) (P : RowPermutation) (a : List ℕ) (fresh : Bool) (keys : List ℕ) (least : ℕ) (dropped : List ℕ) where
+  pub turn-first : (before start : Found) (known : ℕ) (b new : Bool) (covered : List ℕ) → Standing m n g low x y k P a fresh before → k < m → RowKeys x a keys → Lowest m k (rowNumbers P) keys least →
+      Chosen m n g k (rowNumbers P) keys least dropped → known ≡ getD (before .keys) k 0 → Cuts fresh known least b → b ≡ false → Lowers fresh known least new → Rekeyed m k least before start → length covered ≡ 8 →
+      ((r : ℕ) → getD covered r 0 ≡ 0) → Turn m n g low x y k P a fresh keys least dropped start k new start covered
+  turn-first before start known b new covered s km rk l c e cuts y lowers rk′ size zero = record {
     before = before;
-    keys = keys;
     stands = s;
     within = km;
     row-keys = rk;
     lowest = l;
     chosen = c;
     same-best = sym (rk′ .best);
-    following = following-first m n g low x _ k P a fresh before s km keys rk marks least known b new start covered e cuts y lowers rk′ size zero;
+    following = following-first m n g low x _ k P a fresh before s km keys rk dropped least known b new start covered e cuts y lowers rk′ size zero;
   }
 
-  module _ (start : Found) (t : ℕ) (new : Bool) (now : Found) (covered : List ℕ) (tm : t < m) (h : Turn m n g low x y k P a fresh least marks start t new now covered) where
+  module _ (start : Found) (t : ℕ) (new : Bool) (now : Found) (covered : List ℕ) (tm : t < m) (h : Turn m n g low x y k P a fresh keys least dropped start t new now covered) where
     -- the next turn, from what holds before it
-    turned : (t′ : ℕ) (new′ : Bool) (now′ : Found) (covered′ : List ℕ) → Following m n g low k (rowNumbers P) fresh (h .before) marks least t′ new′ now′ covered′ →
-        Turn m n g low x y k P a fresh least marks start t′ new′ now′ covered′
+    turned : (t′ : ℕ) (new′ : Bool) (now′ : Found) (covered′ : List ℕ) → Following m n g low k (rowNumbers P) fresh (h .before) keys dropped least t′ new′ now′ covered′ →
+        Turn m n g low x y k P a fresh keys least dropped start t′ new′ now′ covered′
     turned t′ new′ now′ covered′ f = record {
       before = h .before;
-      keys = h .keys;
       stands = h .stands;
       within = h .within;
       row-keys = h .row-keys;
@@ -580,31 +577,34 @@ module _ (m n : ℕ) (g : List ℕ) (low : ℕ) (x y : List ℕ) (k : ℕ) (P : 
       following = f;
     }
 
-    pub turn-skip : (row : ℕ) → row ≡ getD (rowNumbers P) t 0 → (b : Bool) → IsFollowed marks covered t row b → b ≡ false → Turn m n g low x y k P a fresh least marks start (t + 1) new now covered
-    turn-skip row e b f z =
+    pub turn-skip : (row : ℕ) → row ≡ getD (rowNumbers P) t 0 → (key : ℕ) → key ≡ getD keys row 0 → (b : Bool) → IsFollowed key least dropped covered t row b → b ≡ false → Turn m n g low x y k P a fresh keys least dropped start (t + 1) new now covered
+    turn-skip row e key ek b f z =
         turned (t + 1) new now covered
-        (following-skip m n g low x y k P a fresh (h .before) (h .stands) (h .within) marks least t new now covered tm (h .following) b (rw e at f) z)
+        (following-skip m n g low x y k P a fresh (h .before) (h .stands) (h .within) keys dropped least t new now covered tm (h .following) b (rw (ek, e) at f) z)
 
-    module _ (row : ℕ) (e : row ≡ getD (rowNumbers P) t 0) (b : Bool) (f : IsFollowed marks covered t row b) (z : b ≡ true) (Q : RowPermutation) (lists : ListsRows (swapped (rowNumbers P) k t) (P .size) Q) where
+    module _ (row : ℕ) (e : row ≡ getD (rowNumbers P) t 0) (key : ℕ) (ek : key ≡ getD keys row 0) (b : Bool) (f : IsFollowed key least dropped covered t row b) (z : b ≡ true) (Q : RowPermutation) (lists : ListsRows (swapped (rowNumbers P) k t) (P .size) Q) where
+      marked : Marked (rowNumbers P) keys least dropped t
+      marked = record { has-least = rw (← e, ← ek) (f .has-least z); stays = f .stays z }
+
       pub turn-stands : (c : List ℕ) → Refined y row a c → Standing m n g low x y (k + 1) Q c new now
       turn-stands c r =
           rw add-one
-          (followed-stands m n g low x y k P a fresh (h .before) (h .stands) (h .within) marks least t new now covered tm (h .following) (h .keys) (h .row-keys) (h .chosen) (f .marked z) Q lists row e c r)
+          (followed-stands m n g low x y k P a fresh (h .before) (h .stands) (h .within) keys dropped least t new now covered tm (h .following) (h .row-keys) marked Q lists row e c r)
 
       pub turn-back : (out : Found) → Outcome m n g low (k + 1) (rowNumbers Q) new now out → out .back < k → (old : Found) → start .best ≡ old .best → Outcome m n g low k (rowNumbers P) fresh old out
       turn-back out o l old same =
           outcome-for m n g low k (rowNumbers P) fresh (h .before) old out (h .same-best ∙ same)
-          (followed-back m n g low x y k P a fresh (h .before) (h .stands) (h .within) marks least t new now covered tm (h .following) (h .keys) (h .row-keys) (h .chosen) (f .marked z) Q lists out o l)
+          (followed-back m n g low x y k P a fresh (h .before) (h .stands) (h .within) keys dropped least t new now covered tm (h .following) (h .row-keys) marked Q lists out o l)
 
       pub turn-next : (out : Found) → Outcome m n g low (k + 1) (rowNumbers Q) new now out → (out .back < k → ⊥) → (covered′ : List ℕ) → Spreads m n g k (rowNumbers P) (set covered row 1) covered′ →
-          Turn m n g low x y k P a fresh least marks start (t + 1) false out covered′
+          Turn m n g low x y k P a fresh keys least dropped start (t + 1) false out covered′
       turn-next out o l covered′ spread =
           turned (t + 1) false out covered′
-          (following-next m n g low x y k P a fresh (h .before) (h .stands) (h .within) marks least t new now covered tm (h .following) (h .keys) (h .row-keys) (h .chosen) (f .marked z) Q lists out o row e covered′ spread
+          (following-next m n g low x y k P a fresh (h .before) (h .stands) (h .within) keys dropped least t new now covered tm (h .following) (h .row-keys) marked Q lists out o row e covered′ spread
           (omega arith))
 
-  pub turn-all : (start : Found) (t : ℕ) (new : Bool) (now : Found) (covered : List ℕ) → m ≤ t → Turn m n g low x y k P a fresh least marks start t new now covered → (old : Found) → start .best ≡ old .best →
+  pub turn-all : (start : Found) (t : ℕ) (new : Bool) (now : Found) (covered : List ℕ) → m ≤ t → Turn m n g low x y k P a fresh keys least dropped start t new now covered → (old : Found) → start .best ≡ old .best →
       Outcome m n g low k (rowNumbers P) fresh old now
   turn-all start t new now covered mt h old same =
       outcome-for m n g low k (rowNumbers P) fresh (h .before) old now (h .same-best ∙ same)
-      (followed-all m n g low x y k P a fresh (h .before) (h .stands) (h .within) (h .keys) (h .row-keys) marks least t new now covered mt (h .lowest) (h .chosen) (h .following))
+      (followed-all m n g low x y k P a fresh (h .before) (h .stands) (h .within) keys (h .row-keys) dropped least t new now covered mt (h .lowest) (h .chosen) (h .following))

@@ -2,22 +2,21 @@
 --
 --   reached-new      ==  a new best: the row order at hand
 --   reached-copy     ==  an arrangement that equals the best: where the two row orders part, and the symmetries known
-use mathlib.Core.Path.{_≡_, refl, sym, ap, _∙_}
+use mathlib.Core.Path.{_≡_, sym, ap, _∙_}
 use mathlib.Core.List.{List}
 use mathlib.Core.Bool.{Bool, true, false, true≢false}
-use mathlib.Core.Logic.{_⊎_, inl, inr}
-use Prim.Native.Nat.{ℕ, suc, _+_, _*_, _≤_, _<_}
-use native.Mathlib.Decide.{decLt}
+use mathlib.Core.Logic.{inl, inr}
+use Prim.Native.Nat.{ℕ, _<_}
 use native.Mathlib.Omega.{arith}
-use lib.ListN.{length, getD, take}
+use lib.ListN.{getD, take}
 use lib.Seq.{getD-take}
 use Rattle.permutations.specs.declared.rows.RowPermutation.{RowPermutation}
 use Rattle.permutations.specs.Rows.{rowNumbers}
 use Rattle.grids.proofs.OrderLaws.{≼-refl}
-use Rattle.branches.specs.Branches.{Begins, Covers}
+use Rattle.branches.specs.Branches.{Begins}
 use Rattle.two_values.specs.declared.search.Found.{Found}
 use Rattle.two_values.specs.TwoValues.{sortedRows}
-use Rattle.two_values.specs.Search.{Symmetries, Known, Follows, CommonRows, Standing, Alike, Outcome}
+use Rattle.two_values.specs.Search.{Symmetries, Follows, CommonRows, Standing, Alike, Outcome}
 use Rattle.two_values.proofs.SortedRows.{sorted-agree, sorted-placed}
 
 module _ (m n : ℕ) (g : List ℕ) (low : ℕ) (x y : List ℕ) (P : RowPermutation) (a : List ℕ) (fresh : Bool) (before : Found) (s : Standing m n g low x y m P a fresh before) where

@@ -4,7 +4,7 @@
 --   CommonUpTo a b count i  ==  a and b begin with i entries in common, at most count
 --   common-none, common-more, common-parts, common-all  ==  counting them: at first, one more, two that differ, and up to count
 --   cut-fresh, lower-fresh  ==  nothing is cut and all is lower where the best's next row is not known
---   followed-unmarked, followed-marked  ==  whether a position is followed: one without a mark, and one with a mark
+--   followed-higher, followed-dropped, followed-left  ==  whether a row is followed: one whose number is not the least, one whose position is dropped, and any other
 use mathlib.Core.Path.{_≡_, sym, ap, _∙_}
 use mathlib.Core.List.{List}
 use mathlib.Core.Bool.{Bool, true, false, true≢false}
@@ -74,8 +74,12 @@ cut-fresh fresh known least e = record { yes = λ h. absurd (true≢false (sym h
 pub lower-fresh : (fresh : Bool) (known least : ℕ) → fresh ≡ true → Lowers fresh known least true
 lower-fresh fresh known least e = record { yes = λ h f. absurd (true≢false (sym e ∙ f)); no = λ h. absurd (true≢false h) }
 
-pub followed-unmarked : (marks covered : List ℕ) (t row : ℕ) → getD marks t 0 ≡ 0 → IsFollowed marks covered t row false
-followed-unmarked marks covered t row e = record { marked = λ h. absurd (true≢false (sym h)); passed-over = λ h n f. n e }
+module _ (key least : ℕ) (dropped covered : List ℕ) (t row : ℕ) where
+  pub followed-higher : (key ≡ least → ⊥) → IsFollowed key least dropped covered t row false
+  followed-higher n = record { has-least = λ h. absurd (true≢false (sym h)); stays = λ h. absurd (true≢false (sym h)); passed-over = λ h e z f. n e }
 
-pub followed-marked : (marks covered : List ℕ) (t row : ℕ) → (getD marks t 0 ≡ 0 → ⊥) → IsFollowed marks covered t row (eqb (getD covered row 0) 0)
-followed-marked marks covered t row n = record { marked = λ h. n; passed-over = λ h m. eqb-false _ _ h }
+  pub followed-dropped : (getD dropped t 0 ≡ 0 → ⊥) → IsFollowed key least dropped covered t row false
+  followed-dropped n = record { has-least = λ h. absurd (true≢false (sym h)); stays = λ h. absurd (true≢false (sym h)); passed-over = λ h e z f. n z }
+
+  pub followed-left : key ≡ least → getD dropped t 0 ≡ 0 → IsFollowed key least dropped covered t row (eqb (getD covered row 0) 0)
+  followed-left e z = record { has-least = λ h. e; stays = λ h. z; passed-over = λ h f w. eqb-false _ _ h }

@@ -10,6 +10,7 @@
 --   fixes-none, fixes-next, fixes-not, fixes-all  ==  the rows placed compared with their images, one by one
 --   reached-none, reached-next  ==  the images of the marked rows marked, row by row
 --   spreads-refl, spreads-images  ==  what covers the rows marked covers their images
+--   spreads-marked  ==  what covers the rows marked with one more covers those without it
 use mathlib.Core.Path.{_≡_, refl, sym, ap, _∙_}
 use mathlib.Core.List.{List}
 use mathlib.Core.Bool.{Bool, true, false, true≢false}
@@ -212,6 +213,17 @@ reached-next m l s a b x v xm ne e h = record { size = length-set b v 1 ∙ h .s
 
 pub spreads-refl : (m n : ℕ) (g : List ℕ) (k : ℕ) (p a : List ℕ) → length a ≡ 8 → Spreads m n g k p a a
 spreads-refl m n g k p a e = record { size = e; covers = λ r c. c }
+
+pub spreads-marked : (m n : ℕ) (g : List ℕ) (k : ℕ) (p a : List ℕ) (x : ℕ) → x < 8 → length a ≡ 8 → Spreads m n g k p (set a x 1) a
+unfolding CoveredRows
+spreads-marked m n g k p a x x8 e = record { size = e; covers = λ r c t kt tm h. c t kt tm (still (getD p t 0) h (ℕ-discrete (getD p t 0) x)) }
+  where
+    still : (y : ℕ) → (getD a y 0 ≡ 0 → ⊥) → Dec (y ≡ x) → getD (set a x 1) y 0 ≡ 0 → ⊥
+    still y h (yes f) z =
+        let v : getD (set a x 1) x 0 ≡ 1 = getD-set-same a x 1 0 (omega arith) in
+        let w : getD (set a x 1) x 0 ≡ 0 = rw f at z in
+        omega arith
+    still y h (no nf) z = h (sym (getD-set-other a x y 1 0 nf) ∙ z)
 
 module _ (m n : ℕ) (g : List ℕ) (k : ℕ) (p l : List ℕ) (s : ℕ) (m8 : m ≤ 8) (km : k < m) (o : IsPadded 8 m p) (y : IsSymmetry m n g (λ x. getD l (s * 8 + x) 0))
     (fixed : (i : ℕ) → i < k → getD l (s * 8 + getD p i 0) 0 ≡ getD p i 0) (r a : List ℕ) (c : CoveredRows m n g k p r a) where

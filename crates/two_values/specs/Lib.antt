@@ -5,3 +5,4 @@ pub mod Search
 pub mod Symmetries
 pub mod Domination
 pub mod Arranged
+pub mod Settled

@@ -5,7 +5,8 @@
 --   PlacesBy k n g p a   ==  a holds how many columns come after each, by the first k rows of the order p
 --   Next m n g k p s t   ==  what covers placing the row at position s of p next, after the first k rows, covers placing the row at t
 --   Drops m n g k p a b  ==  b marks positions of p that a marks, and for each that a marks one whose branch is as good
---   Chosen m n g k p keys least b  ==  of the positions of p from k on with the least number, b marks some, so that for each there is one whose branch is as good
+--   Marked p keys least b t  ==  the row at position t of p has the least number, and b does not drop the position
+--   Chosen m n g k p keys least b  ==  for each position of p from k on with the least number there is one that b does not drop, whose branch is as good
 --   IsSymmetry m n g f   ==  the map f of row numbers carries a row order to another with the same arrangement
 --   Symmetries m n g l count  ==  l holds `count` of them, eight numbers each
 --   CoveredRows m n g k p r l  ==  of the rows that l marks, each branch with one of them placed next is covered by r
@@ -16,7 +17,7 @@
 --   Cuts fresh known least b  ==  b tells whether the best's next row is known and lower than the least
 --   Lowers fresh known least b  ==  b tells whether it is not known, or higher
 --   Rekeyed m k least f r  ==  r is f with the number of row k, and goes back to m
---   IsFollowed marks covered t row b  ==  b tells whether position t is marked, and its row not covered yet
+--   IsFollowed key least dropped covered t row b  ==  b tells whether the row's number is the least, position t is not dropped, and the row not covered yet
 --   Tables m n g low x y ==  the tables of a grid with two values
 --   Known m n g low f    ==  what f holds of its best: the numbers of all rows, and how many columns come after each
 --   Standing ..          ==  the search stands so: the first k rows of p are placed, and f holds the best
@@ -50,10 +51,13 @@ pub record Drops (m n : ℕ) (g : List ℕ) (k : ℕ) (p a b : List ℕ) : Type 
   pub fewer : (t : ℕ) → (getD b t 0 ≡ 0 → ⊥) → getD a t 0 ≡ 0 → ⊥
   pub as-good : (t : ℕ) → k ≤ t → t < m → (getD a t 0 ≡ 0 → ⊥) → (s : ℕ) × (k ≤ s) × (s < m) × (getD b s 0 ≡ 0 → ⊥) × Next m n g k p s t
 
+pub record Marked (p keys : List ℕ) (least : ℕ) (b : List ℕ) (t : ℕ) : Type 0 where
+  pub has-least : getD keys (getD p t 0) 0 ≡ least
+  pub stays : getD b t 0 ≡ 0
+
 pub record Chosen (m n : ℕ) (g : List ℕ) (k : ℕ) (p keys : List ℕ) (least : ℕ) (b : List ℕ) : Type 0 where
   pub size : length b ≡ 8
-  pub only-least : (t : ℕ) → k ≤ t → t < m → (getD b t 0 ≡ 0 → ⊥) → getD keys (getD p t 0) 0 ≡ least
-  pub as-good : (t : ℕ) → k ≤ t → t < m → getD keys (getD p t 0) 0 ≡ least → (s : ℕ) × (k ≤ s) × (s < m) × (getD b s 0 ≡ 0 → ⊥) × Next m n g k p s t
+  pub as-good : (t : ℕ) → k ≤ t → t < m → getD keys (getD p t 0) 0 ≡ least → (s : ℕ) × (k ≤ s) × (s < m) × Marked p keys least b s × Next m n g k p s t
 
 pub record IsSymmetry (m n : ℕ) (g : List ℕ) (f : ℕ → ℕ) : Type 0 where
   pub rows : List ℕ
@@ -114,9 +118,10 @@ pub record Rekeyed (m k least : ℕ) (f r : Found) : Type 0 where
   pub symmetries : r .symmetries ≡ f .symmetries
   pub kept : r .kept ≡ f .kept
 
-pub record IsFollowed (marks covered : List ℕ) (t row : ℕ) (b : Bool) : Type 0 where
-  pub marked : b ≡ true → getD marks t 0 ≡ 0 → ⊥
-  pub passed-over : b ≡ false → (getD marks t 0 ≡ 0 → ⊥) → getD covered row 0 ≡ 0 → ⊥
+pub record IsFollowed (key least : ℕ) (dropped covered : List ℕ) (t row : ℕ) (b : Bool) : Type 0 where
+  pub has-least : b ≡ true → key ≡ least
+  pub stays : b ≡ true → getD dropped t 0 ≡ 0
+  pub passed-over : b ≡ false → key ≡ least → getD dropped t 0 ≡ 0 → getD covered row 0 ≡ 0 → ⊥
 
 pub record Tables (m n : ℕ) (g : List ℕ) (low : ℕ) (x y : List ℕ) : Type 0 where
   pub rows-fit : m ≤ 8

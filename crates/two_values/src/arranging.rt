@@ -2,6 +2,7 @@
 use crate::columns;
 use crate::search;
 use crate::search::Found;
+use crate::settled;
 use crate::tables;
 use crate::values;
 use permutations::columns::ColumnPermutation;
@@ -10,7 +11,9 @@ ghost use mathlib.Core.Path.{_≡_};
 ghost use mathlib.Core.Bool.{true};
 ghost use Prim.Native.Nat.{_*_, _≤_, _<_};
 ghost use lib.ListN.{length};
+ghost use Rattle.permutations.specs.Rows.{rowNumbers};
 ghost use Rattle.two_values.specs.TwoValues.{TwoValued};
+ghost use Rattle.two_values.specs.Search.{Standing, Outcome};
 ghost use Rattle.two_values.specs.Arranged.{ArrangedLeast, firstPlace, FirstPlaces};
 
 // Orders that give the least arrangement, where `found` says so.
@@ -45,6 +48,43 @@ fn first_places(n: usize) -> [u8; 16]
     out
 }
 
+// What the search finds from its start: columns that are told apart with no row placed need none.
+fn begun(
+    grid: &[u8],
+    columns: &[u32; 128],
+    table: &[u8; 128],
+    m: usize,
+    n: usize,
+    low: u8,
+    rows: RowPermutation,
+    after: [u8; 16],
+    start: Found,
+) -> Found
+    requires { ⌜ Standing m n (now grid) low (now columns) (now table) 0 rows after true start ⌝ }
+    ensures { λ r. ⌜ Outcome m n (now (grid .entry)) low 0 (rowNumbers rows) true start r ⌝ }
+{
+    if 0 < m {
+        if settled::tells_all(m, n, 0, after) {
+            let sorted = settled::completed(
+                grid,
+                columns,
+                table,
+                m,
+                n,
+                low,
+                0,
+                rows,
+                after,
+                true,
+                start,
+            );
+            return sorted;
+        }
+    }
+    let placed = search::place(grid, columns, table, m, n, low, 0, rows, after, true, start);
+    placed
+}
+
 // The orders of the least arrangement of a grid whose lower value is `low`.
 fn searched(grid: &[u8], m: usize, n: usize, low: u8) -> Arranged
     requires { ⌜ (m ≤ 8) × (n ≤ 16) × (length (now grid) ≡ m * n) × TwoValued (now grid) low ⌝ }
@@ -64,19 +104,7 @@ fn searched(grid: &[u8], m: usize, n: usize, low: u8) -> Arranged
         symmetries,
         kept: 0,
     };
-    let found = search::place(
-        grid,
-        &columns,
-        &table,
-        m,
-        n,
-        low,
-        0,
-        rows,
-        after,
-        true,
-        start,
-    );
+    let found = begun(grid, &columns, &table, m, n, low, rows, after, start);
     let places = found.after;
     let best = found.best;
     let order = columns::sorted(places, n);

@@ -3,6 +3,7 @@ pub mod arranging;
 mod columns;
 mod domination;
 mod search;
+mod settled;
 mod symmetries;
 mod tables;
 mod values;

@@ -2,13 +2,14 @@
 // row that can come next has a number, and the row with the lesser number gives the lesser next row; all that have the least one are followed.
 use crate::columns;
 use crate::domination;
+use crate::settled;
 use crate::symmetries;
 use permutations::rows::RowNumber;
 use permutations::rows::RowPermutation;
 ghost use mathlib.Core.Path.{_≡_};
-ghost use Prim.Native.Nat.{_≤_, _<_};
+ghost use Prim.Native.Nat.{_<_};
 ghost use lib.ListN.{getD};
-ghost use Rattle.permutations.specs.Rows.{rowNumbers, IsRowPermutation};
+ghost use Rattle.permutations.specs.Rows.{rowNumbers};
 ghost use Rattle.two_values.specs.Search.{Standing, Outcome, Lowest, CommonRows, Cuts, Lowers, Rekeyed, IsFollowed};
 
 // The best, the numbers of its rows, and how many columns come after each; the position that the search can go back to; and the
@@ -24,7 +25,7 @@ pub struct Found {
 }
 
 // The number at a position; 0 past the end.
-fn number_at(numbers: [u32; 8], i: usize) -> u32
+pub fn number_at(numbers: [u32; 8], i: usize) -> u32
     ensures { λ r. ⌜ r ≡ getD numbers i 0 ⌝ }
 {
     if i < 8 { numbers[i] } else { 0 }
@@ -62,7 +63,7 @@ fn common(a: RowPermutation, b: RowPermutation, count: usize) -> usize
 }
 
 // Whether the best's next row is known, and lower than the least.
-fn is_cut(fresh: bool, known: u32, least: u32) -> bool
+pub fn is_cut(fresh: bool, known: u32, least: u32) -> bool
     ensures { λ r. ⌜ Cuts fresh known least r ⌝ }
 {
     if fresh {
@@ -72,7 +73,7 @@ fn is_cut(fresh: bool, known: u32, least: u32) -> bool
 }
 
 // Whether the best's next row is not known, or higher than the least.
-fn is_lower(fresh: bool, known: u32, least: u32) -> bool
+pub fn is_lower(fresh: bool, known: u32, least: u32) -> bool
     ensures { λ r. ⌜ Lowers fresh known least r ⌝ }
 {
     if fresh {
@@ -82,7 +83,7 @@ fn is_lower(fresh: bool, known: u32, least: u32) -> bool
 }
 
 // What was found, with the number of row k.
-fn rekeyed(found: Found, m: usize, k: usize, least: u32) -> Found
+pub fn rekeyed(found: Found, m: usize, k: usize, least: u32) -> Found
     requires { ⌜ k < 8 ⌝ }
     ensures { λ r. ⌜ Rekeyed m k least found r ⌝ }
 {
@@ -92,12 +93,22 @@ fn rekeyed(found: Found, m: usize, k: usize, least: u32) -> Found
     out
 }
 
-// Whether a position is marked, and its row not covered yet.
-fn is_followed(marks: [u8; 8], covered: [u8; 8], t: usize, row: RowNumber) -> bool
+// Whether a row has the least number, its position is not dropped, and it is not covered yet.
+fn is_followed(
+    key: u32,
+    least: u32,
+    dropped: [u8; 8],
+    covered: [u8; 8],
+    t: usize,
+    row: RowNumber,
+) -> bool
     requires { ⌜ (t < 8) × (row .0 < 8) ⌝ }
-    ensures { λ r. ⌜ IsFollowed marks covered t (row .0) r ⌝ }
+    ensures { λ r. ⌜ IsFollowed key least dropped covered t (row .0) r ⌝ }
 {
-    if marks[t] == 0 {
+    if key != least {
+        return false;
+    }
+    if dropped[t] != 0 {
         return false;
     }
     let at = row.0 as usize;
@@ -105,7 +116,7 @@ fn is_followed(marks: [u8; 8], covered: [u8; 8], t: usize, row: RowNumber) -> bo
 }
 
 // What the search finds where all rows are placed: a new best, or a symmetry of the grid.
-fn reached(
+pub fn reached(
     grid: &[u8],
     columns: &[u32; 128],
     table: &[u8; 128],
@@ -162,6 +173,22 @@ pub fn place(
         let ended = reached(grid, columns, table, m, n, low, rows, after, fresh, found);
         return ended;
     }
+    if settled::tells_all(m, n, k, after) {
+        let completed = settled::completed(
+            grid,
+            columns,
+            table,
+            m,
+            n,
+            low,
+            k,
+            rows,
+            after,
+            fresh,
+            found,
+        );
+        return completed;
+    }
     let keys = columns::row_keys(columns, after);
     let least = lowest(keys, rows, m, k);
     let numbers = found.keys;
@@ -170,13 +197,26 @@ pub fn place(
     if is_cut(fresh, known, least) {
         return rekeyed(found, m, k, known);
     }
-    let marks = domination::chosen(grid, columns, table, m, n, low, k, rows, keys, least);
+    let dropped = domination::chosen(
+        grid,
+        columns,
+        table,
+        m,
+        n,
+        low,
+        k,
+        rows,
+        keys,
+        least,
+        found.kept,
+    );
     let mut new = is_lower(fresh, known, least);
     let mut covered = [0u8; 8];
     let mut t = k;
     while t < m {
         let row = rows.row(t);
-        if is_followed(marks, covered, t, row) {
+        let key = number_at(keys, row.0 as usize);
+        if is_followed(key, least, dropped, covered, t, row) {
             let next = rows.swapped(k, t);
             let further = columns::refined(table, row, after);
             now = place(
@@ -196,12 +236,19 @@ pub fn place(
             if now.back < k {
                 return now;
             }
-            let mut marked = covered;
-            let at = row.0 as usize;
-            marked[at] = 1;
             let symmetries = now.symmetries;
-            let spread = symmetries::spread(grid, m, n, k, rows, symmetries, now.kept, marked);
-            covered = spread;
+            let more = symmetries::covered_with(
+                grid,
+                m,
+                n,
+                k,
+                rows,
+                symmetries,
+                now.kept,
+                covered,
+                row,
+            );
+            covered = more;
         }
         t += 1;
     }

@@ -1,8 +1,9 @@
 // Symmetries of the grid that the search finds: maps of row numbers, eight numbers each.
+use permutations::rows::RowNumber;
 use permutations::rows::RowPermutation;
 ghost use mathlib.Core.Path.{_≡_};
 ghost use Prim.Native.Nat.{ℕ, _+_, _≤_, _<_};
-ghost use lib.ListN.{getD};
+ghost use lib.ListN.{getD, set};
 ghost use Rattle.permutations.specs.Rows.{rowNumbers, IsRowPermutation};
 ghost use Rattle.two_values.specs.TwoValues.{sortedRows};
 ghost use Rattle.two_values.specs.Search.{Symmetries, Spreads};
@@ -77,7 +78,7 @@ fn images(symmetries: [u8; 32], s: usize, m: usize, covered: [u8; 8]) -> [u8; 8]
 }
 
 // The rows marked, and their images under the symmetries that move none of the first k rows.
-pub fn spread(
+fn spread(
     grid: &[u8],
     m: usize,
     n: usize,
@@ -100,4 +101,29 @@ pub fn spread(
         s += 1;
     }
     out
+}
+
+// The rows marked, with one more, and their images under the symmetries that move none of the first k rows. Where no symmetry is kept,
+// nothing comes of the row.
+pub fn covered_with(
+    grid: &[u8],
+    m: usize,
+    n: usize,
+    k: usize,
+    rows: RowPermutation,
+    symmetries: [u8; 32],
+    kept: usize,
+    covered: [u8; 8],
+    row: RowNumber,
+) -> [u8; 8]
+    requires { ⌜ (m ≤ 8) × (k < m) × IsRowPermutation m rows × Symmetries m n (now grid) symmetries kept × (row .0 < 8) ⌝ }
+    ensures { λ r. ⌜ Spreads m n (now (grid .entry)) k (rowNumbers rows) (set covered (row .0) 1) r ⌝ }
+{
+    if kept == 0 {
+        return covered;
+    }
+    let mut marked = covered;
+    let at = row.0 as usize;
+    marked[at] = 1;
+    spread(grid, m, n, k, rows, symmetries, kept, marked)
 }

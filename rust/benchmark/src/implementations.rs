@@ -18,6 +18,16 @@ pub const REPRESENT: Table<Represent, 5> = Table {
     ratios: &[(0, 2), (1, 2), (2, 3), (2, 4)],
 };
 
+/// Represent beside nauty, which writes another grid of the class than the least one.
+#[cfg(nauty)]
+pub const NAUTY: Table<Represent, 2> = Table {
+    implementations: [
+        (table::LIBRARY, plan_register::represent),
+        ("nauty", crate::nauty::represent),
+    ],
+    ratios: &[(0, 1)],
+};
+
 /// Represent at a terminal: the terminal's time is the divisor.
 pub const TERMINAL: Table<Represent, 3> = Table {
     implementations: [

@@ -5,8 +5,11 @@
 //! | `theorem_1`        | represent by document 002's Theorem 1: every row permutation |
 //! | `packed_theorem_1` | the same over columns packed into words                      |
 //! | `same_search`      | the library's own search, written in plain Rust              |
+//! | `two_values`       | the same on grids with two values                            |
+//! | `domination`       | rows that it need not place next                             |
 //! | `branch_and_bound` | the vectorised search: a similar one, written for speed      |
 //! | `bitonic`          | its sorting of 8 or 16 bytes                                 |
+//! | `nauty`            | represent by nauty's labelling, where nauty is installed     |
 //! | `value_by_value`   | prune by trying each value                                   |
 //! | `same_pruning`     | the library's own pruning, written in plain Rust             |
 //! | `values`           | what these two share: values and rows by rank                |
@@ -37,6 +40,7 @@ pub mod bounds;
 pub mod branch_and_bound;
 pub mod call;
 mod digits;
+mod domination;
 pub mod grids;
 mod head;
 pub mod implementations;
@@ -44,6 +48,8 @@ pub mod inputs;
 mod line;
 pub mod lines;
 mod low_times;
+#[cfg(nauty)]
+pub mod nauty;
 pub mod openings;
 pub mod options;
 pub mod packed_theorem_1;
@@ -58,6 +64,7 @@ pub mod table;
 pub mod terminal_grids;
 pub mod theorem_1;
 pub mod timing;
+mod two_values;
 pub mod value_by_value;
 mod values;
 mod within;

@@ -82,8 +82,8 @@ mod tests {
     #[test]
     fn no_two_lines_have_one_name() {
         let names = chosen(&[]).unwrap();
-        assert_eq!(names.len(), 60);
-        assert_eq!(BTreeSet::from_iter(names).len(), 60);
+        assert_eq!(names.len(), 66);
+        assert_eq!(BTreeSet::from_iter(names).len(), 66);
     }
 
     #[test]

@@ -1,8 +1,12 @@
 //! Prints how fast the calls are on each input, as Markdown tables.
 
+#[cfg(nauty)]
+use benchmark::implementations::NAUTY;
 use benchmark::implementations::{OPEN, PRUNE, READING, REPRESENT, SAME, TERMINAL, WRITING};
 use benchmark::inputs::Input;
 use benchmark::lines::Lines;
+#[cfg(nauty)]
+use benchmark::nauty::Labelled;
 use benchmark::options::{read, Asked, Printed, HELP};
 use benchmark::register_calls::{times, Pass, RegisterCall};
 use benchmark::table::{times_heading, times_line, Table};
@@ -36,6 +40,7 @@ fn answered(arguments: impl Iterator<Item = String>) -> Result<(), String> {
 
 fn print_ratios(lines: &Lines) {
     print_table(&REPRESENT, &lines.represent);
+    print_nauty_table(lines);
     print_table(&TERMINAL, &lines.terminal);
     print_table(&SAME, &lines.same);
     print_table(&PRUNE, &lines.prune);
@@ -43,6 +48,16 @@ fn print_ratios(lines: &Lines) {
     print_register_table(&READING, &lines.reading);
     print_register_table(&WRITING, &lines.writing);
 }
+
+/// The lines of represent once more, beside nauty.
+#[cfg(nauty)]
+fn print_nauty_table(lines: &Lines) {
+    let labelled: Vec<Labelled> = lines.represent.iter().map(Labelled).collect();
+    print_table(&NAUTY, &labelled);
+}
+
+#[cfg(not(nauty))]
+fn print_nauty_table(_: &Lines) {}
 
 /// A table and a blank line, or nothing where it has no lines.
 fn print_table<I: Input, const N: usize>(table: &Table<I::Call, N>, inputs: &[I]) {

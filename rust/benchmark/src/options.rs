@@ -37,8 +37,8 @@ pub fn read(arguments: impl IntoIterator<Item = String>) -> Result<Asked, String
 }
 
 pub const HELP: &str = "\
-Measures how fast the calls are: the verified library beside other implementations in Rust, and
-the calls on a register beside a copy of its bytes.
+Measures how fast the calls are: the verified library beside other implementations in Rust and,
+where nauty is installed, beside nauty, and the calls on a register beside a copy of its bytes.
 
     benchmark [--times | --list] [PART...]
 
@@ -47,7 +47,7 @@ the calls on a register beside a copy of its bytes.
     --list    print the names of the lines and measure nothing
     --help    print this, as does -h, and measure nothing
 
-Prints Markdown tables. All ratios take two to three minutes, all times about half a minute; some
+Prints Markdown tables. All ratios take three to four minutes, all times about half a minute; some
 of the lines take less.
 ";
 

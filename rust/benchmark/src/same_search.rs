@@ -1,4 +1,6 @@
 //! The library's search in plain Rust, unverified: the same partial row orders in the same order.
+//! Grids with two values at most have a search of their own, that of `two_values`. Here is the
+//! general one.
 //!
 //! Rows are placed one after another, and the columns are kept sorted by the rows placed. A
 //! candidate places one row more. It is followed unless its new row is greater than that of the
@@ -7,6 +9,7 @@
 //! the two row orders show a symmetry of the grid, and the search goes back to where they part.
 
 use crate::call::{first_no, first_no_of_two, starting, starting_match};
+use crate::two_values;
 use plan_register::numbers::{DONE, TWO_CLASSES};
 use plan_register::{Arranged, Matched};
 use std::cmp::Ordering;
@@ -17,9 +20,37 @@ pub fn represent(m: usize, n: usize, top: usize, grid: &[u8], out: &mut [u8]) ->
     if number != DONE {
         return starting(number);
     }
+    let orders = two_values::least_orders(m, n, grid);
+    let orders = orders.unwrap_or_else(|| least_orders(m, n, grid));
+    write_arrangement(n, grid, &orders, out);
+    orders
+}
+
+/// Represent by the general search, also on grids with two values.
+pub fn general_represent(m: usize, n: usize, top: usize, grid: &[u8], out: &mut [u8]) -> Arranged {
+    let number = first_no(m, n, top, grid, out);
+    if number != DONE {
+        return starting(number);
+    }
+    let orders = least_orders(m, n, grid);
+    write_arrangement(n, grid, &orders, out);
+    orders
+}
+
+/// Writes the arrangement of the grid by these orders.
+fn write_arrangement(n: usize, grid: &[u8], orders: &Arranged, out: &mut [u8]) {
+    for (cells, &row) in out.chunks_exact_mut(n).zip(&orders.rows) {
+        let row = &grid[usize::from(row) * n..][..n];
+        for (cell, &column) in cells.iter_mut().zip(&orders.columns) {
+            *cell = row[usize::from(column)];
+        }
+    }
+}
+
+/// Orders that give the least arrangement of a grid, by the general search.
+fn least_orders(m: usize, n: usize, grid: &[u8]) -> Arranged {
     let mut search = Search::new(m, n, grid);
     search.place(0, &starting(DONE), &[false; 16]);
-    search.write_best(out);
     search.best
 }
 
@@ -193,14 +224,5 @@ impl Search {
     /// The row at this position of the row order.
     fn row(&self, position: usize, orders: &Arranged) -> &[u8; 16] {
         &self.rows[usize::from(orders.rows[position])]
-    }
-
-    fn write_best(&self, out: &mut [u8]) {
-        for (i, cells) in out.chunks_exact_mut(self.n).enumerate() {
-            let row = self.row(i, &self.best);
-            for (cell, &column) in cells.iter_mut().zip(&self.best.columns) {
-                *cell = row[usize::from(column)];
-            }
-        }
     }
 }

@@ -35,7 +35,7 @@ fn help_is_printed() {
 
 #[test]
 fn names_are_listed() {
-    assert_eq!(printed(&["--list"]).lines().count(), 60);
+    assert_eq!(printed(&["--list"]).lines().count(), 66);
     let two = "represent: Fano 7x7\nopen: 2x3, capacity 500\n";
     assert_eq!(printed(&["--list", "Fano", "open: 2x3"]), two);
 }

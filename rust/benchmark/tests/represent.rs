@@ -8,12 +8,14 @@ use benchmark::{branch_and_bound, packed_theorem_1, same_search, theorem_1};
 use reference::designs::all;
 use reference::examples::{every_grid, shapes_up_to};
 use reference::grid::{arrangement, identity, is_permutation, least};
+use reference::hills;
 use reference::random::Random;
 
-const WRITTEN_HERE: [Represent; 4] = [
+const WRITTEN_HERE: [Represent; 5] = [
     theorem_1::represent,
     packed_theorem_1::represent,
     same_search::represent,
+    same_search::general_represent,
     branch_and_bound::represent,
 ];
 
@@ -66,7 +68,7 @@ fn greatest_cells() {
 #[test]
 fn designs_and_shuffled_designs() {
     let mut random = Random::new(52);
-    for design in all() {
+    for design in all().into_iter().chain(hills::all()) {
         let (m, n, top) = (design.m, design.n, design.top);
         let least = least(m, n, &design.cells);
         check(m, n, top, &design.cells, &least);
@@ -90,7 +92,7 @@ fn the_same_search_finds_the_orders_of_the_library() {
             }
         }
     }
-    for design in all() {
+    for design in all().into_iter().chain(hills::all()) {
         let (m, n, top) = (design.m, design.n, design.top);
         for _ in 0..20 {
             check(m, n, top, &random.shuffled(m, n, &design.cells));
@@ -126,7 +128,7 @@ fn refusals_are_those_of_the_library() {
 #[test]
 fn the_inputs_have_equal_outputs() {
     let inputs = inputs();
-    assert_eq!(inputs.len(), 11);
+    assert_eq!(inputs.len(), 17);
     for input in inputs {
         input.check_equal_outputs(&REPRESENT.calls());
     }

@@ -7,11 +7,12 @@ use reference::designs::{
     all, circulant, cyclic_latin, identity, klein_latin, product_latin, Design,
 };
 use reference::grid::{arrangement, identity as in_order, least};
+use reference::hills;
 use reference::random::Random;
 
 #[test]
 fn the_representatives_of_the_designs() {
-    for design in all() {
+    for design in all().into_iter().chain(hills::all()) {
         let (m, n, top, name) = (design.m, design.n, design.top, &design.name);
         let representative = represented(m, n, top, &design.cells);
         assert_eq!(representative, least(m, n, &design.cells), "{name}");
@@ -23,7 +24,7 @@ fn the_representatives_of_the_designs() {
 #[test]
 fn shuffled_designs_have_one_representative_and_one_class() {
     let mut random = Random::new(21);
-    for design in all() {
+    for design in all().into_iter().chain(hills::all()) {
         let (m, n, top, name) = (design.m, design.n, design.top, &design.name);
         let representative = represented(m, n, top, &design.cells);
         for _ in 0..4 {

@@ -22,6 +22,8 @@
 //! | `random`       | a small generator for tests and benchmarks           |
 //! | `examples`     | grids and registers for tests                        |
 //! | `designs`      | grids with much symmetry, for tests and benchmarks   |
+//! | `two_valued`   | random grids of two values, for tests and benchmarks |
+//! | `hills`        | grids that take long, for tests and benchmarks       |
 //! | `forms`        | bounds, for tests and benchmarks                     |
 //! | `calls`        | the calls of a list, on a register or on the machine |
 //! | `lists`        | random lists of calls, for tests                     |
@@ -36,6 +38,7 @@ pub mod examples;
 pub mod forms;
 pub mod grid;
 pub mod grid_calls;
+pub mod hills;
 pub mod holdings;
 pub mod layout;
 pub mod lists;
@@ -45,4 +48,5 @@ pub mod planbook;
 pub mod questions;
 pub mod random;
 pub mod register;
+pub mod two_valued;
 pub mod worked_cases;

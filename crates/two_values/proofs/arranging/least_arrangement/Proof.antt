@@ -1,11 +1,10 @@
 -- `least_arrangement` meets its contract.
-use mathlib.Core.Path.{_≡_, refl, sym}
+use mathlib.Core.Path.{sym}
 use mathlib.Core.Bool.{true≢false}
 use Prim.Native.Nat.{_≤_}
 use native.Mathlib.Omega.{arith}
 use native.Mathlib.Nat.{mul-le-mul}
-use borrow.Author.Needs.{needs}
-use borrow.Author.Tests.{not-true, not-false}
+use borrow.Author.Tests.{not-false}
 use Rattle.two_values.proofs.arranging.least_arrangement.Statement.{statement}
 use Rattle.two_values.proofs.arranging.least_arrangement.Tie as tie
 

@@ -1,5 +1,4 @@
 -- `against` meets its contract. The loop's invariant: what is dropped so far. The measure is what is left of m.
-use mathlib.Core.Path.{_≡_}
 use Prim.Native.Nat.{_-_, _<_}
 use native.Mathlib.Omega.{arith}
 use Rattle.permutations.specs.Rows.{rowNumbers}

@@ -1,12 +1,10 @@
 -- `place` meets its contract. The loop's invariant: what holds before a turn (`Turn`). The measure is what is left of m; that of the calls is the number of rows that are not placed.
-use mathlib.Core.Path.{_≡_, refl, sym, _∙_}
+use mathlib.Core.Path.{_≡_, refl}
 use mathlib.Core.List.{List}
 use mathlib.Core.Logic.{⊎-elim}
 use Prim.Native.Nat.{ℕ, _+_, _-_, _≤_, _<_}
 use native.Mathlib.Decide.{decLt}
 use native.Mathlib.Omega.{arith}
-use borrow.Author.Needs.{needs}
-use borrow.Author.Tests.{not-true, not-false}
 use borrow.Fn.Kinds.{In}
 use borrow.Fn.PlainCycle.{Measures, is, falls, and}
 use lib.ListN.{length, getD, List·getD-eq-default}
@@ -28,7 +26,9 @@ use Rattle.two_values.proofs.search.lowest.Reads as lowest-reads
 use Rattle.two_values.proofs.search.number_at.Reads as number-at-reads
 use Rattle.two_values.proofs.search.reached.Reads as reached-reads
 use Rattle.two_values.proofs.search.rekeyed.Reads as rekeyed-reads
-use Rattle.two_values.proofs.symmetries.spread.Reads as spread-reads
+use Rattle.two_values.proofs.settled.completed.Reads as completed-reads
+use Rattle.two_values.proofs.settled.tells_all.Reads as tells-all-reads
+use Rattle.two_values.proofs.symmetries.covered_with.Reads as covered-with-reads
 use Rattle.two_values.proofs.search.+place.{statement}
 use Rattle.two_values.proofs.search.+place.Tie.{close}
 
@@ -46,6 +46,10 @@ abbrev claims : ℕ → place-lts.Claims
 claims t = (
   reached-reads.Asked,
   reached-reads.Learnt,
+  tells-all-reads.Asked,
+  tells-all-reads.Learnt,
+  completed-reads.Asked,
+  completed-reads.Learnt,
   row-keys-reads.Asked,
   row-keys-reads.Learnt,
   lowest-reads.Asked,
@@ -70,8 +74,8 @@ claims t = (
   refined-reads.Learnt,
   place-below t,
   place.Post,
-  spread-reads.Asked,
-  spread-reads.Learnt,
+  covered-with-reads.Asked,
+  covered-with-reads.Learnt,
 )
 
 -- at first no row is covered
@@ -86,11 +90,11 @@ none-covered r = go (decLt r 8)
     go (no h) = List·getD-eq-default zeros 0 (let e : length zeros ≡ 8 = length-tabulate 0 8 _ in omega arith)
 
 abbrev Inv-loop : place-lts.InvT-loop
-Inv-loop grid columns table m n low k rows after fresh least known now₀ marks new₀ covered₀ t₀ now new covered t =
-    (t ≤ m) × (length covered ≡ 8) × Turn m n grid low columns table k rows after fresh least marks now₀ t new now covered
+Inv-loop grid columns table m n low k rows after fresh keys least known now₀ dropped new₀ covered₀ t₀ now new covered t =
+    (t ≤ m) × (length covered ≡ 8) × Turn m n grid low columns table k rows after fresh keys least dropped now₀ t new now covered
 
 abbrev μ-loop : place-lts.MeasureT-loop
-μ-loop grid columns table m n low k rows after fresh least known now₀ marks new₀ covered₀ t₀ now new covered t = m - t
+μ-loop grid columns table m n low k rows after fresh keys least known now₀ dropped new₀ covered₀ t₀ now new covered t = m - t
 
 reached-requires : (t : ℕ) → place-lts.Need-reached-requires (claims t) (place-at t) place.Post Inv-loop μ-loop
 reached-requires t c κs = rw (c .if1 .taken) at (c .before .before .pre .1)
@@ -98,98 +102,106 @@ reached-requires t c κs = rw (c .if1 .taken) at (c .before .before .pre .1)
 returns : (t : ℕ) → place-lts.Need-returns (claims t) (place-at t) place.Post Inv-loop μ-loop
 returns t c = rw (c .before .if1 .taken) (c .reached .ensures)
 
-row-keys-requires : (t : ℕ) → place-lts.Need-row-keys-requires (claims t) (place-at t) place.Post Inv-loop μ-loop
-row-keys-requires t c κs = let s = c .before .before .pre .1 in (s .tables .by-columns .bits, standing-small _ _ _ _ _ _ _ _ _ _ _ s)
-
-lowest-requires : (t : ℕ) → place-lts.Need-lowest-requires (claims t) (place-at t) place.Post Inv-loop μ-loop
-lowest-requires t c κs = let s = c .before .before .before .pre .1 in omega (arith, s .placed-fits, c .before .if1 .left)
-
-rekeyed-requires : (t : ℕ) → place-lts.Need-rekeyed-requires (claims t) (place-at t) place.Post Inv-loop μ-loop
-rekeyed-requires t c κs = let s = c .before .before .before .before .before .before .pre .1 in omega (arith, s .placed-fits, c .before .before .before .before .if1 .left, s .tables .rows-fit)
-
-rekeyed-requires-2 : (t : ℕ) → place-lts.Need-rekeyed-requires-2 (claims t) (place-at t) place.Post Inv-loop μ-loop
-rekeyed-requires-2 t c κs = let s = c .before .before .before .before .before .before .before .before .before .pre .1 in omega (arith, s .placed-fits, c .before .before .before .before .before .before .before .if1 .left, s .tables .rows-fit)
+completed-requires : (t : ℕ) → place-lts.Need-completed-requires (claims t) (place-at t) place.Post Inv-loop μ-loop
+completed-requires t c κs =
+    let s = c .before .before .before .before .pre .1 in
+    (s, omega (arith, s .placed-fits, c .before .before .if1 .left), c .before .tells-all .ensures (c .if2 .taken))
 
 returns-2 : (t : ℕ) → place-lts.Need-returns-2 (claims t) (place-at t) place.Post Inv-loop μ-loop
-returns-2 t c =
-    let s = c .before .before .before .before .before .before .before .before .before .before .pre .1 in
-    cut _ _ _ _ _ _ _ _ _ _ _ s (omega (arith, s .placed-fits, c .before .before .before .before .before .before .before .before .if1 .left)) _ (c .before .before .before .before .before .before .before .row-keys .ensures) _ _ _ _ (c .before .before .before .before .before .before .lowest .ensures) (c .before .before .before .before .number-at .ensures)
-    (c .before .before .is-cut .ensures) (c .before .if2 .taken) (c .rekeyed2 .ensures)
+returns-2 t c = c .completed .ensures
+
+row-keys-requires : (t : ℕ) → place-lts.Need-row-keys-requires (claims t) (place-at t) place.Post Inv-loop μ-loop
+row-keys-requires t c κs = let s = c .before .before .before .before .pre .1 in (s .tables .by-columns .bits, standing-small _ _ _ _ _ _ _ _ _ _ _ s)
+
+lowest-requires : (t : ℕ) → place-lts.Need-lowest-requires (claims t) (place-at t) place.Post Inv-loop μ-loop
+lowest-requires t c κs = let s = c .before .before .before .before .before .pre .1 in omega (arith, s .placed-fits, c .before .before .before .if1 .left)
+
+rekeyed-requires : (t : ℕ) → place-lts.Need-rekeyed-requires (claims t) (place-at t) place.Post Inv-loop μ-loop
+rekeyed-requires t c κs = let s = c .before .before .before .before .before .before .before .before .pre .1 in omega (arith, s .placed-fits, c .before .before .before .before .before .before .if1 .left, s .tables .rows-fit)
+
+rekeyed-requires-2 : (t : ℕ) → place-lts.Need-rekeyed-requires-2 (claims t) (place-at t) place.Post Inv-loop μ-loop
+rekeyed-requires-2 t c κs = let s = c .before .before .before .before .before .before .before .before .before .before .before .pre .1 in omega (arith, s .placed-fits, c .before .before .before .before .before .before .before .before .before .if1 .left, s .tables .rows-fit)
+
+returns-3 : (t : ℕ) → place-lts.Need-returns-3 (claims t) (place-at t) place.Post Inv-loop μ-loop
+returns-3 t c =
+    let s = c .before .before .before .before .before .before .before .before .before .before .before .before .pre .1 in
+    cut _ _ _ _ _ _ _ _ _ _ _ s (omega (arith, s .placed-fits, c .before .before .before .before .before .before .before .before .before .before .if1 .left)) _ (c .before .before .before .before .before .before .before .row-keys .ensures) _ _ _ _ (c .before .before .before .before .before .before .lowest .ensures) (c .before .before .before .before .number-at .ensures)
+    (c .before .before .is-cut .ensures) (c .before .if3 .taken) (c .rekeyed2 .ensures)
 
 chosen-requires : (t : ℕ) → place-lts.Need-chosen-requires (claims t) (place-at t) place.Post Inv-loop μ-loop
 chosen-requires t c κs =
-    let s = c .before .before .before .before .before .before .before .before .before .pre .1 in
-    (s .tables, s .rows, omega (arith, s .placed-fits, c .before .before .before .before .before .before .before .if1 .left))
+    let s = c .before .before .before .before .before .before .before .before .before .before .before .pre .1 in
+    (s .tables, s .rows, omega (arith, s .placed-fits, c .before .before .before .before .before .before .before .before .before .if1 .left))
 
 loop-holds : (t : ℕ) → place-lts.Need-loop-holds (claims t) (place-at t) place.Post Inv-loop μ-loop
 unfolding tabulate
 loop-holds t c =
-    let s = c .before .before .before .before .before .before .before .before .before .before .before .pre .1 in (
+    let s = c .before .before .before .before .before .before .before .before .before .before .before .before .before .pre .1 in (
       omega (arith, s .placed-fits),
       refl,
-      turn-first _ _ _ _ _ _ _ _ _ _ _ _ _ _ _ _ _ _ _ s (omega (arith, s .placed-fits, c .before .before .before .before .before .before .before .before .before .if1 .left)) (c .before .before .before .before .before .before .before .before .row-keys .ensures) (c .before .before .before .before .before .before .before .lowest .ensures) (c .before .chosen .ensures)
-          (c .before .before .before .before .before .number-at .ensures) (c .before .before .before .is-cut .ensures) (c .before .before .if2 .left) (c .is-lower .ensures) (c .before .before .before .before .rekeyed .ensures) refl none-covered,
+      turn-first _ _ _ _ _ _ _ _ _ _ _ _ _ _ _ _ _ _ _ s (omega (arith, s .placed-fits, c .before .before .before .before .before .before .before .before .before .before .before .if1 .left)) (c .before .before .before .before .before .before .before .before .row-keys .ensures) (c .before .before .before .before .before .before .before .lowest .ensures) (c .before .chosen .ensures)
+          (c .before .before .before .before .before .number-at .ensures) (c .before .before .before .is-cut .ensures) (c .before .before .if3 .left) (c .is-lower .ensures) (c .before .before .before .before .rekeyed .ensures) refl none-covered,
     )
+
+cast-number-at : (t : ℕ) → place-lts.Need-cast-number-at (claims t) (place-at t) place.Post Inv-loop μ-loop
+cast-number-at t c =
+    let h = c .before .before .before .loop .inv .2 in
+    omega (arith, standing-row _ _ _ _ _ _ _ _ _ _ _ (h .stands) _ (c .before .before .loop-test .taken) _ (c .before .row .ensures))
 
 is-followed-requires : (t : ℕ) → place-lts.Need-is-followed-requires (claims t) (place-at t) place.Post Inv-loop μ-loop
 is-followed-requires t c κs =
-    let h = c .before .before .loop .inv .2 in
-    let tm = c .before .loop-test .taken in
-    (omega (arith, h .stands .tables .rows-fit), standing-row _ _ _ _ _ _ _ _ _ _ _ (h .stands) _ tm _ (c .row .ensures))
+    let h = c .before .before .before .before .loop .inv .2 in
+    let tm = c .before .before .before .loop-test .taken in
+    (omega (arith, h .stands .tables .rows-fit), standing-row _ _ _ _ _ _ _ _ _ _ _ (h .stands) _ tm _ (c .before .before .row .ensures))
 
 refined-requires : (t : ℕ) → place-lts.Need-refined-requires (claims t) (place-at t) place.Post Inv-loop μ-loop
 refined-requires t c κs =
-    let h = c .before .before .before .before .before .loop .inv .2 in
-    (h .stands .tables .by-rows .bits, standing-row _ _ _ _ _ _ _ _ _ _ _ (h .stands) _ (c .before .before .before .before .loop-test .taken) _ (c .before .before .before .row .ensures), standing-small _ _ _ _ _ _ _ _ _ _ _ (h .stands))
+    let h = c .before .before .before .before .before .before .before .loop .inv .2 in
+    (h .stands .tables .by-rows .bits, standing-row _ _ _ _ _ _ _ _ _ _ _ (h .stands) _ (c .before .before .before .before .before .before .loop-test .taken) _ (c .before .before .before .before .before .row .ensures), standing-small _ _ _ _ _ _ _ _ _ _ _ (h .stands))
 
 add-place : (t : ℕ) → place-lts.Need-add-place (claims t) (place-at t) place.Post Inv-loop μ-loop
-add-place t c = let h = c .before .before .before .before .before .before .loop .inv .2 in omega (arith, h .within, h .stands .tables .rows-fit)
+add-place t c = let h = c .before .before .before .before .before .before .before .before .loop .inv .2 in omega (arith, h .within, h .stands .tables .rows-fit)
 
 place-requires : (t : ℕ) → place-lts.Need-place-requires (claims t) (place-at t) place.Post Inv-loop μ-loop
 place-requires t c κs =
-    let l = c .before .before .before .before .before .before .loop in
+    let l = c .before .before .before .before .before .before .before .before .loop in
     let h = l .inv .2 in (
-      omega (arith, c .before .before .before .before .before .before .before .before .before .before .before .before .before .before .before .before .before .before .pre .0, h .within),
-      turn-stands _ _ _ _ _ _ _ _ _ _ _ _ _ _ _ _ _ (c .before .before .before .before .before .loop-test .taken) h _ (c .before .before .before .before .row .ensures) _ (c .before .before .before .is-followed .ensures) (c .before .before .if3 .taken) _ (c .before .swapped .ensures) _ (c .refined .ensures),
+      omega (arith, c .before .before .before .before .before .before .before .before .before .before .before .before .before .before .before .before .before .before .before .before .before .before .pre .0, h .within),
+      turn-stands _ _ _ _ _ _ _ _ _ _ _ _ _ _ _ _ _ _ (c .before .before .before .before .before .before .before .loop-test .taken) h _ (c .before .before .before .before .before .before .row .ensures) _ (c .before .before .before .before .number-at2 .ensures) _ (c .before .before .before .is-followed .ensures) (c .before .before .if4 .taken) _ (c .before .swapped .ensures) _ (c .refined .ensures),
     )
 
-returns-3 : (t : ℕ) → place-lts.Need-returns-3 (claims t) (place-at t) place.Post Inv-loop μ-loop
-returns-3 t c =
-    let l = c .before .before .before .before .before .before .before .before .before .loop in
-    turn-back _ _ _ _ _ _ _ _ _ _ _ _ _ _ _ _ _ (c .before .before .before .before .before .before .before .before .loop-test .taken) (l .inv .2) _ (c .before .before .before .before .before .before .before .row .ensures) _ (c .before .before .before .before .before .before .is-followed .ensures) (c .before .before .before .before .before .if3 .taken) _ (c .before .before .before .before .swapped .ensures) _
-    (c .before .before .place .ensures) (c .if4 .taken) _ (c .before .before .before .before .before .before .before .before .before .before .before .before .before .before .rekeyed .ensures .best)
+returns-4 : (t : ℕ) → place-lts.Need-returns-4 (claims t) (place-at t) place.Post Inv-loop μ-loop
+returns-4 t c =
+    let l = c .before .before .before .before .before .before .before .before .before .before .before .loop in
+    turn-back _ _ _ _ _ _ _ _ _ _ _ _ _ _ _ _ _ _ (c .before .before .before .before .before .before .before .before .before .before .loop-test .taken) (l .inv .2) _ (c .before .before .before .before .before .before .before .before .before .row .ensures) _ (c .before .before .before .before .before .before .before .number-at2 .ensures) _ (c .before .before .before .before .before .before .is-followed .ensures) (c .before .before .before .before .before .if4 .taken) _ (c .before .before .before .before .swapped .ensures) _
+    (c .before .before .place .ensures) (c .if5 .taken) _ (c .before .before .before .before .before .before .before .before .before .before .before .before .before .before .before .before .rekeyed .ensures .best)
 
-cast-at : (t : ℕ) → place-lts.Need-cast-at (claims t) (place-at t) place.Post Inv-loop μ-loop
-cast-at t c = let h = c .before .before .before .before .before .before .before .before .before .before .loop .inv .2 in omega (arith, standing-row _ _ _ _ _ _ _ _ _ _ _ (h .stands) _ (c .before .before .before .before .before .before .before .before .before .loop-test .taken) _ (c .before .before .before .before .before .before .before .before .row .ensures))
-
-array-write-marked : (t : ℕ) → place-lts.Need-array-write-marked (claims t) (place-at t) place.Post Inv-loop μ-loop
-array-write-marked t c = let h = c .before .before .before .before .before .before .before .before .before .before .loop .inv .2 in standing-row _ _ _ _ _ _ _ _ _ _ _ (h .stands) _ (c .before .before .before .before .before .before .before .before .before .loop-test .taken) _ (c .before .before .before .before .before .before .before .before .row .ensures)
-
-spread-requires : (t : ℕ) → place-lts.Need-spread-requires (claims t) (place-at t) place.Post Inv-loop μ-loop
-spread-requires t c κs =
-    let h = c .before .before .before .before .before .before .before .before .before .before .before .loop .inv .2 in
-    (h .stands .tables .rows-fit, h .within, h .stands .rows, c .before .before .before .before .place .ensures .symmetries)
+covered-with-requires : (t : ℕ) → place-lts.Need-covered-with-requires (claims t) (place-at t) place.Post Inv-loop μ-loop
+covered-with-requires t c κs =
+    let h = c .before .before .before .before .before .before .before .before .before .before .before .before .loop .inv .2 in
+    (h .stands .tables .rows-fit, h .within, h .stands .rows, c .before .before .before .place .ensures .symmetries, standing-row _ _ _ _ _ _ _ _ _ _ _ (h .stands) _ (c .before .before .before .before .before .before .before .before .before .before .before .loop-test .taken) _ (c .before .before .before .before .before .before .before .before .before .before .row .ensures))
 
 loop-again : (t : ℕ) → place-lts.Need-loop-again (claims t) (place-at t) place.Post Inv-loop μ-loop
 loop-again t c =
-    let l = c .before .before .before .before .loop in
-    let tm = c .before .before .before .loop-test .taken in
-    let row = c .before .before .row .ensures in
+    let l = c .before .before .before .before .before .before .loop in
+    let tm = c .before .before .before .before .before .loop-test .taken in
+    let row = c .before .before .before .before .row .ensures in
+    let key = c .before .before .number-at2 .ensures in
     let test = c .before .is-followed .ensures in
     let h = l .inv .2 in
     ⊎-elim
     (λ w. (
       omega arith,
-      rw (w .11) (w .8 .ensures .size),
-      rw (w .9, w .10, w .11) (turn-next _ _ _ _ _ _ _ _ _ _ _ _ _ _ _ _ _ tm h _ row _ test (w .0 .taken) _ (w .1 .ensures) _ (w .3 .ensures) (λ z. omega (arith, w .5 .left)) _ (w .8 .ensures)),
+      rw (w .10) (w .7 .ensures .size),
+      rw (w .8, w .9, w .10) (turn-next _ _ _ _ _ _ _ _ _ _ _ _ _ _ _ _ _ _ tm h _ row _ key _ test (w .0 .taken) _ (w .1 .ensures) _ (w .3 .ensures) (λ z. omega (arith, w .5 .left)) _ (w .7 .ensures)),
     ))
-    (λ w. (omega arith, rw (w .3) (l .inv .1), rw (w .1, w .2, w .3) (turn-skip _ _ _ _ _ _ _ _ _ _ _ _ _ _ _ _ _ tm h _ row _ test (w .0 .left))))
-    (c .if3 .came)
+    (λ w. (omega arith, rw (w .3) (l .inv .1), rw (w .1, w .2, w .3) (turn-skip _ _ _ _ _ _ _ _ _ _ _ _ _ _ _ _ _ _ tm h _ row _ key _ test (w .0 .left))))
+    (c .if4 .came)
 
-returns-4 : (t : ℕ) → place-lts.Need-returns-4 (claims t) (place-at t) place.Post Inv-loop μ-loop
-returns-4 t c =
+returns-5 : (t : ℕ) → place-lts.Need-returns-5 (claims t) (place-at t) place.Post Inv-loop μ-loop
+returns-5 t c =
     let l = c .before .loop in
-    turn-all _ _ _ _ _ _ _ _ _ _ _ _ _ (l .t) _ _ _ (c .loop-test .left) (l .inv .2) _ (c .before .before .before .before .before .before .rekeyed .ensures .best)
+    turn-all _ _ _ _ _ _ _ _ _ _ _ _ _ _ (l .t) _ _ _ (c .loop-test .left) (l .inv .2) _ (c .before .before .before .before .before .before .rekeyed .ensures .best)
 
 pub +place-spec : {M : Type 1} → statement M
 +place-spec =
@@ -200,27 +212,30 @@ pub +place-spec : {M : Type 1} → statement M
     μ-loop
     (reached-requires t)
     (returns t)
+    (λ c κs. tt)
+    (completed-requires t)
+    (returns-2 t)
     (row-keys-requires t)
     (lowest-requires t)
     (λ c κs. tt)
     (rekeyed-requires t)
     (λ c κs. tt)
     (rekeyed-requires-2 t)
-    (returns-2 t)
+    (returns-3 t)
     (chosen-requires t)
     (λ c κs. tt)
     (loop-holds t)
+    (λ c κs. tt)
+    (cast-number-at t)
     (λ c κs. tt)
     (is-followed-requires t)
     (λ c κs. tt)
     (refined-requires t)
     (add-place t)
     (place-requires t)
-    (returns-3 t)
-    (cast-at t)
-    (array-write-marked t)
-    (spread-requires t)
+    (returns-4 t)
+    (covered-with-requires t)
     (λ c. omega arith)
     (λ c. omega arith)
     (loop-again t)
-    (returns-4 t)
+    (returns-5 t)

@@ -1,8 +1,6 @@
 -- `reached` meets its contract: a new best is the row order at hand; else the two row orders part where `common` says.
-use mathlib.Core.Path.{_≡_, refl, sym}
+use mathlib.Core.Path.{refl}
 use native.Mathlib.Omega.{arith}
-use borrow.Author.Needs.{needs}
-use borrow.Author.Tests.{not-true, not-false}
 use Rattle.two_values.proofs.ReachedLaws.{reached-new, reached-copy}
 use Rattle.two_values.proofs.search.reached.Statement.{statement}
 use Rattle.two_values.proofs.search.reached.Tie as tie
