@@ -139,6 +139,33 @@ fn has_third(grid: &[u8]) -> bool {
     false
 }
 
+// Whether all cells are the same.
+fn has_one(grid: &[u8]) -> bool {
+    if grid.len() < 1 {
+        return true;
+    }
+    let first = grid[0];
+    let mut i = 1;
+    while i < grid.len() {
+        if grid[i] != first {
+            return false;
+        }
+        i += 1;
+    }
+    true
+}
+
+// Whether the general search is as quick: the grid has more than two values, or one value and fewer than 16 columns.
+fn is_left(grid: &[u8], n: usize) -> bool {
+    if has_third(grid) {
+        return true;
+    }
+    if 16 <= n {
+        return false;
+    }
+    has_one(grid)
+}
+
 // The orders of the least arrangement, if the grid has two values at most, and a shape within the limits.
 pub fn least_arrangement(grid: &[u8], m: usize, n: usize) -> Arranged
     ensures { λ r. ⌜ (r .found ≡ true → ArrangedLeast m n (now (grid .entry)) r) ⌝ }
@@ -157,7 +184,7 @@ pub fn least_arrangement(grid: &[u8], m: usize, n: usize) -> Arranged
     if grid.len() != m * n {
         return none;
     }
-    if has_third(grid) {
+    if is_left(grid, n) {
         return none;
     }
     let found = values::classify(grid);
