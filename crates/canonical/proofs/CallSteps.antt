@@ -34,10 +34,10 @@ use Rattle.grids.proofs.ComparisonLaws.{equal-yes, equal-no}
 use Rattle.grids.proofs.GridLaws.{length-arrangement}
 use Rattle.grids.proofs.LeastLaws.{class-least}
 use Rattle.grids.proofs.QuestionLaws.{shapeThen, cells-pass, size-fits}
-use Rattle.canonical.specs.declared.search.Orders.{Orders}
+use Rattle.general_search.specs.declared.search.Orders.{Orders}
 use Rattle.canonical.specs.Represent.{Produces, Starting, RepresentedBy}
 use Rattle.canonical.specs.Same.{classNumber, classAgreed, ComparedBy, sameQuestions, sameNumber, sameAgreed}
-use Rattle.canonical.specs.Search.{leadingRows, LeastOrders}
+use Rattle.general_search.specs.Search.{leadingRows, LeastOrders}
 use Rattle.branches.proofs.LeadingRows.{leading-is}
 use Rattle.canonical.proofs.CallLaws.{same-pass, same-103, same-leasts, same-orders}
 use Rattle.canonical.proofs.AgreedLaws.{same-agreed}

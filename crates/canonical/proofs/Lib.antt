@@ -1,16 +1,4 @@
 pub mod CallLaws
 pub mod AgreedLaws
 pub mod TerminalCalls
-pub mod BlockLaws
-pub mod OneRow
-pub mod InsertionLaws
-pub mod InsertionSteps
-pub mod SearchLaws
-pub mod RepeatedRows
-pub mod FollowSteps
-pub mod PlaceLaws
 pub mod CallSteps
-pub mod BoundLaws
-pub mod CountLaws
-pub mod FirstRows
-pub mod SymmetryLaws

@@ -27,12 +27,12 @@ use Rattle.grids.specs.Least.{least}
 use Rattle.grids.specs.Questions.{firstNo, Limits, question14}
 use Rattle.grids.proofs.LeastLaws.{least-is}
 use Rattle.grids.proofs.TerminalLaws.{after-yes, few-rows, many-rows, terminal-rows, terminal-no, terminal-pass}
-use Rattle.canonical.specs.declared.search.Orders.{Orders}
+use Rattle.general_search.specs.declared.search.Orders.{Orders}
 use Rattle.canonical.specs.Represent.{Produces, representQuestions, terminalRepresentQuestions, TerminalRepresented}
 use Rattle.canonical.specs.Same.{classNumber, classAgreed, sameQuestions, sameNumber, sameAgreed, terminalSameQuestions, terminalSameNumber, terminalSameAgreed, TerminalCompared}
 use Rattle.canonical.specs.Programs.{Representing, MeetsRepresent, Comparing, MeetsSame, MeetsTerminalRepresent, MeetsTerminalSame, RepresentAlike, SameAlike}
 use Rattle.canonical.specs.Demand2.{TerminalRepresentLeast}
-use Rattle.canonical.specs.Search.{LeastOrders}
+use Rattle.general_search.specs.Search.{LeastOrders}
 use Rattle.canonical.proofs.CallLaws.{represent-pass, same-pass, number-asked, same-zero, represented-alike, represented-by, compared-by}
 use Rattle.canonical.proofs.CallSteps.{least-produces}
 

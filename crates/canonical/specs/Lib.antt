@@ -2,7 +2,4 @@ pub mod Represent
 pub mod Same
 pub mod Programs
 pub mod Demand2
-pub mod Search
-pub mod Counts
-pub mod Blocks
 pub mod Answers

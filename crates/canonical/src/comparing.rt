@@ -1,11 +1,11 @@
 // The comparison of two arrangements, for same and for a terminal's same.
-use crate::search::Orders;
+use general_search::search::Orders;
 use grids::arrangements;
 use grids::comparisons;
 use grids::comparisons::GridComparison;
 ghost use Prim.Native.Nat.{_≤_};
 ghost use Rattle.grids.specs.Comparisons.{ComparesGrids};
-ghost use Rattle.canonical.specs.Search.{leadingRows};
+ghost use Rattle.general_search.specs.Search.{leadingRows};
 
 // What comparing the arrangement of a by p with the arrangement of b by q finds.
 pub fn compare_arrangements(

@@ -2,7 +2,7 @@
 use crate::answers;
 use crate::answers::Answer;
 use crate::asking;
-use crate::search;
+use crate::orders;
 use grids::arrangements;
 ghost use Rattle.permutations.specs.Rows.{rowNumbers};
 ghost use Rattle.permutations.specs.Columns.{columnNumbers};
@@ -17,7 +17,7 @@ pub fn represent(m: usize, n: usize, top: usize, grid: &[u8], out: &mut [u8]) ->
     if number != 0 {
         return answers::refused(number);
     }
-    let least = search::least_orders(grid, m, n);
+    let least = orders::least_orders(grid, m, n);
     let rows = least.rows;
     let columns = least.columns;
     arrangements::write_arrangement(grid, m, n, rows, columns, out);

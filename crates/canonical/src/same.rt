@@ -3,7 +3,7 @@ use crate::answers;
 use crate::answers::Match;
 use crate::asking;
 use crate::comparing;
-use crate::search;
+use crate::orders;
 use grids::comparisons;
 ghost use Rattle.permutations.specs.Rows.{rowNumbers};
 ghost use Rattle.permutations.specs.Columns.{columnNumbers};
@@ -19,8 +19,8 @@ pub fn same(m: usize, n: usize, top: usize, a: &[u8], b: &[u8]) -> Match
     if number != 0 {
         return answers::unmatched(number, 0);
     }
-    let p = search::least_orders(a, m, n);
-    let q = search::least_orders(b, m, n);
+    let p = orders::least_orders(a, m, n);
+    let q = orders::least_orders(b, m, n);
     let compared = comparing::compare_arrangements(a, b, m, n, p, q);
     let found = compared.found;
     let agreed = compared.agreed as u32;

@@ -2,7 +2,7 @@
 use crate::answers;
 use crate::answers::TerminalAnswer;
 use crate::asking;
-use crate::terminal_search;
+use crate::terminal_orders;
 use grids::arrangements;
 use permutations::terminal_rows::TerminalRowPermutation;
 ghost use Rattle.permutations.specs.TerminalRows.{terminalRowNumbers};
@@ -18,7 +18,7 @@ pub fn represent(m: usize, n: usize, top: usize, grid: &[u8], out: &mut [u8]) ->
     if number != 0 {
         return answers::terminal_refused(number);
     }
-    let least = terminal_search::least_orders(grid, m, n);
+    let least = terminal_orders::least_orders(grid, m, n);
     let rows = least.rows;
     let columns = least.columns;
     arrangements::write_arrangement(grid, m, n, rows, columns, out);

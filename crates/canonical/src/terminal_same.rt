@@ -3,7 +3,7 @@ use crate::answers;
 use crate::answers::TerminalMatch;
 use crate::asking;
 use crate::comparing;
-use crate::terminal_search;
+use crate::terminal_orders;
 use grids::comparisons;
 use permutations::terminal_rows::TerminalRowPermutation;
 ghost use Rattle.permutations.specs.TerminalRows.{terminalRowNumbers};
@@ -19,8 +19,8 @@ pub fn same(m: usize, n: usize, top: usize, a: &[u8], b: &[u8]) -> TerminalMatch
     if number != 0 {
         return answers::terminal_unmatched(number, 0);
     }
-    let p = terminal_search::least_orders(a, m, n);
-    let q = terminal_search::least_orders(b, m, n);
+    let p = terminal_orders::least_orders(a, m, n);
+    let q = terminal_orders::least_orders(b, m, n);
     let compared = comparing::compare_arrangements(a, b, m, n, p, q);
     let found = compared.found;
     let agreed = compared.agreed as u32;

@@ -10,9 +10,13 @@ pub mod KeyLaws
 pub mod KeyedRows
 pub mod SymmetryLaws
 pub mod BitLaws
+pub mod WordLaws
 pub mod DominationLaws
 pub mod SearchSteps
 pub mod PairLaws
+pub mod OverLaws
+pub mod LoserLaws
+pub mod PairSteps
 pub mod PlaceLaws
 pub mod ReachedLaws
 pub mod ArrangedLaws

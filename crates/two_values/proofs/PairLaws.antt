@@ -1,6 +1,7 @@
 -- Columns exchanged in one pair or in two.
 --
 --   exchange-back          ==  two numbers exchanged twice are back
+--   Apart c d c2 d2        ==  neither c nor d is c2 or d2
 --   twice c d c2 d2 j      ==  j with c and d exchanged, and c2 and d2
 --   twice-first, twice-second, twice-third, twice-fourth, twice-other  ==  its values, where the pairs are apart
 --   twice-within, twice-back  ==  it stays below n, and done twice it is back
@@ -8,7 +9,6 @@ use mathlib.Core.Path.{_≡_, sym, ap, _∙_}
 use Prim.Native.Nat.{ℕ, _<_}
 use native.Mathlib.Decide.{ℕ-discrete}
 use Rattle.permutations.proofs.Transpositions.{exchange, exchange-first, exchange-second, exchange-other, exchange-within}
-use Rattle.two_values.specs.Domination.{Apart}
 
 pub exchange-back : (c d j : ℕ) → exchange c d (exchange c d j) ≡ j
 exchange-back c d j = go (ℕ-discrete j c) (ℕ-discrete j d)
@@ -17,6 +17,12 @@ exchange-back c d j = go (ℕ-discrete j c) (ℕ-discrete j d)
     go (yes a) b = rw (a, exchange-first c d) (exchange-second c d)
     go (no a) (yes b) = rw (b, exchange-second c d) (exchange-first c d)
     go (no a) (no b) = let e = exchange-other c d j a b in rw e e
+
+pub record Apart (c d c2 d2 : ℕ) : Type 0 where
+  pub first-first : c ≡ c2 → ⊥
+  pub first-second : c ≡ d2 → ⊥
+  pub second-first : d ≡ c2 → ⊥
+  pub second-second : d ≡ d2 → ⊥
 
 pub twice : ℕ → ℕ → ℕ → ℕ → ℕ → ℕ
 twice c d c2 d2 j = exchange c d (exchange c2 d2 j)

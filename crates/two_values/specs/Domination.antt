@@ -1,74 +1,84 @@
--- When a row dominates another, by the numbers of the table by rows. Between functions: no answer of a call is defined here.
+-- When a row dominates another, by the tables and their words. Between functions: no answer of a call is defined here.
+-- Let row r have the higher value in column c and the lower in d, and row q the other way round. No row placed tells c from d, and no row but q has the lower value in c and the
+-- higher in d. If the two rows agree elsewhere, r dominates q. They may also differ in two such pairs of columns.
 --
 --   entry y r c          ==  the number of row r, column c in the table y
---   Agrees y a b c d j   ==  column j is c or d, or rows a and b have equal numbers there
---   Exchanged y a b c d  ==  rows a and b have equal numbers in every column but c and d, and there the numbers are exchanged
---   Untold y p k c d     ==  none of the first k rows of the order p tells column c from d
---   NoHigherAt y p s t c d i  ==  i is s or t, or in the row at i the number in c is at most that in d
---   NoHigher m y p k s t c d  ==  this of every position from k on
---   RowDominates m y p k s t c d  ==  all of these, and where c is not d the row at t has the greater number in c: the row at position s of p dominates that at t
---   Crossed y a b c d    ==  rows a and b have exchanged numbers in columns c and d, and row b the greater one in c
---   PairDominates m y p k s t c d  ==  so the rows at positions s and t of p, and the other rows as above: the columns c and d are a pair for the row at s to dominate that at t
---   Apart c d c2 d2      ==  neither c nor d is c2 or d2
---   AgreesTwice y a b c d c2 d2 j  ==  column j is one of the four, or rows a and b have equal numbers there
---   RowDominatesTwice m y p k s t c d c2 d2  ==  the columns c and d are such a pair, and c2 and d2 another, and the rows agree elsewhere: the row at s dominates that at t
+--   Alone v a q c d      ==  columns c and d have equally many columns after them, and row q alone has the lower value in c and the higher in d
+--   Crossed y r q c d    ==  row r has the higher value in c and the lower in d, and row q the other way round
+--   ByOne y u v a r q c d  ==  row r dominates row q: they differ in columns c and d alone
+--   TwoPairs y u r q c d e f  ==  rows r and q differ so in columns c and d, and e and f, and in no others
+--   ByTwo y u v a r q c d e f  ==  row r dominates row q: they differ in columns c and d, and e and f
+--   Over y u v a n r q   ==  row r is row q, or dominates it so
+--   Sides y u v a n r q i  ==  where i is 1, row r is over row q; where it is 2, q is over r
+--   Prepared ..          ==  what is known where rows are held against each other: the first k rows of p are placed
+--   Small u              ==  the eight numbers of u have 16 digits
+--   Loses y u v a n p first second s t i  ==  where i is a position, it is t or s, both are marked, and the row at the other one is over its row
 --   MarksLeast k m p keys least b  ==  b marks those of the positions k to m whose row has the least key
 --   Unmarked a b         ==  b is 0 at each position that a marks
 use mathlib.Core.Path.{_≡_}
 use mathlib.Core.List.{List}
-use Prim.Native.Nat.{ℕ, _+_, _*_, _≤_, _<_}
+use mathlib.Core.Logic.{_⊎_}
+use Prim.Native.Nat.{ℕ, _+_, _-_, _*_, _^_, _≤_, _<_}
 use lib.ListN.{length, getD}
+use lib.Bits.{bitAnd}
+use Rattle.permutations.specs.declared.rows.RowPermutation.{RowPermutation}
+use Rattle.permutations.specs.Rows.{rowNumbers, IsRowPermutation}
+use Rattle.two_values.specs.Search.{Tables, PlacesBy}
+use Rattle.two_values.specs.Words.{RowWords, LowWords}
 
 abbrev pub entry : List ℕ → ℕ → ℕ → ℕ
 entry y r c = getD y (r * 16 + c) 0
 
-unfoldable pub Agrees : List ℕ → ℕ → ℕ → ℕ → ℕ → ℕ → Type 0
-Agrees y a b c d j = (j ≡ c → ⊥) → (j ≡ d → ⊥) → entry y a j ≡ entry y b j
+pub record Alone (v a : List ℕ) (q c d : ℕ) : Type 0 where
+  pub untold : getD a c 0 ≡ getD a d 0
+  pub alone : bitAnd (getD v c 0) (getD v d 0) + 2 ^ (7 - q) ≡ getD v c 0
 
-pub record Exchanged (y : List ℕ) (a b c d : ℕ) : Type 0 where
-  pub elsewhere : (j : ℕ) → j < 16 → Agrees y a b c d j
-  pub at-first : entry y a c ≡ entry y b d
-  pub at-second : entry y a d ≡ entry y b c
+pub record Crossed (y : List ℕ) (r q c d : ℕ) : Type 0 where
+  pub higher : entry y r c ≡ 0
+  pub lower : entry y r d ≡ 1
+  pub other-lower : entry y q c ≡ 1
+  pub other-higher : entry y q d ≡ 0
 
-unfoldable pub Untold : List ℕ → List ℕ → ℕ → ℕ → ℕ → Type 0
-Untold y p k c d = (i : ℕ) → i < k → entry y (getD p i 0) c ≡ entry y (getD p i 0) d
+pub record ByOne (y u v a : List ℕ) (r q c d : ℕ) : Type 0 where
+  pub alone : Alone v a q c d
+  pub crossed : Crossed y r q c d
+  pub words : getD u r 0 + 2 ^ (15 - d) ≡ getD u q 0 + 2 ^ (15 - c)
 
-unfoldable pub NoHigherAt : List ℕ → List ℕ → ℕ → ℕ → ℕ → ℕ → ℕ → Type 0
-NoHigherAt y p s t c d i = (i ≡ s → ⊥) → (i ≡ t → ⊥) → entry y (getD p i 0) c ≤ entry y (getD p i 0) d
+pub record TwoPairs (y u : List ℕ) (r q c d e f : ℕ) : Type 0 where
+  pub first-crossed : Crossed y r q c d
+  pub second-crossed : Crossed y r q e f
+  pub first-apart : c ≡ e → ⊥
+  pub second-apart : d ≡ f → ⊥
+  pub words : getD u r 0 + 2 ^ (15 - d) + 2 ^ (15 - f) ≡ getD u q 0 + 2 ^ (15 - c) + 2 ^ (15 - e)
 
-unfoldable pub NoHigher : ℕ → List ℕ → List ℕ → ℕ → ℕ → ℕ → ℕ → ℕ → Type 0
-NoHigher m y p k s t c d = (i : ℕ) → k ≤ i → i < m → NoHigherAt y p s t c d i
+pub record ByTwo (y u v a : List ℕ) (r q c d e f : ℕ) : Type 0 where
+  pub first-alone : Alone v a q c d
+  pub second-alone : Alone v a q e f
+  pub pairs : TwoPairs y u r q c d e f
 
-pub record RowDominates (m : ℕ) (y p : List ℕ) (k s t c d : ℕ) : Type 0 where
-  pub exchanged : Exchanged y (getD p s 0) (getD p t 0) c d
-  pub in-order : (c ≡ d → ⊥) → entry y (getD p t 0) d < entry y (getD p t 0) c
-  pub untold : Untold y p k c d
-  pub no-higher : NoHigher m y p k s t c d
+pub data Over (y u v a : List ℕ) (n r q : ℕ) : Type 0 where
+  equal : getD u r 0 ≡ getD u q 0 → Over y u v a n r q
+  by-one : (c d : ℕ) → c < n → d < n → ByOne y u v a r q c d → Over y u v a n r q
+  by-two : (c d e f : ℕ) → c < n → d < n → e < n → f < n → ByTwo y u v a r q c d e f → Over y u v a n r q
 
-pub record Crossed (y : List ℕ) (a b c d : ℕ) : Type 0 where
-  pub at-first : entry y a c ≡ entry y b d
-  pub at-second : entry y a d ≡ entry y b c
-  pub in-order : entry y b d < entry y b c
+pub record Sides (y u v a : List ℕ) (n r q i : ℕ) : Type 0 where
+  pub first : i ≡ 1 → Over y u v a n r q
+  pub second : i ≡ 2 → Over y u v a n q r
 
-pub record PairDominates (m : ℕ) (y p : List ℕ) (k s t c d : ℕ) : Type 0 where
-  pub crossed : Crossed y (getD p s 0) (getD p t 0) c d
-  pub untold : Untold y p k c d
-  pub no-higher : NoHigher m y p k s t c d
+pub record Prepared (m n : ℕ) (g : List ℕ) (low : ℕ) (x y : List ℕ) (k : ℕ) (p : RowPermutation) (a u v : List ℕ) : Type 0 where
+  pub tables : Tables m n g low x y
+  pub rows : IsRowPermutation m p
+  pub placed-fits : k < m
+  pub places : PlacesBy k n g (rowNumbers p) a
+  pub row-words : RowWords x u
+  pub low-words : LowWords y v
 
-pub record Apart (c d c2 d2 : ℕ) : Type 0 where
-  pub first-first : c ≡ c2 → ⊥
-  pub first-second : c ≡ d2 → ⊥
-  pub second-first : d ≡ c2 → ⊥
-  pub second-second : d ≡ d2 → ⊥
+unfoldable pub Small : List ℕ → Type 0
+Small u = (r : ℕ) → r < 8 → getD u r 0 < 65536
 
-unfoldable pub AgreesTwice : List ℕ → ℕ → ℕ → ℕ → ℕ → ℕ → ℕ → ℕ → Type 0
-AgreesTwice y a b c d c2 d2 j = (j ≡ c → ⊥) → (j ≡ d → ⊥) → (j ≡ c2 → ⊥) → (j ≡ d2 → ⊥) → entry y a j ≡ entry y b j
-
-pub record RowDominatesTwice (m : ℕ) (y p : List ℕ) (k s t c d c2 d2 : ℕ) : Type 0 where
-  pub apart : Apart c d c2 d2
-  pub first : PairDominates m y p k s t c d
-  pub second : PairDominates m y p k s t c2 d2
-  pub elsewhere : (j : ℕ) → j < 16 → AgreesTwice y (getD p s 0) (getD p t 0) c d c2 d2 j
+pub record Loses (y u v a : List ℕ) (n : ℕ) (p : List ℕ) (first second s t i : ℕ) : Type 0 where
+  pub marked : i < 8 → (first ≡ 0 → ⊥) × (second ≡ 0 → ⊥)
+  pub over : i < 8 → ((i ≡ t) × Over y u v a n (getD p s 0) (getD p t 0)) ⊎ ((i ≡ s) × Over y u v a n (getD p t 0) (getD p s 0))
 
 pub record MarksLeast (k m : ℕ) (p keys : List ℕ) (least : ℕ) (b : List ℕ) : Type 0 where
   pub size : length b ≡ 8

@@ -65,6 +65,7 @@ fn begun(
 {
     if 0 < m {
         if settled::tells_all(m, n, 0, after) {
+            let keys = columns::row_keys(columns, after);
             let sorted = settled::completed(
                 grid,
                 columns,
@@ -77,6 +78,7 @@ fn begun(
                 after,
                 true,
                 start,
+                keys,
             );
             return sorted;
         }
@@ -156,7 +158,7 @@ fn has_one(grid: &[u8]) -> bool {
 }
 
 // Whether the general search is as quick: the grid has more than two values, or one value and fewer than 16 columns.
-fn is_left(grid: &[u8], n: usize) -> bool {
+pub fn is_left(grid: &[u8], n: usize) -> bool {
     if has_third(grid) {
         return true;
     }
@@ -182,9 +184,6 @@ pub fn least_arrangement(grid: &[u8], m: usize, n: usize) -> Arranged
         return none;
     }
     if grid.len() != m * n {
-        return none;
-    }
-    if is_left(grid, n) {
         return none;
     }
     let found = values::classify(grid);

@@ -2,8 +2,10 @@
 pub mod arranging;
 mod columns;
 mod domination;
+mod pairs;
 mod search;
 mod settled;
 mod symmetries;
 mod tables;
 mod values;
+mod words;

@@ -173,6 +173,7 @@ pub fn place(
         let ended = reached(grid, columns, table, m, n, low, rows, after, fresh, found);
         return ended;
     }
+    let keys = columns::row_keys(columns, after);
     if settled::tells_all(m, n, k, after) {
         let completed = settled::completed(
             grid,
@@ -186,10 +187,10 @@ pub fn place(
             after,
             fresh,
             found,
+            keys,
         );
         return completed;
     }
-    let keys = columns::row_keys(columns, after);
     let least = lowest(keys, rows, m, k);
     let numbers = found.keys;
     let known = number_at(numbers, k);
@@ -206,6 +207,7 @@ pub fn place(
         low,
         k,
         rows,
+        after,
         keys,
         least,
         found.kept,

@@ -1,9 +1,14 @@
 -- `begun` meets its contract, by that of `completed` or of `place`.
+use Rattle.two_values.proofs.PlaceLaws.{standing-small}
 use Rattle.two_values.proofs.arranging.begun.Statement.{statement}
 use Rattle.two_values.proofs.arranging.begun.Tie as tie
 
+row-keys-requires : tie.Need-row-keys-requires
+row-keys-requires c κs = let s = c .before .before .before .before .pre in (s .tables .by-columns .bits, standing-small _ _ _ _ _ _ _ _ _ _ _ s)
+
 completed-requires : tie.Need-completed-requires
-completed-requires c κs = (c .before .before .before .before .pre, c .before .before .if1 .taken, c .before .tells-all .ensures (c .if2 .taken))
+completed-requires c κs =
+    (c .before .before .before .before .before .pre, c .before .before .before .if1 .taken, c .before .before .tells-all .ensures (c .before .if2 .taken), c .row-keys .ensures)
 
 returns : tie.Need-returns
 returns c = c .completed .ensures
@@ -15,4 +20,4 @@ returns-2 : tie.Need-returns-2
 returns-2 c = c .place .ensures
 
 pub begun-spec : {M : Type 1} → statement M
-begun-spec = tie.close (tie.spec (λ c κs. tt) completed-requires returns place-requires returns-2)
+begun-spec = tie.close (tie.spec (λ c κs. tt) row-keys-requires completed-requires returns place-requires returns-2)

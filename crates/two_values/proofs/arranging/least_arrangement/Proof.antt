@@ -23,17 +23,14 @@ mul-if3 c =
 returns-3 : tie.Need-returns-3
 returns-3 c = λ e. absurd (true≢false (sym e))
 
+searched-requires : tie.Need-searched-requires
+searched-requires c κs = (omega arith, omega arith, omega arith, c .before .before .classify .ensures (not-false _ (c .if4 .left)))
+
 returns-4 : tie.Need-returns-4
 returns-4 c = λ e. absurd (true≢false (sym e))
 
-searched-requires : tie.Need-searched-requires
-searched-requires c κs = (omega arith, omega arith, omega arith, c .before .before .classify .ensures (not-false _ (c .if5 .left)))
-
 returns-5 : tie.Need-returns-5
-returns-5 c = λ e. absurd (true≢false (sym e))
-
-returns-6 : tie.Need-returns-6
-returns-6 c = λ e. c .searched .ensures
+returns-5 c = λ e. c .searched .ensures
 
 pub least-arrangement-spec : {M : Type 1} → statement M
-least-arrangement-spec = tie.close (tie.spec (λ c κs. tt) (λ c κs. tt) returns returns-2 mul-if3 returns-3 (λ c κs. tt) returns-4 (λ c κs. tt) returns-5 searched-requires returns-6)
+least-arrangement-spec = tie.close (tie.spec (λ c κs. tt) (λ c κs. tt) returns returns-2 mul-if3 returns-3 (λ c κs. tt) returns-4 searched-requires returns-5)

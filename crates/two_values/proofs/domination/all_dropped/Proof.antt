@@ -8,22 +8,22 @@ use Rattle.two_values.proofs.domination.all_dropped.Statement.{statemen
 use Rattle.two_values.proofs.domination.all_dropped.Tie as tie
 
 abbrev Inv-loop : tie.InvT-loop
-Inv-loop grid columns table m n low k rows marks out₀ s₀ out s = (k ≤ s) × Drops m n grid k (rowNumbers rows) marks out
+Inv-loop grid columns table m n low k rows after words lows marks out₀ s₀ out s = (k ≤ s) × Drops m n grid k (rowNumbers rows) marks out
 
 abbrev μ-loop : tie.MeasureT-loop
-μ-loop grid columns table m n low k rows marks out₀ s₀ out s = m - s
+μ-loop grid columns table m n low k rows after words lows marks out₀ s₀ out s = m - s
 
 loop-holds : tie.Need-loop-holds Inv-loop μ-loop
-loop-holds c = (omega arith, drops-none _ _ _ _ _ _ (c .before .pre .3))
+loop-holds c = (omega arith, drops-none _ _ _ _ _ _ (c .before .pre .1))
 
 against-requires : tie.Need-against-requires Inv-loop μ-loop
 against-requires c κs =
     let pre = c .before .before .before .pre in
     let l = c .before .loop .inv in
-    (pre .0, pre .1, pre .2, l .1 .size, l .0, omega arith)
+    (pre .0, l .1 .size, l .0, omega arith)
 
 stands-requires : tie.Need-stands-requires Inv-loop μ-loop
-stands-requires c κs = omega (arith, c .before .before .before .before .pre .0 .rows-fit)
+stands-requires c κs = omega (arith, c .before .before .before .before .pre .0 .tables .rows-fit)
 
 returns : tie.Need-returns Inv-loop μ-loop
 returns c = drops-twice _ _ _ _ _ _ _ _ (c .before .before .before .before .loop .inv .1) (c .before .before .against .ensures)

@@ -46,12 +46,12 @@ abbrev claims : ℕ → place-lts.Claims
 claims t = (
   reached-reads.Asked,
   reached-reads.Learnt,
+  row-keys-reads.Asked,
+  row-keys-reads.Learnt,
   tells-all-reads.Asked,
   tells-all-reads.Learnt,
   completed-reads.Asked,
   completed-reads.Learnt,
-  row-keys-reads.Asked,
-  row-keys-reads.Learnt,
   lowest-reads.Asked,
   lowest-reads.Learnt,
   number-at-reads.Asked,
@@ -102,16 +102,16 @@ reached-requires t c κs = rw (c .if1 .taken) at (c .before .before .pre .1)
 returns : (t : ℕ) → place-lts.Need-returns (claims t) (place-at t) place.Post Inv-loop μ-loop
 returns t c = rw (c .before .if1 .taken) (c .reached .ensures)
 
+row-keys-requires : (t : ℕ) → place-lts.Need-row-keys-requires (claims t) (place-at t) place.Post Inv-loop μ-loop
+row-keys-requires t c κs = let s = c .before .before .pre .1 in (s .tables .by-columns .bits, standing-small _ _ _ _ _ _ _ _ _ _ _ s)
+
 completed-requires : (t : ℕ) → place-lts.Need-completed-requires (claims t) (place-at t) place.Post Inv-loop μ-loop
 completed-requires t c κs =
-    let s = c .before .before .before .before .pre .1 in
-    (s, omega (arith, s .placed-fits, c .before .before .if1 .left), c .before .tells-all .ensures (c .if2 .taken))
+    let s = c .before .before .before .before .before .pre .1 in
+    (s, omega (arith, s .placed-fits, c .before .before .before .if1 .left), c .before .tells-all .ensures (c .if2 .taken), c .before .before .row-keys .ensures)
 
 returns-2 : (t : ℕ) → place-lts.Need-returns-2 (claims t) (place-at t) place.Post Inv-loop μ-loop
 returns-2 t c = c .completed .ensures
-
-row-keys-requires : (t : ℕ) → place-lts.Need-row-keys-requires (claims t) (place-at t) place.Post Inv-loop μ-loop
-row-keys-requires t c κs = let s = c .before .before .before .before .pre .1 in (s .tables .by-columns .bits, standing-small _ _ _ _ _ _ _ _ _ _ _ s)
 
 lowest-requires : (t : ℕ) → place-lts.Need-lowest-requires (claims t) (place-at t) place.Post Inv-loop μ-loop
 lowest-requires t c κs = let s = c .before .before .before .before .before .pre .1 in omega (arith, s .placed-fits, c .before .before .before .if1 .left)
@@ -125,13 +125,13 @@ rekeyed-requires-2 t c κs = let s = c .before .before .before .before .before .
 returns-3 : (t : ℕ) → place-lts.Need-returns-3 (claims t) (place-at t) place.Post Inv-loop μ-loop
 returns-3 t c =
     let s = c .before .before .before .before .before .before .before .before .before .before .before .before .pre .1 in
-    cut _ _ _ _ _ _ _ _ _ _ _ s (omega (arith, s .placed-fits, c .before .before .before .before .before .before .before .before .before .before .if1 .left)) _ (c .before .before .before .before .before .before .before .row-keys .ensures) _ _ _ _ (c .before .before .before .before .before .before .lowest .ensures) (c .before .before .before .before .number-at .ensures)
+    cut _ _ _ _ _ _ _ _ _ _ _ s (omega (arith, s .placed-fits, c .before .before .before .before .before .before .before .before .before .before .if1 .left)) _ (c .before .before .before .before .before .before .before .before .before .row-keys .ensures) _ _ _ _ (c .before .before .before .before .before .before .lowest .ensures) (c .before .before .before .before .number-at .ensures)
     (c .before .before .is-cut .ensures) (c .before .if3 .taken) (c .rekeyed2 .ensures)
 
 chosen-requires : (t : ℕ) → place-lts.Need-chosen-requires (claims t) (place-at t) place.Post Inv-loop μ-loop
 chosen-requires t c κs =
     let s = c .before .before .before .before .before .before .before .before .before .before .before .pre .1 in
-    (s .tables, s .rows, omega (arith, s .placed-fits, c .before .before .before .before .before .before .before .before .before .if1 .left))
+    (s .tables, s .rows, omega (arith, s .placed-fits, c .before .before .before .before .before .before .before .before .before .if1 .left), s .places)
 
 loop-holds : (t : ℕ) → place-lts.Need-loop-holds (claims t) (place-at t) place.Post Inv-loop μ-loop
 unfolding tabulate
@@ -139,7 +139,7 @@ loop-holds t c =
     let s = c .before .before .before .before .before .before .before .before .before .before .before .before .before .pre .1 in (
       omega (arith, s .placed-fits),
       refl,
-      turn-first _ _ _ _ _ _ _ _ _ _ _ _ _ _ _ _ _ _ _ s (omega (arith, s .placed-fits, c .before .before .before .before .before .before .before .before .before .before .before .if1 .left)) (c .before .before .before .before .before .before .before .before .row-keys .ensures) (c .before .before .before .before .before .before .before .lowest .ensures) (c .before .chosen .ensures)
+      turn-first _ _ _ _ _ _ _ _ _ _ _ _ _ _ _ _ _ _ _ s (omega (arith, s .placed-fits, c .before .before .before .before .before .before .before .before .before .before .before .if1 .left)) (c .before .before .before .before .before .before .before .before .before .before .row-keys .ensures) (c .before .before .before .before .before .before .before .lowest .ensures) (c .before .chosen .ensures)
           (c .before .before .before .before .before .number-at .ensures) (c .before .before .before .is-cut .ensures) (c .before .before .if3 .left) (c .is-lower .ensures) (c .before .before .before .before .rekeyed .ensures) refl none-covered,
     )
 
@@ -212,10 +212,10 @@ pub +place-spec : {M : Type 1} → statement M
     μ-loop
     (reached-requires t)
     (returns t)
+    (row-keys-requires t)
     (λ c κs. tt)
     (completed-requires t)
     (returns-2 t)
-    (row-keys-requires t)
     (lowest-requires t)
     (λ c κs. tt)
     (rekeyed-requires t)

@@ -1,0 +1,12 @@
+pub mod BlockLaws
+pub mod OneRow
+pub mod InsertionLaws
+pub mod InsertionSteps
+pub mod SearchLaws
+pub mod RepeatedRows
+pub mod FollowSteps
+pub mod PlaceLaws
+pub mod BoundLaws
+pub mod CountLaws
+pub mod FirstRows
+pub mod SymmetryLaws
