@@ -1,5 +1,6 @@
 -- Laws of the numbers of rows: they are in the order of the next rows.
 --
+--   places-is                    ==  the place of a column below n
 --   row-keys-are                 ==  the numbers that the tables give are those of the rows
 --   after-count                  ==  how many columns come after one, counted in sorted order
 --   after-room                   ==  a column's number leaves room for those before it
@@ -44,7 +45,7 @@ module _ (n : ℕ) (g : List ℕ) (low : ℕ) where
   unfolding high
   high-past r c h = rw (le-ltb c n h, high)
 
-places-is : (k n : ℕ) (g p : List ℕ) (c : ℕ) → c < n → placesAfter k n g p c ≡ columnsAfter k n g p c
+pub places-is : (k n : ℕ) (g p : List ℕ) (c : ℕ) → c < n → placesAfter k n g p c ≡ columnsAfter k n g p c
 unfolding placesAfter
 places-is k n g p c h = rw (lt-ltb c n h, placesAfter)
 

@@ -8,6 +8,7 @@ pub mod SortedRows
 pub mod RefinedLaws
 pub mod KeyLaws
 pub mod KeyedRows
+pub mod PlaceSums
 pub mod SymmetryLaws
 pub mod BitLaws
 pub mod WordLaws

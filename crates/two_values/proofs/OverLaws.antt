@@ -10,30 +10,27 @@ use native.Mathlib.Omega.{arith}
 use lib.ListN.{getD}
 use lib.Bits.{bitAnd}
 use lib.Seq.{getD-take}
-use borrow.Author.Tests.{lt-ltb}
 use Rattle.permutations.specs.declared.rows.RowPermutation.{RowPermutation}
 use Rattle.permutations.specs.Rows.{rowNumbers}
-use Rattle.permutations.proofs.BoolLaws.{refuted}
 use Rattle.permutations.proofs.ListLaws.{at-tabulate}
 use Rattle.permutations.proofs.SwapLaws.{at-whole}
 use Rattle.permutations.proofs.Transpositions.{exchange, exchange-first, exchange-second, exchange-other, exchange-within}
-use Rattle.grids.specs.Order.{rank, _≼_, _≺_, less}
+use Rattle.grids.specs.Order.{rank, _≼_}
 use Rattle.grids.specs.Grids.{cell}
 use Rattle.grids.specs.Sorted.{permutedColumn}
-use Rattle.grids.proofs.OrderLaws.{≼-refl, ≼-antisymm, ≼-dec, ≺-trans, less-decides}
+use Rattle.grids.proofs.OrderLaws.{≼-antisymm, ≼-dec}
 use Rattle.branches.specs.Branches.{Dominates}
 use Rattle.branches.proofs.DominatedRows.{covers-dominated}
-use Rattle.two_values.specs.Sums.{count}
-use Rattle.two_values.specs.TwoValues.{columnsAfter, placesAfter, columnOrder}
+use Rattle.two_values.specs.TwoValues.{placesAfter, columnOrder}
 use Rattle.two_values.specs.Tables.{Bits}
 use Rattle.two_values.specs.Search.{Next}
 use Rattle.two_values.specs.Words.{word, LowWords}
 use Rattle.two_values.specs.Domination.{entry, Alone, Crossed, ByOne, ByTwo, Over, equal, by-one, by-two, Prepared}
-use Rattle.two_values.proofs.CountLaws.{count-less}
 use Rattle.two_values.proofs.BitLaws.{cells-equal, cells-higher, cells-no-higher}
 use Rattle.two_values.proofs.WordLaws.{word-injective, word-exchanged, word-alone}
 use Rattle.two_values.proofs.PairLaws.{exchange-back, Apart, twice, twice-first, twice-second, twice-third, twice-fourth, twice-other, twice-within, twice-back}
 use Rattle.two_values.proofs.SortedRows.{order-permutation, order-ascending}
+use Rattle.two_values.proofs.RefinedLaws.{places-less}
 
 -- ---- columns with equally many after them
 
@@ -41,26 +38,13 @@ module _ (k n : ℕ) (g p : List ℕ) where
   abbrev column : ℕ → List ℕ
   column c = permutedColumn k n g p c
 
-  places-in : (c : ℕ) → c < n → placesAfter k n g p c ≡ (16 - n) + count n (λ d. less (column c) (column d))
-  unfolding placesAfter columnsAfter
-  places-in c cn = rw (lt-ltb c n cn, placesAfter)
-
-  -- of two columns, the lesser has more after it
-  places-less : (c d : ℕ) → c < n → d < n → column c ≺ column d → placesAfter k n g p d < placesAfter k n g p c
-  places-less c d cn dn h =
-      let l : count n (λ e. less (column d) (column e)) < count n (λ e. less (column c) (column e)) =
-      count-less n (λ e. less (column d) (column e)) (λ e. less (column c) (column e))
-      (λ e en f. less-decides (column c) (column e) .1 (≺-trans (column c) (column d) (column e) h (less-decides (column d) (column e) .0 f)))
-      d dn (refuted (less (column d) (column d)) (less-decides (column d) (column d)) (λ l. l (≼-refl (column d)))) (less-decides (column c) (column d) .1 h) in
-      omega (arith, places-in c cn, places-in d dn)
-
   columns-equal : (c d : ℕ) → c < n → d < n → placesAfter k n g p c ≡ placesAfter k n g p d → column c ≡ column d
   columns-equal c d cn dn e = go (≼-dec (column c) (column d)) (≼-dec (column d) (column c))
     where
       go : Dec (column c ≼ column d) → Dec (column d ≼ column c) → column c ≡ column d
       go (yes a) (yes b) = ≼-antisymm (column c) (column d) a b
-      go (no a) b = absurd (omega (arith, places-less d c dn cn a))
-      go (yes a) (no b) = absurd (omega (arith, places-less c d cn dn b))
+      go (no a) b = absurd (omega (arith, places-less k n g p d c dn cn a))
+      go (yes a) (no b) = absurd (omega (arith, places-less k n g p c d cn dn b))
 
   cells-untold : (c d : ℕ) → c < n → d < n → placesAfter k n g p c ≡ placesAfter k n g p d → (i : ℕ) → i < k → cell n g (getD p i 0) c ≡ cell n g (getD p i 0) d
   unfolding permutedColumn

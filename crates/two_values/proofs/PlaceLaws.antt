@@ -10,7 +10,7 @@
 --   followed-all    ==  at the end: the branch is searched
 --   Turn            ==  all that holds before a turn of the loop of `place`, whatever was the best before it
 --   turn-first, turn-skip, turn-stands, turn-back, turn-next, turn-all  ==  these steps, of a turn
---   standing-small, standing-row  ==  the numbers of columns, and of a row, are within the tables
+--   standing-small, standing-fits, standing-row  ==  the numbers of columns, their powers of 2, and those of a row are within the tables
 --   known-still, set-still  ==  what is known of the best stays, where its number is written again
 --   cut             ==  where the best's next row is lower than all that can come next, the branch is searched
 use mathlib.Core.Path.{_≡_, refl, sym, ap, _∙_}
@@ -37,11 +37,12 @@ use Rattle.branches.proofs.BranchSymmetry.{covers-alike}
 use Rattle.branches.proofs.LeadingRows.{leading-is}
 use Rattle.two_values.specs.declared.search.Found.{Found}
 use Rattle.two_values.specs.TwoValues.{placesAfter, key, columnOrder, sortedRows}
-use Rattle.two_values.specs.Tables.{Below16, Refined, RowKeys}
+use Rattle.two_values.specs.Tables.{Below16, PowersFit, Refined, RowKeys}
 use Rattle.two_values.specs.Search.{Next, Marked, Chosen, Symmetries, CoveredRows, Spreads, Known, Follows, Lowest, Cuts, Lowers, Rekeyed, IsFollowed, Standing, Alike, Outcome}
 use Rattle.two_values.proofs.SortedRows.{order-permutation, sorted-decides, sorted-covered}
 use Rattle.two_values.proofs.RefinedLaws.{places-agree, places-are, refined-places}
 use Rattle.two_values.proofs.KeyLaws.{row-keys-are}
+use Rattle.two_values.proofs.PlaceSums.{powers-fit}
 use Rattle.two_values.proofs.KeyedRows.{key-agree, key-lower, key-same, same-key, rows-fewer, rows-swapped}
 
 pub record Started (m n : ℕ) (g : List ℕ) (low k : ℕ) (p : List ℕ) (fresh : Bool) (before : Found) (keys dropped : List ℕ) (least t : ℕ) (now : Found) (covered : List ℕ) : Type 0 where
@@ -529,6 +530,9 @@ module _ (m n : ℕ) (g : List ℕ) (low : ℕ) (x y : List ℕ) (k : ℕ) (P : 
 
 pub standing-small : (m n : ℕ) (g : List ℕ) (low : ℕ) (x y : List ℕ) (k : ℕ) (P : RowPermutation) (a : List ℕ) (fresh : Bool) (f : Found) → Standing m n g low x y k P a fresh f → Below16 a
 standing-small m n g low x y k P a fresh f s = places-are k n g (rowNumbers P) a (s .tables .columns-fit) (s .places .size) (s .places .holds) .small
+
+pub standing-fits : (m n : ℕ) (g : List ℕ) (low : ℕ) (x y : List ℕ) (k : ℕ) (P : RowPermutation) (a : List ℕ) (fresh : Bool) (f : Found) → Standing m n g low x y k P a fresh f → PowersFit a
+standing-fits m n g low x y k P a fresh f s = powers-fit k n g (rowNumbers P) a (s .tables .columns-fit) (s .places)
 
 pub standing-row : (m n : ℕ) (g : List ℕ) (low : ℕ) (x y : List ℕ) (k : ℕ) (P : RowPermutation) (a : List ℕ) (fresh : Bool) (f : Found) → Standing m n g low x y k P a fresh f → (t : ℕ) → t < m →
     (row : ℕ) → row ≡ getD (rowNumbers P) t 0 → row < 8

@@ -3,6 +3,9 @@
 --   sum-zero, sum-next       ==  the sum of no number; one number further
 --   sum-ext                  ==  equal numbers have equal sums
 --   sum-wider                ==  numbers that are no greater have no greater sum
+--   sum-longer               ==  more numbers have no lesser sum
+--   sum-tail                 ==  two sums of numbers that are equal from n on differ as those up to n do
+--   sum-tight                ==  numbers that are no greater and have an equal sum are equal
 --   sum-none-past            ==  the numbers past n are 0
 --   sum-permuted, count-permuted  ==  numbers in another order have the same sum, and the same count
 --   weighted-less            ==  of two sums of powers of 2, the one with less at the first position that differs is less
@@ -34,6 +37,36 @@ sum-ext (suc n) f g h = omega (arith, sum-next n f, sum-next n g, sum-ext n f g 
 pub sum-wider : (n : ℕ) (f g : ℕ → ℕ) → ((i : ℕ) → i < n → f i ≤ g i) → sumTo n f ≤ sumTo n g
 sum-wider zero f g h = omega (arith, sum-zero f, sum-zero g)
 sum-wider (suc n) f g h = omega (arith, sum-next n f, sum-next n g, sum-wider n f g (λ i b. h i (omega arith)), h n (omega arith))
+
+pub sum-longer : (n w : ℕ) (f : ℕ → ℕ) → n ≤ w → sumTo n f ≤ sumTo w f
+sum-longer n zero f h = let e : n ≡ 0 = omega arith in rw e (omega arith)
+sum-longer n (suc w) f h = go (sum-longer n w f) (ℕ-discrete n (suc w))
+  where
+    go : (n ≤ w → sumTo n f ≤ sumTo w f) → Dec (n ≡ suc w) → sumTo n f ≤ sumTo (suc w) f
+    go ih (yes e) = rw e (omega arith)
+    go ih (no ne) = omega (arith, ih (omega arith), sum-next w f)
+
+pub sum-tail : (n w : ℕ) (f g : ℕ → ℕ) → n ≤ w → ((i : ℕ) → n ≤ i → i < w → f i ≡ g i) → sumTo w f + sumTo n g ≡ sumTo w g + sumTo n f
+sum-tail n zero f g h same = let e : n ≡ 0 = omega arith in rw e (omega (arith, sum-zero f, sum-zero g))
+sum-tail n (suc w) f g h same = go (λ b. sum-tail n w f g b (λ i c d. same i c (omega arith))) (ℕ-discrete n (suc w))
+  where
+    go : (n ≤ w → sumTo w f + sumTo n g ≡ sumTo w g + sumTo n f) → Dec (n ≡ suc w) → sumTo (suc w) f + sumTo n g ≡ sumTo (suc w) g + sumTo n f
+    go ih (yes e) = omega (arith, ap (λ (z : ℕ). sumTo z f) e, ap (λ (z : ℕ). sumTo z g) e)
+    go ih (no ne) = omega (arith, ih (omega arith), sum-next w f, sum-next w g, same w (omega arith) (omega arith))
+
+pub sum-tight : (n : ℕ) (f g : ℕ → ℕ) → ((i : ℕ) → i < n → f i ≤ g i) → sumTo n f ≡ sumTo n g → (i : ℕ) → i < n → f i ≡ g i
+sum-tight zero f g h e i b = absurd (not-suc-le-zero b)
+sum-tight (suc n) f g h e i b = go (λ z. sum-tight n f g below z i) (ℕ-discrete i n)
+  where
+    below : (j : ℕ) → j < n → f j ≤ g j
+    below j c = h j (omega arith)
+
+    first : sumTo n f ≤ sumTo n g
+    first = sum-wider n f g below
+
+    go : (sumTo n f ≡ sumTo n g → i < n → f i ≡ g i) → Dec (i ≡ n) → f i ≡ g i
+    go ih (yes z) = rw z (omega (arith, first, sum-next n f, sum-next n g, h n (omega arith)))
+    go ih (no nz) = ih (omega (arith, first, sum-next n f, sum-next n g, h n (omega arith))) (omega arith)
 
 pub sum-none-past : (n w : ℕ) (f : ℕ → ℕ) → n ≤ w → ((i : ℕ) → n ≤ i → i < w → f i ≡ 0) → sumTo w f ≡ sumTo n f
 sum-none-past n zero f h none = let e : n ≡ 0 = omega arith in rw e

@@ -7,6 +7,7 @@
 --   ByRows m n g low y    ==  y holds 1 less each of them, row after row
 --   Bits l                ==  every number of l is 0 or 1
 --   Below16 a             ==  every number of a is at most 15
+--   PowersFit a           ==  2 to the power of each number of a, all added, is less than 2 to the power of 16
 --   refinedKey y r a c    ==  orders the columns by a, and those with equal numbers there by row r: greater numbers come first
 --   Refined y r a b       ==  b holds of each column how many come after it by these
 --   RowKeys x a s         ==  s holds for each row the sum of its numbers in x, each times 2 to the power that a has for its column
@@ -32,6 +33,9 @@ Bits l = (i : ℕ) → getD l i 0 ≤ 1
 
 unfoldable pub Below16 : List ℕ → Type 0
 Below16 a = (c : ℕ) → getD a c 0 ≤ 15
+
+unfoldable pub PowersFit : List ℕ → Type 0
+PowersFit a = sumTo 16 (λ c. 2 ^ getD a c 0) < 65536
 
 pub record ByColumns (m n : ℕ) (g : List ℕ) (low : ℕ) (x : List ℕ) : Type 0 where
   pub bits : Bits x

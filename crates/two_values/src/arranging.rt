@@ -51,7 +51,7 @@ fn first_places(n: usize) -> [u8; 16]
 // What the search finds from its start: columns that are told apart with no row placed need none.
 fn begun(
     grid: &[u8],
-    columns: &[u32; 128],
+    columns: &[u16; 128],
     table: &[u8; 128],
     m: usize,
     n: usize,
@@ -96,7 +96,7 @@ fn searched(grid: &[u8], m: usize, n: usize, low: u8) -> Arranged
     let table = tables::by_rows(grid, m, n, low);
     let rows = RowPermutation::identity(m);
     let after = first_places(n);
-    let keys = [0u32; 8];
+    let keys = [0u16; 8];
     let symmetries = [0u8; 32];
     let start = Found {
         best: rows,

@@ -54,7 +54,7 @@ fn loser(
 // The marks after the row at s is held against each that comes later.
 fn against(
     grid: &[u8],
-    columns: &[u32; 128],
+    columns: &[u16; 128],
     table: &[u8; 128],
     m: usize,
     n: usize,
@@ -102,7 +102,7 @@ fn stands(before: [u8; 8], after: [u8; 8], s: usize) -> bool
 // The marks after the marked rows are held against each other: only the first of them, where nothing comes of that.
 fn all_dropped(
     grid: &[u8],
-    columns: &[u32; 128],
+    columns: &[u16; 128],
     table: &[u8; 128],
     m: usize,
     n: usize,
@@ -145,7 +145,7 @@ fn all_dropped(
 }
 
 // The positions from k on whose rows have the least key.
-fn marked(m: usize, k: usize, rows: RowPermutation, keys: [u32; 8], least: u32) -> [u8; 8]
+fn marked(m: usize, k: usize, rows: RowPermutation, keys: [u16; 8], least: u16) -> [u8; 8]
     requires { ⌜ IsRowPermutation m rows × (m ≤ 8) × (k < m) ⌝ }
     ensures { λ r. ⌜ MarksLeast k m (rowNumbers rows) keys least r ⌝ }
 {
@@ -162,7 +162,7 @@ fn marked(m: usize, k: usize, rows: RowPermutation, keys: [u32; 8], least: u32) 
 }
 
 // How many positions from k on have a row with the least key.
-fn count_least(m: usize, k: usize, rows: RowPermutation, keys: [u32; 8], least: u32) -> usize
+fn count_least(m: usize, k: usize, rows: RowPermutation, keys: [u16; 8], least: u16) -> usize
     requires { ⌜ IsRowPermutation m rows × (m ≤ 8) ⌝ }
 {
     let mut count = 0;
@@ -201,7 +201,7 @@ fn unmarked(marks: [u8; 8]) -> [u8; 8]
 // where only one row has the least key, or where symmetries are kept, which tell more.
 pub fn chosen(
     grid: &[u8],
-    columns: &[u32; 128],
+    columns: &[u16; 128],
     table: &[u8; 128],
     m: usize,
     n: usize,
@@ -209,8 +209,8 @@ pub fn chosen(
     k: usize,
     rows: RowPermutation,
     after: [u8; 16],
-    keys: [u32; 8],
-    least: u32,
+    keys: [u16; 8],
+    least: u16,
     kept: usize,
 ) -> [u8; 8]
     requires { ⌜ Tables m n (now grid) low (now columns) (now table) × IsRowPermutation m rows × (k < m) × PlacesBy k n (now grid) (rowNumbers rows) after ⌝ }

@@ -113,7 +113,7 @@ fn two_pairs(
     words[a] + digit(15, d) + digit(15, f) == words[b] + digit(15, c) + digit(15, e)
 }
 
-// Whether row a dominates row b: they differ in columns c and d, and e and f.
+// Whether row a dominates row b: they differ in columns c and d, of which it is known that b is alone there, and e and f.
 fn by_two(
     table: &[u8; 128],
     words: &[u32; 8],
@@ -126,12 +126,9 @@ fn by_two(
     e: usize,
     f: usize,
 ) -> bool
-    requires { ⌜ Small (now words) × (a < 8) × (b < 8) × (c < 16) × (d < 16) × (e < 16) × (f < 16) ⌝ }
+    requires { ⌜ Small (now words) × (a < 8) × (b < 8) × (c < 16) × (d < 16) × (e < 16) × (f < 16) × Alone (now lows) (now after) b c d ⌝ }
     ensures { λ r. ⌜ (r ≡ true → ByTwo (now (table .entry)) (now (words .entry)) (now (lows .entry)) (now (after .entry)) a b c d e f) ⌝ }
 {
-    if !is_alone(lows, after, b, c, d) {
-        return false;
-    }
     if !is_alone(lows, after, b, e, f) {
         return false;
     }
@@ -179,11 +176,15 @@ fn side_by_two(
     requires { ⌜ Small (now words) × (n ≤ 16) × (a < 8) × (b < 8) × (c < n) × (d < n) × (e < n) × (f < n) ⌝ }
     ensures { λ r. ⌜ Sides (now (table .entry)) (now (words .entry)) (now (lows .entry)) (now (after .entry)) n a b r ⌝ }
 {
-    if by_two(table, words, lows, after, a, b, c, d, e, f) {
-        return 1;
+    if is_alone(lows, after, b, c, d) {
+        if by_two(table, words, lows, after, a, b, c, d, e, f) {
+            return 1;
+        }
     }
-    if by_two(table, words, lows, after, b, a, d, c, f, e) {
-        return 2;
+    if is_alone(lows, after, a, d, c) {
+        if by_two(table, words, lows, after, b, a, d, c, f, e) {
+            return 2;
+        }
     }
     0
 }

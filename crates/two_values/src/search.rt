@@ -18,21 +18,21 @@ ghost use Rattle.two_values.specs.Search.{Standing, Outcome, Lowest, Com
 pub struct Found {
     pub best: RowPermutation,
     pub after: [u8; 16],
-    pub keys: [u32; 8],
+    pub keys: [u16; 8],
     pub back: usize,
     pub symmetries: [u8; 32],
     pub kept: usize,
 }
 
 // The number at a position; 0 past the end.
-pub fn number_at(numbers: [u32; 8], i: usize) -> u32
+pub fn number_at(numbers: [u16; 8], i: usize) -> u16
     ensures { λ r. ⌜ r ≡ getD numbers i 0 ⌝ }
 {
     if i < 8 { numbers[i] } else { 0 }
 }
 
 // The least number of the rows from position k on.
-fn lowest(keys: [u32; 8], rows: RowPermutation, m: usize, k: usize) -> u32
+fn lowest(keys: [u16; 8], rows: RowPermutation, m: usize, k: usize) -> u16
     requires { ⌜ k < m ⌝ }
     ensures { λ r. ⌜ Lowest m k (rowNumbers rows) keys r ⌝ }
 {
@@ -63,7 +63,7 @@ fn common(a: RowPermutation, b: RowPermutation, count: usize) -> usize
 }
 
 // Whether the best's next row is known, and lower than the least.
-pub fn is_cut(fresh: bool, known: u32, least: u32) -> bool
+pub fn is_cut(fresh: bool, known: u16, least: u16) -> bool
     ensures { λ r. ⌜ Cuts fresh known least r ⌝ }
 {
     if fresh {
@@ -73,7 +73,7 @@ pub fn is_cut(fresh: bool, known: u32, least: u32) -> bool
 }
 
 // Whether the best's next row is not known, or higher than the least.
-pub fn is_lower(fresh: bool, known: u32, least: u32) -> bool
+pub fn is_lower(fresh: bool, known: u16, least: u16) -> bool
     ensures { λ r. ⌜ Lowers fresh known least r ⌝ }
 {
     if fresh {
@@ -83,7 +83,7 @@ pub fn is_lower(fresh: bool, known: u32, least: u32) -> bool
 }
 
 // What was found, with the number of row k.
-pub fn rekeyed(found: Found, m: usize, k: usize, least: u32) -> Found
+pub fn rekeyed(found: Found, m: usize, k: usize, least: u16) -> Found
     requires { ⌜ k < 8 ⌝ }
     ensures { λ r. ⌜ Rekeyed m k least found r ⌝ }
 {
@@ -95,8 +95,8 @@ pub fn rekeyed(found: Found, m: usize, k: usize, least: u32) -> Found
 
 // Whether a row has the least number, its position is not dropped, and it is not covered yet.
 fn is_followed(
-    key: u32,
-    least: u32,
+    key: u16,
+    least: u16,
     dropped: [u8; 8],
     covered: [u8; 8],
     t: usize,
@@ -118,7 +118,7 @@ fn is_followed(
 // What the search finds where all rows are placed: a new best, or a symmetry of the grid.
 pub fn reached(
     grid: &[u8],
-    columns: &[u32; 128],
+    columns: &[u16; 128],
     table: &[u8; 128],
     m: usize,
     n: usize,
@@ -155,7 +155,7 @@ pub fn reached(
 // one, the two row orders show a symmetry of the grid, and the search goes back to where they part.
 pub fn place(
     grid: &[u8],
-    columns: &[u32; 128],
+    columns: &[u16; 128],
     table: &[u8; 128],
     m: usize,
     n: usize,

@@ -5,17 +5,17 @@ ghost use lib.ListN.{length};
 ghost use Rattle.two_values.specs.Tables.{ByColumns, ByRows};
 
 // 1 for each cell with the higher value, column after column.
-pub fn by_columns(grid: &[u8], m: usize, n: usize, low: u8) -> [u32; 128]
+pub fn by_columns(grid: &[u8], m: usize, n: usize, low: u8) -> [u16; 128]
     requires { ⌜ (m ≤ 8) × (n ≤ 16) × (length (now grid) ≡ m * n) ⌝ }
     ensures { λ r. ⌜ ByColumns m n (now (grid .entry)) low r ⌝ }
 {
-    let mut out = [0u32; 128];
+    let mut out = [0u16; 128];
     let mut at = 0;
     let mut i = 0;
     while i < m {
         let mut j = 0;
         while j < n {
-            out[j * 8 + i] = (grid[at] != low) as u32;
+            out[j * 8 + i] = (grid[at] != low) as u16;
             at += 1;
             j += 1;
         }

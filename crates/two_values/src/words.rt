@@ -3,7 +3,7 @@ ghost use Rattle.two_values.specs.Tables.{Bits};
 ghost use Rattle.two_values.specs.Words.{RowWords, LowWords};
 
 // For each row 1 for each of its higher values, column 0 the highest digit of 16.
-pub fn by_row(columns: &[u32; 128]) -> [u32; 8]
+pub fn by_row(columns: &[u16; 128]) -> [u32; 8]
     requires { ⌜ Bits (now columns) ⌝ }
     ensures { λ r. ⌜ RowWords (now (columns .entry)) r ⌝ }
 {
@@ -12,7 +12,7 @@ pub fn by_row(columns: &[u32; 128]) -> [u32; 8]
     while c < 16 {
         let mut r = 0;
         while r < 8 {
-            out[r] = 2 * out[r] + columns[c * 8 + r];
+            out[r] = 2 * out[r] + columns[c * 8 + r] as u32;
             r += 1;
         }
         c += 1;

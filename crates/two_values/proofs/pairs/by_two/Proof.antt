@@ -11,20 +11,13 @@ is-alone-requires c κs = search needs
 returns : tie.Need-returns
 returns c = never
 
-is-alone-requires-2 : tie.Need-is-alone-requires-2
-is-alone-requires-2 c κs = search needs
-
-returns-2 : tie.Need-returns-2
-returns-2 c = never
-
 two-pairs-requires : tie.Need-two-pairs-requires
 two-pairs-requires c κs = search needs
 
-returns-3 : tie.Need-returns-3
-returns-3 c = λ e.
+returns-2 : tie.Need-returns-2
+returns-2 c = λ e.
     let i = c .before in
-    let j = i .before .before in
-    record { first-alone = j .before .is-alone .ensures (not-false _ (j .if1 .left)); second-alone = i .before .is-alone2 .ensures (not-false _ (i .if2 .left)); pairs = c .two-pairs .ensures e }
+    record { first-alone = i .before .before .pre .7; second-alone = i .before .is-alone .ensures (not-false _ (i .if1 .left)); pairs = c .two-pairs .ensures e }
 
 pub by-two-spec : {M : Type 1} → statement M
-by-two-spec = tie.close (tie.spec is-alone-requires returns is-alone-requires-2 returns-2 two-pairs-requires returns-3)
+by-two-spec = tie.close (tie.spec is-alone-requires returns two-pairs-requires returns-2)

@@ -10,7 +10,8 @@ use borrow.Fn.PlainCycle.{Measures, is, falls, and}
 use lib.ListN.{length, getD, List·getD-eq-default}
 use Rattle.permutations.specs.Lists.{tabulate}
 use Rattle.permutations.proofs.ListLaws.{length-tabulate, at-tabulate}
-use Rattle.two_values.proofs.PlaceLaws.{Turn, standing-small, standing-row, cut, turn-first, turn-skip, turn-stands, turn-back, turn-next, turn-all}
+use Rattle.two_values.proofs.PlaceLaws.{Turn, standing-small, standing-fits, standing-row, cut, turn-first, turn-skip, turn-stands, turn-back, turn-next, turn-all}
+use Rattle.two_values.proofs.PlaceSums.{sum-distinct}
 use Rattle.two_values.proofs.search.place.Reads as place
 use Rattle.two_values.proofs.search.place.Kinds as place-kinds
 use Rattle.two_values.proofs.search.+place.Lts-place as place-lts
@@ -103,12 +104,15 @@ returns : (t : ℕ) → place-lts.Need-returns (claims t) (place-at t) place.Pos
 returns t c = rw (c .before .if1 .taken) (c .reached .ensures)
 
 row-keys-requires : (t : ℕ) → place-lts.Need-row-keys-requires (claims t) (place-at t) place.Post Inv-loop μ-loop
-row-keys-requires t c κs = let s = c .before .before .pre .1 in (s .tables .by-columns .bits, standing-small _ _ _ _ _ _ _ _ _ _ _ s)
+row-keys-requires t c κs = let s = c .before .before .pre .1 in (s .tables .by-columns .bits, standing-small _ _ _ _ _ _ _ _ _ _ _ s, standing-fits _ _ _ _ _ _ _ _ _ _ _ s)
+
+tells-all-requires : (t : ℕ) → place-lts.Need-tells-all-requires (claims t) (place-at t) place.Post Inv-loop μ-loop
+tells-all-requires t c κs = standing-small _ _ _ _ _ _ _ _ _ _ _ (c .before .before .before .pre .1)
 
 completed-requires : (t : ℕ) → place-lts.Need-completed-requires (claims t) (place-at t) place.Post Inv-loop μ-loop
 completed-requires t c κs =
     let s = c .before .before .before .before .before .pre .1 in
-    (s, omega (arith, s .placed-fits, c .before .before .before .if1 .left), c .before .tells-all .ensures (c .if2 .taken), c .before .before .row-keys .ensures)
+    (s, omega (arith, s .placed-fits, c .before .before .before .if1 .left), sum-distinct _ _ _ _ _ (s .tables .columns-fit) (s .places) (c .before .tells-all .ensures (c .if2 .taken)), c .before .before .row-keys .ensures)
 
 returns-2 : (t : ℕ) → place-lts.Need-returns-2 (claims t) (place-at t) place.Post Inv-loop μ-loop
 returns-2 t c = c .completed .ensures
@@ -213,7 +217,7 @@ pub +place-spec : {M : Type 1} → statement M
     (reached-requires t)
     (returns t)
     (row-keys-requires t)
-    (λ c κs. tt)
+    (tells-all-requires t)
     (completed-requires t)
     (returns-2 t)
     (lowest-requires t)

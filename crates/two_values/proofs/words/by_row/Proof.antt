@@ -51,6 +51,12 @@ mul-out-4 c = omega arith
 element-copy-out-out : tie.Need-element-copy-out-out Inv-loop2 μ-loop2 Inv-loop μ-loop
 element-copy-out-out c = omega arith
 
+cast-out : tie.Need-cast-out Inv-loop2 μ-loop2 Inv-loop μ-loop
+unfolding Bits
+cast-out c =
+    let bits = c .before .before .before .before .before .pre in
+    record { fits = omega (arith, bits (c .before .before .before .before .loop .c * 8 + c .before .before .loop2 .r)) }
+
 add-out-2 : tie.Need-add-out-2 Inv-loop2 μ-loop2 Inv-loop μ-loop
 unfolding Bits
 add-out-2 c =
@@ -108,6 +114,7 @@ by-row-spec =
     add-out
     mul-out-4
     element-copy-out-out
+    cast-out
     add-out-2
     mul-out-5
     array-write-out
