@@ -24,8 +24,9 @@ use borrow.Author.Tests.{leb-true, lt-ltb, le-ltb}
 use Rattle.permutations.specs.Lists.{tabulate, numbers, every}
 use Rattle.permutations.specs.Permutations.{IsPermutation}
 use Rattle.permutations.specs.Padded.{IsPadded}
+use Rattle.permutations.specs.Sums.{sumTo}
 use Rattle.permutations.proofs.ListLaws.{tabulate-ext, every-number}
-use Rattle.permutations.proofs.PermutationLaws.{Within, Apart, onto}
+use Rattle.permutations.proofs.SumLaws.{sum-zero, sum-next, sum-permuted}
 use Rattle.grids.specs.Order.{rank, _≼_}
 use Rattle.grids.specs.Grids.{cell, row, permutedRow}
 use Rattle.general_search.specs.Counts.{weightAt, weight, counts, CountsRows, FirstGreatest, MarksLess}
@@ -120,70 +121,15 @@ below-next n f = rw zero-add at (counts-next 0 n f)
 below-ext : (n : ℕ) (f g : ℕ → ℕ) → ((j : ℕ) → j < n → f j ≡ g j) → below n f ≡ below n g
 below-ext n f g h = ap counts (tabulate-ext 0 n f g h)
 
--- cells that differ at one index
-below-other : (n : ℕ) (f g : ℕ → ℕ) (i : ℕ) → i < n → ((j : ℕ) → j < n → (j ≡ i → ⊥) → f j ≡ g j) → below n f + weight (g i) ≡ below n g + weight (f i)
-below-other zero f g i h same = absurd (not-suc-le-zero h)
-below-other (suc n) f g i h same = go (λ b. below-other n f g i b (λ j c. same j (omega arith))) (ℕ-discrete i n)
-  where
-    go : (i < n → below n f + weight (g i) ≡ below n g + weight (f i)) → Dec (i ≡ n) → below (suc n) f + weight (g i) ≡ below (suc n) g + weight (f i)
-    go ih (yes e) = omega (arith, below-next n f, below-next n g, below-ext n f g (λ j b. same j (omega arith) (omega arith)), ap (λ (x : ℕ). weight (f x)) e, ap (λ (x : ℕ). weight (g x)) e)
-    go ih (no ne) = omega (arith, below-next n f, below-next n g, ih (omega arith), ap weight (same n (omega arith) (omega arith)))
-
-below-permuted : (n : ℕ) (f h : ℕ → ℕ) → Within n h → Apart n h → below n (λ j. f (h j)) ≡ below n f
-unfolding tabulate
-below-permuted zero f h w a = refl
-below-permuted (suc n) f h w a = let r = onto (suc n) h w a n (omega arith) in go (below-permuted n f) (r .0) (r .1) (r .2)
-  where
-    go : ((h : ℕ → ℕ) → Within n h → Apart n h → below n (λ j. f (h j)) ≡ below n f) → (i : ℕ) → i < suc n → h i ≡ n → below (suc n) (λ j. f (h j)) ≡ below (suc n) f
-    go ih i b e = omega (arith, below-next n (λ j. f (h j)), below-next n f, ih to within apart, exchanged (ℕ-discrete i n))
-      where
-        -- h with its number at n put where n stood
-        move : (j : ℕ) → Dec (j ≡ i) → ℕ
-        move j (yes y) = h n
-        move j (no y) = h j
-
-        to : ℕ → ℕ
-        to j = move j (ℕ-discrete j i)
-
-        within : Within n to
-        within j jn = pick (ℕ-discrete j i)
-          where
-            pick : (d : Dec (j ≡ i)) → move j d < n
-            pick (yes y) = let ne : h n ≡ n → ⊥ = λ z. let o : n ≡ i = a n i (omega arith) b (z ∙ sym e) in omega arith in omega (arith, w n (omega arith))
-            pick (no y) = let ne : h j ≡ n → ⊥ = λ z. y (a j i (omega arith) b (z ∙ sym e)) in omega (arith, w j (omega arith))
-
-        apart : Apart n to
-        apart j k jn kn = pick (ℕ-discrete j i) (ℕ-discrete k i)
-          where
-            pick : (d : Dec (j ≡ i)) (q : Dec (k ≡ i)) → move j d ≡ move k q → j ≡ k
-            pick (yes y) (yes z) o = y ∙ sym z
-            pick (yes y) (no z) o = let x : n ≡ k = a n k (omega arith) (omega arith) o in absurd (omega arith)
-            pick (no y) (yes z) o = let x : j ≡ n = a j n (omega arith) (omega arith) o in absurd (omega arith)
-            pick (no y) (no z) o = a j k (omega arith) (omega arith) o
-
-        move-no : (j : ℕ) → (j ≡ i → ⊥) → h j ≡ to j
-        move-no j ne = pick (ℕ-discrete j i)
-          where
-            pick : (d : Dec (j ≡ i)) → h j ≡ move j d
-            pick (yes y) = absurd (ne y)
-            pick (no y) = refl
-
-        move-yes : h n ≡ to i
-        move-yes = pick (ℕ-discrete i i)
-          where
-            pick : (d : Dec (i ≡ i)) → h n ≡ move i d
-            pick (yes y) = refl
-            pick (no y) = absurd (y refl)
-
-        exchanged : Dec (i ≡ n) → below n (λ j. f (h j)) + weight (f (h n)) ≡ below n (λ j. f (to j)) + weight (f n)
-        exchanged (yes y) = omega (arith, below-ext n (λ j. f (h j)) (λ j. f (to j)) (λ j jn. ap f (move-no j (omega arith))), ap (λ (x : ℕ). weight (f x)) (sym (ap h y) ∙ e))
-        exchanged (no y) =
-            omega
-            (arith, below-other n (λ j. f (h j)) (λ j. f (to j)) i (omega arith) (λ j jn ne. ap f (move-no j ne)), ap (λ (x : ℕ). weight (f x)) move-yes, ap (λ (x : ℕ). weight (f x)) e)
+below-sum : (n : ℕ) (f : ℕ → ℕ) → below n f ≡ sumTo n (λ j. weight (f j))
+unfolding tabulate counts
+below-sum zero f = sym (sum-zero (λ j. weight (f j)))
+below-sum (suc n) f = omega (arith, below-next n f, sum-next n (λ j. weight (f j)), below-sum n f)
 
 pub counts-permuted : (n : ℕ) (g : List ℕ) (i : ℕ) (q : List ℕ) → IsPermutation n q → counts (permutedRow n g i q) ≡ counts (row n g i)
 unfolding permutedRow row
-counts-permuted n g i q o = below-permuted n (λ j. cell n g i j) (λ j. getD q j 0) (o .within) (o .once)
+counts-permuted n g i q o =
+    below-sum n (λ j. cell n g i (getD q j 0)) ∙ sym (sum-permuted n q o (λ j. weight (cell n g i j))) ∙ sym (below-sum n (λ j. cell n g i j))
 
 pub counts-whole : (n : ℕ) (g : List ℕ) (i : ℕ) (q : List ℕ) → IsPadded 16 n q → counts (permutedRow n g i q) ≡ counts (row n g i)
 unfolding permutedRow

@@ -11,3 +11,4 @@ pub mod PositionLaws
 pub mod SelectLaws
 pub mod Transpositions
 pub mod SwapLaws
+pub mod SumLaws

@@ -4,3 +4,4 @@ pub mod Padded
 pub mod Rows
 pub mod TerminalRows
 pub mod Columns
+pub mod Sums

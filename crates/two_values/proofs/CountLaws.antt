@@ -16,7 +16,7 @@ use native.Mathlib.Nat.{not-suc-le-zero}
 use native.Mathlib.Decide.{ℕ-discrete}
 use native.Mathlib.Omega.{arith}
 use Rattle.permutations.proofs.BoolLaws.{yes-or-no}
-use Rattle.two_values.specs.Sums.{sumTo, indicator, count}
+use Rattle.permutations.specs.Sums.{sumTo, indicator, count}
 
 pub indicator-true : (b : Bool) → b ≡ true → indicator b ≡ 1
 unfolding indicator

@@ -27,12 +27,12 @@ use Rattle.grids.specs.Grids.{cell, permutedRow, arrangement}
 use Rattle.grids.specs.Sorted.{permutedColumn, Ascending}
 use Rattle.grids.proofs.OrderLaws.{≼-refl, ≼-trans, ≺-≼, ≼-≺, ≺-trans, ≼-prefix, first-unequal, tabulate-at, less-decides, equal-eq, eq-equal}
 use Rattle.branches.proofs.LeadingRows.{leading-cells, leading-more}
-use Rattle.two_values.specs.Sums.{sumTo, count}
+use Rattle.permutations.specs.Sums.{sumTo, count}
 use Rattle.two_values.specs.TwoValues.{TwoValued, bit, columnsAfter, placesAfter, key}
 use Rattle.two_values.specs.Tables.{high, ByColumns, RowKeys}
 use Rattle.two_values.proofs.BitLaws.{bit-most, bit-lower, bit-ascends, cell-inside}
 use Rattle.two_values.proofs.CountLaws.{count-ext, count-less, count-after, count-from}
-use Rattle.two_values.proofs.SumLaws.{sum-ext, sum-none-past, sum-permuted, count-permuted, weighted-less}
+use Rattle.permutations.proofs.SumLaws.{sum-ext, sum-none-past, sum-permuted, count-permuted, weighted-less}
 
 -- ---- the numbers of the tables
 

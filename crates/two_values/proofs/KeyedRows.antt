@@ -21,7 +21,7 @@ use Rattle.branches.proofs.LeadingRows.{leading-fewer, leading-row}
 use Rattle.branches.proofs.BranchLaws.{placed-stay}
 use Rattle.two_values.specs.TwoValues.{TwoValued, bit, columnsAfter, key, columnOrder, sortedRows}
 use Rattle.two_values.proofs.CountLaws.{count-ext}
-use Rattle.two_values.proofs.SumLaws.{sum-ext}
+use Rattle.permutations.proofs.SumLaws.{sum-ext}
 use Rattle.two_values.proofs.SortedRows.{order-permutation, order-ascending, sorted-fewer, sorted-agree, sorted-next, sorted-lower, columns-agree}
 use Rattle.two_values.proofs.KeyLaws.{key-order, key-equal}
 

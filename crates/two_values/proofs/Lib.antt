@@ -1,5 +1,4 @@
 pub mod CountLaws
-pub mod SumLaws
 pub mod LoopLaws
 pub mod TableLaws
 pub mod ValueLaws

@@ -12,12 +12,12 @@ use lib.ListN.{getD}
 use lib.Pow.{pow-mono}
 use Rattle.permutations.specs.Permutations.{IsPermutation}
 use Rattle.permutations.proofs.PermutationLaws.{listed}
-use Rattle.two_values.specs.Sums.{sumTo}
+use Rattle.permutations.specs.Sums.{sumTo}
 use Rattle.two_values.specs.TwoValues.{columnOrder}
 use Rattle.two_values.specs.Tables.{PowersFit, Places}
 use Rattle.two_values.specs.Search.{PlacesBy}
 use Rattle.two_values.specs.Settled.{Distinct}
-use Rattle.two_values.proofs.SumLaws.{sum-wider, sum-tail, sum-tight, sum-permuted}
+use Rattle.permutations.proofs.SumLaws.{sum-wider, sum-tail, sum-tight, sum-permuted}
 use Rattle.two_values.proofs.SortedRows.{order-permutation, order-ascending}
 use Rattle.two_values.proofs.RefinedLaws.{places-are}
 use Rattle.two_values.proofs.KeyLaws.{places-is, after-room}

@@ -11,7 +11,6 @@
 --   Over y u v a n r q   ==  row r is row q, or dominates it so
 --   Sides y u v a n r q i  ==  where i is 1, row r is over row q; where it is 2, q is over r
 --   Prepared ..          ==  what is known where rows are held against each other: the first k rows of p are placed
---   Small u              ==  the eight numbers of u have 16 digits
 --   Loses y u v a n p first second s t i  ==  where i is a position, it is t or s, both are marked, and the row at the other one is over its row
 --   MarksLeast k m p keys least b  ==  b marks those of the positions k to m whose row has the least key
 --   Unmarked a b         ==  b is 0 at each position that a marks
@@ -72,9 +71,6 @@ pub record Prepared (m n : ℕ) (g : List ℕ) (low : ℕ) (x y : List ℕ) (k :
   pub places : PlacesBy k n g (rowNumbers p) a
   pub row-words : RowWords x u
   pub low-words : LowWords y v
-
-unfoldable pub Small : List ℕ → Type 0
-Small u = (r : ℕ) → r < 8 → getD u r 0 < 65536
 
 pub record Loses (y u v a : List ℕ) (n : ℕ) (p : List ℕ) (first second s t i : ℕ) : Type 0 where
   pub marked : i < 8 → (first ≡ 0 → ⊥) × (second ≡ 0 → ⊥)

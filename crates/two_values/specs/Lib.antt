@@ -1,4 +1,3 @@
-pub mod Sums
 pub mod TwoValues
 pub mod Tables
 pub mod Search

@@ -22,7 +22,7 @@ use lib.Dec.{ltb}
 use Rattle.permutations.specs.declared.columns.ColumnPermutation.{ColumnPermutation}
 use Rattle.permutations.specs.Columns.{columnNumbers, IsColumnPermutation}
 use Rattle.grids.specs.Grids.{cell}
-use Rattle.two_values.specs.Sums.{sumTo, count}
+use Rattle.permutations.specs.Sums.{sumTo, count}
 use Rattle.two_values.specs.TwoValues.{bit}
 
 unfoldable pub high : ℕ → List ℕ → ℕ → ℕ → ℕ → ℕ

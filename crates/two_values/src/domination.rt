@@ -7,7 +7,8 @@ ghost use Prim.Native.Nat.{_≤_, _<_};
 ghost use lib.ListN.{getD, length};
 ghost use Rattle.permutations.specs.Rows.{rowNumbers, IsRowPermutation};
 ghost use Rattle.two_values.specs.Search.{Tables, PlacesBy, Drops, Chosen};
-ghost use Rattle.two_values.specs.Domination.{Small, Loses, Prepared, MarksLeast, Unmarked};
+ghost use Rattle.two_values.specs.Words.{Small};
+ghost use Rattle.two_values.specs.Domination.{Loses, Prepared, MarksLeast, Unmarked};
 
 // The number of the row at a position.
 fn number(rows: RowPermutation, i: usize) -> usize

@@ -4,7 +4,8 @@ ghost use mathlib.Core.Path.{_≡_};
 ghost use mathlib.Core.Bool.{true};
 ghost use Prim.Native.Nat.{_-_, _^_, _≤_, _<_};
 ghost use lib.ListN.{getD};
-ghost use Rattle.two_values.specs.Domination.{Alone, Crossed, ByOne, TwoPairs, ByTwo, Sides, Small};
+ghost use Rattle.two_values.specs.Words.{Small};
+ghost use Rattle.two_values.specs.Domination.{Alone, Crossed, ByOne, TwoPairs, ByTwo, Sides};
 
 // The value of the digit i of a word whose last digit is `last`.
 fn digit(last: usize, i: usize) -> u32

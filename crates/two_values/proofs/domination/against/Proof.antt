@@ -4,7 +4,6 @@ use Prim.Native.Nat.{_-_, _<_}
 use native.Mathlib.Omega.{arith}
 use Rattle.permutations.specs.Rows.{rowNumbers}
 use Rattle.two_values.specs.Search.{Drops}
-use Rattle.two_values.specs.Domination.{Small}
 use Rattle.two_values.proofs.DominationLaws.{drops-none, drops-twice}
 use Rattle.two_values.proofs.LoserLaws.{drops-loser}
 use Rattle.two_values.proofs.domination.against.Statement.{statement}
@@ -29,7 +28,6 @@ array-read-loser-2 : tie.Need-array-read-loser-2 Inv-loop μ-loop
 array-read-loser-2 c = omega (arith, c .before .before .before .pre .0 .tables .rows-fit)
 
 loser-requires : tie.Need-loser-requires Inv-loop μ-loop
-unfolding Small
 loser-requires c κs =
     let pre = c .before .before .before .pre in
     (pre .0 .row-words .small, pre .0 .tables .columns-fit, pre .0 .tables .rows-fit, pre .0 .rows, pre .3, omega arith)

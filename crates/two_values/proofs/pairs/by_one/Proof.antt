@@ -3,7 +3,7 @@ use borrow.Author.Needs.{needs}
 use Rattle.two_values.proofs.DominationLaws.{never}
 use borrow.Author.Tests.{eqb-true, not-false}
 use native.Mathlib.Omega.{arith}
-use Rattle.two_values.specs.Domination.{Small}
+use Rattle.two_values.specs.Words.{Small}
 use Rattle.two_values.proofs.PairSteps.{digit-small, sum-words}
 use Rattle.two_values.proofs.pairs.by_one.Statement.{statement}
 use Rattle.two_values.proofs.pairs.by_one.Tie as tie

@@ -4,6 +4,7 @@ use Prim.Native.Nat.{_+_, _-_, _*_, _≤_}
 use native.Mathlib.Omega.{arith}
 use lib.ListN.{getD}
 use Rattle.two_values.specs.Tables.{Bits}
+use Rattle.two_values.specs.Words.{Small}
 use Rattle.two_values.proofs.WordLaws.{WordedTo, worded-none, worded-cell, worded-turn, worded-small}
 use Rattle.two_values.proofs.words.by_row.Statement.{statement}
 use Rattle.two_values.proofs.words.by_row.Tie as tie
@@ -89,7 +90,7 @@ loop-again : tie.Need-loop-again Inv-loop2 μ-loop2 Inv-loop μ-loop
 loop-again c = (omega arith, worded-turn (c .before .loop2 .inv .1) (omega arith))
 
 returns : tie.Need-returns Inv-loop2 μ-loop2 Inv-loop μ-loop
-unfolding Bits
+unfolding Bits Small
 returns c =
     let l = c .before .loop in
     let bits = c .before .before .pre in

@@ -18,9 +18,9 @@ use native.Mathlib.Decide.{ℕ-discrete}
 use native.Mathlib.Omega.{arith}
 use lib.ListN.{getD}
 use lib.Pow.{pow-pos, pow-mono}
 use Rattle.permutations.specs.Permutations.{IsPermutation}
 use Rattle.permutations.proofs.PermutationLaws.{Within, Apart, onto}
-use Rattle.two_values.specs.Sums.{sumTo, indicator, count}
+use Rattle.permutations.specs.Sums.{sumTo, indicator, count}
 
 pub sum-zero : (f : ℕ → ℕ) → sumTo 0 f ≡ 0
 unfolding sumTo
