@@ -8,7 +8,7 @@
 --   ByOne y u v a r q c d  ==  row r dominates row q: they differ in columns c and d alone
 --   TwoPairs y u r q c d e f  ==  rows r and q differ so in columns c and d, and e and f, and in no others
 --   ByTwo y u v a r q c d e f  ==  row r dominates row q: they differ in columns c and d, and e and f
---   Over y u v a n r q   ==  row r is row q, or dominates it so
+--   Over y u v a n r q   ==  row r equals row q, or dominates it so
 --   Sides y u v a n r q i  ==  where i is 1, row r is over row q; where it is 2, q is over r
 --   Prepared ..          ==  what is known where rows are held against each other: the first k rows of p are placed
 --   Loses y u v a n p first second s t i  ==  where i is a position, it is t or s, both are marked, and the row at the other one is over its row
