@@ -11,6 +11,7 @@
 --   says-some, says-none  ==  prune's number is 0 where every question gets a yes and some grid in the bounds has allperm, 102 where none has
 --   pruned-is-bounds   ==  bounds that prune leaves with 0 are bounds
 --   prunes             ==  the outcome determined meets prune's contract
+--   bounds-bytes       ==  bounds within the limits are bytes
 --   prune-exact        ==  demand 2's sentence on prune, of every program that meets its contract
 --   prunes-refused     ==  what meets it refuses so
 --   prune-one-row      ==  with one row nothing is removed
@@ -20,13 +21,15 @@ use mathlib.Core.Path.{_≡_, refl, ap, _∙_}
 use mathlib.Core.List.{List}
 use mathlib.Core.Bool.{true, false}
 use mathlib.Core.Logic.{_↔_}
-use Prim.Native.Nat.{ℕ, zero, suc, _*_, _≤_}
+use Prim.Native.Nat.{ℕ, zero, suc, _*_, _≤_, _<_}
 use native.Mathlib.Omega.{arith}
 use lib.Dec.{ltb}
 use Rattle.permutations.proofs.BoolLaws.{decided, refuted}
 use Rattle.grids.specs.Questions.{firstNo, Limits, question1, question2, question3, question6, question7}
 use Rattle.grids.specs.Least.{IsLeast}
 use Rattle.grids.proofs.QuestionLaws.{Numbered, firstNo-has, first-no-zero, limits-asked, limits-pass}
+use Rattle.grids.specs.Lent.{Bytes}
+use Rattle.grids.proofs.LentLaws.{limits-few, capped-bytes, limits-lent}
 use Rattle.bounds.specs.Bounds.{IsBounds, inBounds}
 use Rattle.bounds.specs.Kept.{Obeyed, obeyed, keptLow, keptHigh, removed}
 use Rattle.bounds.specs.Allperm.{Allperm, allperm}
@@ -115,30 +118,19 @@ module _ (m n top : ℕ) (low high : List ℕ) where
     pruned-none h = rw (e, pruned) (prunedYes-none (refuted _ some-decides h))
 
     exactly : Exact m n top low high (pruned m n top low high)
-    exactly = go prune-case
-      where
-        go : PruneCase m n top low high → Exact m n top low high (pruned m n top low high)
-        go (refused k f) = absurd (omega arith)
-        go (some _ o) =
-            rw (pruned-some o)
-            (record {
-              answers = λ o. refl;
-              sizes = (length-keptLow (allperm m n) (m * n) top low high, length-keptHigh (allperm m n) (m * n) top low high);
-              exact = kept-exactly (Allperm m n) (λ k. ltb k n) (m * n) (allperm-directed m n) top low high (asked-bounds e) (allperm m n) (allperm-decides m n);
-              ends = λ o k b. let d = obeyed-ends (Allperm m n) (allperm m n) (allperm-decides m n) (m * n) top low high o k b in (d .low-kept, d .high-kept);
-              counts = λ o. refl;
-              none = λ h. absurd (h o);
-            })
-        go (none _ h) =
-            rw (pruned-none h)
-            (record {
-              answers = λ o. absurd (h o);
-              sizes = (asked-bounds e .low-size, asked-bounds e .high-size);
-              exact = λ o. absurd (h o);
-              ends = λ o. absurd (h o);
-              counts = λ o. absurd (h o);
-              none = λ h. (refl, refl, refl, refl);
-            })
+    exactly = record {
+      some = λ o.
+          rw (pruned-some o)
+          (record {
+            number-is = refl;
+            low-size = length-keptLow (allperm m n) (m * n) top low high;
+            high-size = length-keptHigh (allperm m n) (m * n) top low high;
+            exact = kept-exactly (Allperm m n) (λ k. ltb k n) (m * n) (allperm-directed m n) top low high (asked-bounds e) (allperm m n) (allperm-decides m n) o;
+            ends = λ k b. let d = obeyed-ends (Allperm m n) (allperm m n) (allperm-decides m n) (m * n) top low high o k b in (d .low-kept, d .high-kept);
+            counts = refl;
+          });
+      none = λ h. rw (pruned-none h) (record { number-is = refl; counts = refl; low-kept = refl; high-kept = refl });
+    }
 
   -- prune says 0 where some grid in the bounds has allperm, 102 where none has, and else the number of a question
   pub says-some : pruned m n top low high .number ≡ 0 → (firstNo (pruneQuestions m n top low high) ≡ 0) × Obeyed (Allperm m n) (m * n) top low high
@@ -172,9 +164,16 @@ module _ (m n top : ℕ) (low high : List ℕ) where
 pub prunes : (m n top : ℕ) (low high : List ℕ) (r : Pruned) → r ≡ pruned m n top low high → Prunes m n top low high r
 prunes m n top low high r e = record { determined = e; exactly = λ l b. rw e (exactly m n top low high (prune-pass m n top low high .1 (l, b))) }
 
+pub bounds-bytes : (m n top : ℕ) (low high : List ℕ) → Limits m n top → IsBounds (m * n) top low high → Bytes low × Bytes high
+bounds-bytes m n top low high l b =
+    let few : m * n < 10000000 = omega (arith, limits-few m n top l) in
+    (capped-bytes (m * n) top low few (omega (arith, l .top-limit)) (b .low-size) (b .low-cap), capped-bytes (m * n) top high few (omega (arith, l .top-limit)) (b .high-size) (b .high-cap))
+
 pub prune-exact : (f : Pruning) → MeetsPrune f → PruneExact f
 unfolding PruneExact MeetsPrune
-prune-exact f c m n top low high l b = c m n top low high .exactly l b
+prune-exact f c m n top low high l b =
+    let w = bounds-bytes m n top low high l b in
+    c m n top low high (limits-lent m n top low high l (w .0) (w .1)) .exactly l b
 
 pub prune-one-row : (n top : ℕ) (low high : List ℕ) → firstNo (pruneQuestions 1 n top low high) ≡ 0 →
     pruned 1 n top low high ≡ record { number = 0; count = 0; low = low; high = high }

@@ -5,3 +5,4 @@ pub mod Prune
 pub mod Demand2
 pub mod Rows
 pub mod Narrowed
+pub mod Pruning

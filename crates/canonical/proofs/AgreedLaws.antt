@@ -4,6 +4,7 @@
 --   same-agreed-all     ==  with 0 it is all of them
 --   same-parts          ==  with 103 it is below their number, and the two least grids part there
 --   same-agreed-none    ==  in a refusal it is 0
+--   asked-103           ==  103 is no refusal
 --   same-of-classes     ==  it and the number are those of the two classes: arranging either grid anew changes neither
 --   same-exchanged      ==  nor does exchanging the two, on all arguments
 use mathlib.Core.Path.{_≡_, refl, sym, ap, ap₂, _∙_}
@@ -31,10 +32,9 @@ use Rattle.canonical.proofs.CallLaws.{same-pass, same-first-no, same-as
 
 pub same-agreed-none : (m n top : ℕ) (a b : List ℕ) (k : ℕ) → firstNo (sameQuestions m n top a b) ≡ suc k → sameAgreed m n top a b ≡ 0
 unfolding sameAgreed classAgreed
-same-agreed-none m n top a b k e = rw (e, classAgreed)
+same-agreed-none m n top a b k e = rw e
 
--- 103 is no refusal
-asked-103 : (m n top : ℕ) (a b : List ℕ) → sameNumber m n top a b ≡ 103 → firstNo (sameQuestions m n top a b) ≡ 0
+pub asked-103 : (m n top : ℕ) (a b : List ℕ) → sameNumber m n top a b ≡ 103 → firstNo (sameQuestions m n top a b) ≡ 0
 unfolding sameQuestions question1 question2 question3 question6 question7
 asked-103 m n top a b z = go (firstNo (sameQuestions m n top a b)) refl small
   where
@@ -58,14 +58,14 @@ module _ (m n top : ℕ) (a b : List ℕ) (e : firstNo (sameQuestions m n top a 
       go : (t : Bool) → oneClass m n a b ≡ t → sameAgreed m n top a b ≡ commonPrefixLength (least m n a) (least m n b)
       go true f =
           let s = class-least m n a b (same-pass m n top a b .0 e .1 .sized) (passes-class m n a b f) in
-          rw (e, f, classAgreed) (sym (prefix-all (least m n a) (least m n b) (sizes .0 ∙ sym (sizes .1)) .0 s ∙ sizes .0))
-      go false f = rw (e, f, classAgreed)
+          rw (e, f) (sym (prefix-all (least m n a) (least m n b) (sizes .0 ∙ sym (sizes .1)) .0 s ∙ sizes .0))
+      go false f = rw (e, f)
 
 pub same-agreed-all : (m n top : ℕ) (a b : List ℕ) → sameNumber m n top a b ≡ 0 → sameAgreed m n top a b ≡ m * n
 unfolding sameAgreed classAgreed
 same-agreed-all m n top a b z =
     let e = same-asked m n top a b z in
-    rw (e, class-passes m n a b (same-zero m n top a b e .0 z), classAgreed)
+    rw (e, class-passes m n a b (same-zero m n top a b e .0 z))
 
 pub same-parts : (m n top : ℕ) (a b : List ℕ) → sameNumber m n top a b ≡ 103 →
     (sameAgreed m n top a b < m * n) × Decided (sameAgreed m n top a b) (least m n a) (least m n b)

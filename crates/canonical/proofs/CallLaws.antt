@@ -1,17 +1,21 @@
 -- What the answers of represent and same mean.
 --
 --   represent-pass, same-pass  ==  what the questions get a yes for, exactly
---   represented-least    ==  every answer that the contract allows is the least arrangement, with orders that produce it
+--   represented-done, represented-refused, represented-number  ==  an answer of represent: where no question gets a no, in a refusal, and its number
+--   represented-least    ==  an answer where no question gets a no is the least arrangement, with orders that produce it
 --   represent-least      ==  so demand 2's sentence on represent holds of every program that meets the contract
 --   represented-alike    ==  two answers after the same first no have one number and one output slice, whatever the widths of their row orders
 --   represent-determined ==  so two answers of represent to the same arguments do
+--   represent-refused    ==  a refusal by represent
+--   compared-one, compared-starts, compared-refused  ==  an answer of same: with 0, with any other number, and in a refusal
+--   compared-number      ==  its number, and the cells that agree, are those of the definitions
+--   compared-alike       ==  so two answers to the same arguments have one number, and as many cells agree, whatever the widths of their row orders
+--   same-refused         ==  with 103, or in a refusal, same's orders move nothing
 --   same-zero, same-103  ==  where every question gets a yes: 0 exactly for grids in one class, 103 exactly for grids in two
 --   same-leasts          ==  and 0 exactly for grids with one least grid
 --   same-first-no, number-asked, same-asked  ==  a refusal has its question's number; 0 is no refusal
 --   represented-by, compared-by  ==  there is an answer where the rows fit the width
 --   represent-answers, same-answers  ==  so on all arguments represent and same have one
---   represented-refused, compared-refused  ==  in a refusal and with 103: the number, orders that move nothing, and the slice as it was
---   represent-refused, same-refused  ==  so it is of represent and same
 --   produces-past        ==  orders that produce a grid have `width` and 16 positions, and those past the rows and columns hold their own number
 --   same-orders          ==  orders by which B is the arrangement of A, from those that produce the least grid from each
 use mathlib.Core.Path.{_≡_, refl, sym, ap, _∙_}
@@ -19,23 +23,24 @@ use mathlib.Core.List.{List, [], _∷_, List·Memᴰ, List·Memᴰ·head, List·
 use mathlib.Core.Bool.{Bool, true, false}
 use mathlib.Core.Logic.{_↔_}
 use Prim.Native.Nat.{ℕ, zero, suc, _*_, _≤_, _<_}
-use native.Mathlib.Decide.{ℕ-discrete}
 use native.Mathlib.Omega.{arith}
 use lib.ListN.{length, take, getD}
 use Rattle.permutations.specs.Permutations.{IsPermutation, identity, composed, inverse}
 use Rattle.permutations.specs.Padded.{padded}
 use Rattle.permutations.proofs.PermutationLaws.{inverse-permutation, composed-inverse}
 use Rattle.permutations.proofs.PaddedLaws.{length-padded, padded-from, padded-own}
+use Rattle.grids.specs.CommonPrefix.{commonPrefixLength}
 use Rattle.grids.specs.Grids.{IsGrid, capped, arrangement, OneClass, oneClass}
-use Rattle.grids.specs.Least.{IsLeast, least}
+use Rattle.grids.specs.Least.{least}
 use Rattle.grids.specs.Questions.{firstNo, Limits}
 use Rattle.grids.proofs.GridLaws.{arrangement-identity, arrangement-twice, class-passes, passes-class}
 use Rattle.grids.proofs.LeastLaws.{least-is, least-in-class, one-class-one-least}
+use Rattle.grids.proofs.LentLaws.{grid-bytes, limits-lent}
 use Rattle.grids.proofs.QuestionLaws.{grid-of, grid-capped, all-one, all-two, slices-pass}
-use Rattle.canonical.specs.Represent.{Produces, RepresentedBy, representQuestions, Represented}
-use Rattle.canonical.specs.Same.{classNumber, ComparedBy, sameQuestions, sameNumber, Compared}
+use Rattle.canonical.specs.Represent.{Produces, Starting, RepresentAnswer, RepresentDone, RepresentRefused, RepresentedBy, representQuestions, Represented}
+use Rattle.canonical.specs.Same.{SameAnswer, SameRefused, SameOneClass, ComparedBy, sameQuestions, Compared, classNumber, classAgreed, sameNumber}
 use Rattle.canonical.specs.Programs.{Representing, MeetsRepresent}
-use Rattle.canonical.specs.Demand2.{RepresentLeast}
+use Rattle.canonical.specs.Demand2.{AnswersLeast, RepresentLeast}
 
 -- ---- what the questions ask
 
@@ -73,54 +78,106 @@ same-pass m n top a b = (to, back)
 
 -- ---- represent
 
-pub represented-least : (m n top : ℕ) (g out : List ℕ) → Limits m n top → IsGrid m n top g → length out ≡ m * n →
-    (number : ℕ) (rows columns out′ : List ℕ) → Represented m n top g out number rows columns out′ → (number ≡ 0) × IsLeast m n g out′ × Produces 8 m n g out′ rows columns
-represented-least m n top g out l i e number rows columns out′ r =
-    let z = r .number-is ∙ represent-pass m n top g out .1 (l, i, e) in
-    (z, rw (r .written z) (least-is m n g (i .sized)), rw (r .written z) (r .produced z))
+pub represented-done : (width k m n : ℕ) (g out : List ℕ) (r : RepresentAnswer) → k ≡ 0 → RepresentedBy width k m n g out r → RepresentDone width m n g r
+unfolding RepresentedBy
+represented-done width k m n g out r e h = rw e at h
+
+pub represented-refused : (width k m n : ℕ) (g out : List ℕ) (r : RepresentAnswer) → (r .number ≡ 0 → ⊥) → RepresentedBy width k m n g out r → RepresentRefused width k out r
+unfolding RepresentedBy
+represented-refused width zero m n g out r e h = absurd (e (h .number-is))
+represented-refused width (suc k) m n g out r e h = h
+
+pub represented-number : (width k m n : ℕ) (g out : List ℕ) (r : RepresentAnswer) → RepresentedBy width k m n g out r → r .number ≡ k
+unfolding RepresentedBy
+represented-number width zero m n g out r h = h .number-is
+represented-number width (suc k) m n g out r h = h .number-is
+
+pub represented-least : (width m n : ℕ) (g : List ℕ) (r : RepresentAnswer) → length g ≡ m * n → RepresentDone width m n g r → AnswersLeast width m n g r
+represented-least width m n g r e h = record {
+  number-is = h .number-is;
+  is-least = rw (h .written) (least-is m n g e);
+  produced = rw (h .written) (h .produced);
+}
 
 pub represent-least : (f : Representing) → MeetsRepresent f → RepresentLeast f
 unfolding RepresentLeast MeetsRepresent
-represent-least f c m n top g out l i e = represented-least m n top g out l i e _ _ _ _ (c m n top g out)
+represent-least f c m n top g out l i h e =
+    represented-least 8 m n g _ (i .sized)
+    (represented-done 8 _ m n g out _ (represent-pass m n top g out .1 (l, i, e)) (c m n top g out (limits-lent m n top g out l (grid-bytes m n top g l i) h)))
 
-pub represented-alike : (width w k m n : ℕ) (g out : List ℕ) (a : ℕ) (p q o : List ℕ) (b : ℕ) (p′ q′ o′ : List ℕ) →
-    RepresentedBy width k m n g out a p q o → RepresentedBy w k m n g out b p′ q′ o′ → (a ≡ b) × (o ≡ o′)
-represented-alike width w k m n g out a p q o b p′ q′ o′ r s = (e, go (ℕ-discrete a 0))
-  where
-    e : a ≡ b
-    e = r .number-is ∙ sym (s .number-is)
+pub represented-alike : (width w k m n : ℕ) (g out : List ℕ) (r s : RepresentAnswer) →
+    RepresentedBy width k m n g out r → RepresentedBy w k m n g out s → (r .number ≡ s .number) × (r .out ≡ s .out)
+unfolding RepresentedBy
+represented-alike width w zero m n g out r s x y = (x .number-is ∙ sym (y .number-is), x .written ∙ sym (y .written))
+represented-alike width w (suc k) m n g out r s x y = (x .number-is ∙ sym (y .number-is), x .unchanged ∙ sym (y .unchanged))
 
-    go : Dec (a ≡ 0) → o ≡ o′
-    go (yes z) = r .written z ∙ sym (s .written (sym e ∙ z))
-    go (no nz) = r .unchanged nz ∙ sym (s .unchanged (λ z. nz (e ∙ z)))
+pub represent-determined : (m n top : ℕ) (g out : List ℕ) (r s : RepresentAnswer) → Represented m n top g out r → Represented m n top g out s →
+    (r .number ≡ s .number) × (r .out ≡ s .out)
+represent-determined m n top g out r s x y = represented-alike 8 8 _ m n g out r s x y
 
-pub represent-determined : (m n top : ℕ) (g out : List ℕ) (k : ℕ) (p q o : List ℕ) (k′ : ℕ) (p′ q′ o′ : List ℕ) →
-    Represented m n top g out k p q o → Represented m n top g out k′ p′ q′ o′ → (k ≡ k′) × (o ≡ o′)
-represent-determined m n top g out k p q o k′ p′ q′ o′ r s = represented-alike 8 8 _ m n g out k p q o k′ p′ q′ o′ r s
+pub represent-refused : (m n top : ℕ) (g out : List ℕ) (r : RepresentAnswer) → (r .number ≡ 0 → ⊥) → Represented m n top g out r →
+    RepresentRefused 8 (firstNo (representQuestions m n top g out)) out r
+represent-refused m n top g out r e h = represented-refused 8 _ m n g out r e h
 
 -- ---- same
 
+pub compared-one : (width k : ℕ) (t : Bool) (m n : ℕ) (a b : List ℕ) (r : SameAnswer) → r .number ≡ 0 → ComparedBy width k t m n a b r → SameOneClass width m n a b r
+unfolding ComparedBy
+compared-one width zero true m n a b r e h = h
+compared-one width zero false m n a b r e h = absurd (omega (arith, h .number-is, e))
+compared-one width (suc k) t m n a b r e h = absurd (omega (arith, h .number-is, e))
+
+pub compared-starts : (width k : ℕ) (t : Bool) (m n : ℕ) (a b : List ℕ) (r : SameAnswer) → (r .number ≡ 0 → ⊥) → ComparedBy width k t m n a b r → Starting width (r .rows) (r .columns)
+unfolding ComparedBy
+compared-starts width zero true m n a b r e h = absurd (e (h .number-is))
+compared-starts width zero false m n a b r e h = h .starting
+compared-starts width (suc k) t m n a b r e h = h .starting
+
+pub compared-refused : (width k : ℕ) (t : Bool) (m n : ℕ) (a b : List ℕ) (r : SameAnswer) → (r .number ≡ 0 → ⊥) → (r .number ≡ 103 → ⊥) → ComparedBy width k t m n a b r → SameRefused width k r
+unfolding ComparedBy
+compared-refused width zero true m n a b r e f h = absurd (e (h .number-is))
+compared-refused width zero false m n a b r e f h = absurd (f (h .number-is))
+compared-refused width (suc k) t m n a b r e f h = h
+
+pub compared-number : (width k : ℕ) (t : Bool) (m n : ℕ) (a b : List ℕ) (r : SameAnswer) → ComparedBy width k t m n a b r →
+    (r .number ≡ classNumber k t) × (r .agreed ≡ classAgreed k t m n a b)
+unfolding ComparedBy classNumber classAgreed
+compared-number width zero true m n a b r h = (h .number-is, h .agreed-is)
+compared-number width zero false m n a b r h = (h .number-is, h .agreed-is)
+compared-number width (suc k) t m n a b r h = (h .number-is, h .agreed-is)
+
+pub compared-alike : (width w k : ℕ) (t : Bool) (m n : ℕ) (a b : List ℕ) (r s : SameAnswer) → ComparedBy width k t m n a b r → ComparedBy w k t m n a b s →
+    (r .number ≡ s .number) × (r .agreed ≡ s .agreed)
+compared-alike width w k t m n a b r s x y =
+    let p = compared-number width k t m n a b r x in
+    let q = compared-number w k t m n a b s y in
+    (p .0 ∙ sym (q .0), p .1 ∙ sym (q .1))
+
+pub same-refused : (m n top : ℕ) (a b : List ℕ) (r : SameAnswer) → (r .number ≡ 0 → ⊥) → Compared m n top a b r → Starting 8 (r .rows) (r .columns)
+same-refused m n top a b r e h = compared-starts 8 _ _ m n a b r e h
+
 -- the number where every question gets a yes
-same-number : (m n top : ℕ) (a b : List ℕ) (t : Bool) → firstNo (sameQuestions m n top a b) ≡ 0 → oneClass m n a b ≡ t → sameNumber m n top a b ≡ (elim t as (λ x. ℕ) [ true ↦ 0 | false ↦ 103 ])
-unfolding sameNumber classNumber
-same-number m n top a b t e f = rw (e, f, classNumber)
+same-number : (m n top : ℕ) (a b : List ℕ) (t : Bool) → firstNo (sameQuestions m n top a b) ≡ 0 → oneClass m n a b ≡ t → sameNumber m n top a b ≡ classNumber 0 t
+unfolding sameNumber
+same-number m n top a b t e f = rw (e, f)
 
 -- a refusal has its question's number
 pub same-first-no : (m n top : ℕ) (a b : List ℕ) (k : ℕ) → firstNo (sameQuestions m n top a b) ≡ suc k → sameNumber m n top a b ≡ suc k
 unfolding sameNumber classNumber
-same-first-no m n top a b k e = rw (e, classNumber)
+same-first-no m n top a b k e = rw e
 
 -- 0 is no refusal
-pub number-asked : (k m n : ℕ) (a b : List ℕ) → classNumber k m n a b ≡ 0 → k ≡ 0
+number-asked : (k : ℕ) (t : Bool) → classNumber k t ≡ 0 → k ≡ 0
 unfolding classNumber
-number-asked zero m n a b z = refl
-number-asked (suc k) m n a b z = z
+number-asked zero t z = refl
+number-asked (suc k) t z = z
 
 pub same-asked : (m n top : ℕ) (a b : List ℕ) → sameNumber m n top a b ≡ 0 → firstNo (sameQuestions m n top a b) ≡ 0
 unfolding sameNumber
-same-asked m n top a b z = number-asked _ m n a b z
+same-asked m n top a b z = number-asked _ _ z
 
 pub same-zero : (m n top : ℕ) (a b : List ℕ) → firstNo (sameQuestions m n top a b) ≡ 0 → (sameNumber m n top a b ≡ 0) ↔ OneClass m n a b
+unfolding classNumber
 same-zero m n top a b e = (λ z. go (oneClass m n a b) refl z, λ c. same-number m n top a b true e (class-passes m n a b c))
   where
     go : (t : Bool) → oneClass m n a b ≡ t → sameNumber m n top a b ≡ 0 → OneClass m n a b
@@ -128,6 +185,7 @@ same-zero m n top a b e = (λ z. go (oneClass m n a b) refl z, λ c. same-number
     go false f z = let d = same-number m n top a b false e f in absurd (omega arith)
 
 pub same-103 : (m n top : ℕ) (a b : List ℕ) → firstNo (sameQuestions m n top a b) ≡ 0 → (sameNumber m n top a b ≡ 103) ↔ (OneClass m n a b → ⊥)
+unfolding classNumber
 same-103 m n top a b e = (λ z c. let d = same-zero m n top a b e .1 c in omega arith, go (oneClass m n a b) refl)
   where
     go : (t : Bool) → oneClass m n a b ≡ t → (OneClass m n a b → ⊥) → sameNumber m n top a b ≡ 103
@@ -165,108 +223,44 @@ padded-produce width m n a b hm hn c =
       column-rest = ap (padded 16 n) (sym f);
     }
 
-pub represented-by : (width k m n : ℕ) (g out : List ℕ) → (k ≡ 0 → (m ≤ width) × (n ≤ 16) × (length g ≡ m * n)) →
-    (number : ℕ) × (rows : List ℕ) × (columns : List ℕ) × (out′ : List ℕ) × RepresentedBy width k m n g out number rows columns out′
-represented-by width k m n g out fits = go (ℕ-discrete k 0)
-  where
-    go : Dec (k ≡ 0) → (number : ℕ) × (rows : List ℕ) × (columns : List ℕ) × (out′ : List ℕ) × RepresentedBy width k m n g out number rows columns out′
-    go (yes z) =
-        let h = fits z in
-        let c = least-in-class m n g (h .2) in (
-          k,
-          padded width m (c .rows),
-          padded 16 n (c .columns),
-          least m n g,
-          record {
-            number-is = refl;
-            written = λ e. refl;
-            produced = λ e. padded-produce width m n g (least m n g) (h .0) (h .1) c;
-            unchanged = λ ne. absurd (ne z);
-            starting = λ ne. absurd (ne z);
-          },
-        )
-    go (no nz) = (
-      k,
-      identity width,
-      identity 16,
-      out,
-      record {
-        number-is = refl;
-        written = λ e. absurd (nz e);
-        produced = λ e. absurd (nz e);
-        unchanged = λ ne. refl;
-        starting = λ ne. record { row-identity = refl; column-identity = refl };
-      },
+pub represented-by : (width k m n : ℕ) (g out : List ℕ) → (k ≡ 0 → (m ≤ width) × (n ≤ 16) × (length g ≡ m * n)) → (r : RepresentAnswer) × RepresentedBy width k m n g out r
+unfolding RepresentedBy
+represented-by width zero m n g out fits =
+    let h = fits refl in
+    let c = least-in-class m n g (h .2) in (
+      record { number = 0; rows = padded width m (c .rows); columns = padded 16 n (c .columns); out = least m n g },
+      record { number-is = refl; written = refl; produced = padded-produce width m n g (least m n g) (h .0) (h .1) c },
     )
+represented-by width (suc k) m n g out fits = (
+  record { number = suc k; rows = identity width; columns = identity 16; out = out },
+  record { number-is = refl; unchanged = refl; starting = record { row-identity = refl; column-identity = refl } },
+)
 
-pub represent-answers : (m n top : ℕ) (g out : List ℕ) → (number : ℕ) × (rows : List ℕ) × (columns : List ℕ) × (out′ : List ℕ) × Represented m n top g out number rows columns out′
+pub represent-answers : (m n top : ℕ) (g out : List ℕ) → (r : RepresentAnswer) × Represented m n top g out r
 represent-answers m n top g out = represented-by 8 _ m n g out λ z.
     let h = represent-pass m n top g out .0 z in (h .0 .rows-limits .1, h .0 .column-limits .1, h .1 .sized)
 
-pub compared-by : (width k c m n : ℕ) (a b : List ℕ) → (k ≡ 0 → (m ≤ width) × (n ≤ 16) × OneClass m n a b) →
-    (number : ℕ) × (agreed : ℕ) × (rows : List ℕ) × (columns : List ℕ) × ComparedBy width k c m n a b number agreed rows columns
-compared-by width k c m n a b fits = go (ℕ-discrete k 0)
-  where
-    go : Dec (k ≡ 0) → (number : ℕ) × (agreed : ℕ) × (rows : List ℕ) × (columns : List ℕ) × ComparedBy width k c m n a b number agreed rows columns
-    go (yes z) =
-        let h = fits z in (
-          k,
-          c,
-          padded width m (h .2 .rows),
-          padded 16 n (h .2 .columns),
-          record {
-            number-is = refl;
-            agreed-is = refl;
-            produced = λ e. padded-produce width m n a b (h .0) (h .1) (h .2);
-            starting = λ ne. absurd (ne z);
-          },
-        )
-    go (no nz) = (
-      k,
-      c,
-      identity width,
-      identity 16,
-      record {
-        number-is = refl;
-        agreed-is = refl;
-        produced = λ e. absurd (nz e);
-        starting = λ ne. record { row-identity = refl; column-identity = refl };
-      },
+pub compared-by : (width k : ℕ) (t : Bool) (m n : ℕ) (a b : List ℕ) → (k ≡ 0 → (m ≤ width) × (n ≤ 16)) → oneClass m n a b ≡ t → (r : SameAnswer) × ComparedBy width k t m n a b r
+unfolding ComparedBy
+compared-by width zero true m n a b fits e =
+    let h = fits refl in
+    let c = passes-class m n a b e in (
+      record { number = 0; agreed = m * n; rows = padded width m (c .rows); columns = padded 16 n (c .columns) },
+      record { number-is = refl; agreed-is = refl; produced = padded-produce width m n a b (h .0) (h .1) c },
     )
+compared-by width zero false m n a b fits e = (
+  record { number = 103; agreed = commonPrefixLength (least m n a) (least m n b); rows = identity width; columns = identity 16 },
+  record { number-is = refl; agreed-is = refl; starting = record { row-identity = refl; column-identity = refl } },
+)
+compared-by width (suc k) t m n a b fits e = (
+  record { number = suc k; agreed = 0; rows = identity width; columns = identity 16 },
+  record { number-is = refl; agreed-is = refl; starting = record { row-identity = refl; column-identity = refl } },
+)
 
-pub same-answers : (m n top : ℕ) (a b : List ℕ) → (number : ℕ) × (agreed : ℕ) × (rows : List ℕ) × (columns : List ℕ) × Compared m n top a b number agreed rows columns
-same-answers m n top a b = compared-by 8 _ _ m n a b λ z.
-    let e = same-asked m n top a b z in
-    let h = same-pass m n top a b .0 e .0 in
-    (h .rows-limits .1, h .column-limits .1, same-zero m n top a b e .0 z)
+pub same-answers : (m n top : ℕ) (a b : List ℕ) → (r : SameAnswer) × Compared m n top a b r
+same-answers m n top a b = compared-by 8 _ _ m n a b (λ z. let h = same-pass m n top a b .0 z .0 in (h .rows-limits .1, h .column-limits .1)) refl
 
--- ---- what a caller reads off an answer
-
-pub represented-refused : (width k m n : ℕ) (g out : List ℕ) (j : ℕ) → k ≡ suc j →
-    (number : ℕ) (rows columns out′ : List ℕ) → RepresentedBy width k m n g out number rows columns out′ →
-    (number ≡ suc j) × (rows ≡ identity width) × (columns ≡ identity 16) × (out′ ≡ out)
-represented-refused width k m n g out j e number rows columns out′ r =
-    let z = r .number-is ∙ e in
-    let s = r .starting (λ h. omega arith) in
-    (z, s .row-identity, s .column-identity, r .unchanged (λ h. omega arith))
-
-pub represent-refused : (m n top : ℕ) (g out : List ℕ) (k : ℕ) → firstNo (representQuestions m n top g out) ≡ suc k →
-    (number : ℕ) (rows columns out′ : List ℕ) → Represented m n top g out number rows columns out′ →
-    (number ≡ suc k) × (rows ≡ identity 8) × (columns ≡ identity 16) × (out′ ≡ out)
-represent-refused m n top g out k e = represented-refused 8 _ m n g out k e
-
-pub compared-refused : (width k c m n : ℕ) (a b : List ℕ) (j : ℕ) → k ≡ suc j →
-    (number agreed : ℕ) (rows columns : List ℕ) → ComparedBy width k c m n a b number agreed rows columns →
-    (number ≡ suc j) × (rows ≡ identity width) × (columns ≡ identity 16)
-compared-refused width k c m n a b j e number agreed rows columns r =
-    let z = r .number-is ∙ e in
-    let s = r .starting (λ h. omega arith) in
-    (z, s .row-identity, s .column-identity)
-
-pub same-refused : (m n top : ℕ) (a b : List ℕ) (k : ℕ) → sameNumber m n top a b ≡ suc k →
-    (number agreed : ℕ) (rows columns : List ℕ) → Compared m n top a b number agreed rows columns →
-    (number ≡ suc k) × (rows ≡ identity 8) × (columns ≡ identity 16)
-same-refused m n top a b k e = compared-refused 8 _ _ m n a b k e
+-- ---- the orders returned
 
 pub produces-past : (width m n : ℕ) (a b rows columns : List ℕ) → Produces width m n a b rows columns →
     (length rows ≡ width) × (length columns ≡ 16) × ((i : ℕ) → i < width → m ≤ i → getD rows i 0 ≡ i) × ((j : ℕ) → j < 16 → n ≤ j → getD columns j 0 ≡ j)

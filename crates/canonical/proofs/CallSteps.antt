@@ -4,6 +4,7 @@
 --   none-refuses             ==  none of them gets a no, as the code finds it
 --   least-produces           ==  the orders of the least arrangement produce it
 --   represent-refuses, represent-gives  ==  represent's answers: where a question gets a no, and past the questions
+--   sizes-starting           ==  the sizes of the orders, with a number that is not 0
 --   written-within           ==  an arrangement at the beginning of an array is within it
 --   arrangements-compared    ==  two arrangements, each at the beginning of an array, are compared
 --   FollowedByInverse width n p q r, followed-of  ==  r is p followed by the inverse of q; as the code makes it
@@ -24,23 +25,22 @@ use Rattle.permutations.proofs.ListLaws.{part-within, part-is}
 use Rattle.permutations.proofs.PaddedLaws.{isSound-yes, isSound-inverse, composedPadded-is, take-composedPadded, composedPadded-permutation, take-inversePadded}
 use Rattle.grids.specs.declared.comparisons.GridComparison.{GridComparison}
 use Rattle.grids.specs.CommonPrefix.{commonPrefixLength}
-use Rattle.grids.specs.Grids.{IsGrid, arrangement, OneClass}
+use Rattle.grids.specs.Grids.{IsGrid, arrangement, oneClass}
 use Rattle.grids.specs.Least.{least}
 use Rattle.grids.specs.Asked.{shapeNo}
 use Rattle.grids.specs.Questions.{Question, firstNo, Limits, question7}
 use Rattle.grids.specs.Comparisons.{isEqual, ComparesGrids}
-use Rattle.grids.proofs.CommonPrefixLaws.{prefix-part}
+use Rattle.grids.proofs.CommonPrefixLaws.{prefix-part, prefix-all}
 use Rattle.grids.proofs.ComparisonLaws.{equal-yes, equal-no}
-use Rattle.grids.proofs.GridLaws.{length-arrangement}
-use Rattle.grids.proofs.LeastLaws.{class-least}
+use Rattle.grids.proofs.GridLaws.{length-arrangement, class-passes, passes-class}
+use Rattle.grids.proofs.LeastLaws.{length-least, class-least, one-class-one-least}
 use Rattle.grids.proofs.QuestionLaws.{shapeThen, cells-pass, size-fits}
 use Rattle.general_search.specs.declared.search.Orders.{Orders}
-use Rattle.canonical.specs.Represent.{Produces, Starting, RepresentedBy}
-use Rattle.canonical.specs.Same.{classNumber, classAgreed, ComparedBy, sameQuestions, sameNumber, sameAgreed}
+use Rattle.canonical.specs.Represent.{Produces, Starting, Sizes, OrderSizes, RepresentAnswer, RepresentDone, RepresentRefused, RepresentedBy}
+use Rattle.canonical.specs.Same.{SameAnswer, SameRefused, ComparedBy}
 use Rattle.general_search.specs.Search.{leadingRows, LeastOrders}
 use Rattle.branches.proofs.LeadingRows.{leading-is}
-use Rattle.canonical.proofs.CallLaws.{same-pass, same-103, same-leasts, same-orders}
-use Rattle.canonical.proofs.AgreedLaws.{same-agreed}
+use Rattle.canonical.proofs.CallLaws.{same-orders}
 
 -- ---- the first no, as the code finds it
 
@@ -66,25 +66,21 @@ least-produces m n g o l = record {
   column-rest = l .orders .columns .whole .rest;
 }
 
-module _ (width k m n : ℕ) (g out : List ℕ) where
-  pub represent-refuses : (j number : ℕ) (rows columns : List ℕ) → j ≡ k → (j ≡ 0 → ⊥) → number ≡ j → Starting width rows columns →
-      RepresentedBy width k m n g out number rows columns out
-  represent-refuses j number rows columns e h f s = record {
-    number-is = f ∙ e;
-    written = λ z. absurd (h (sym f ∙ z));
-    produced = λ z. absurd (h (sym f ∙ z));
-    unchanged = λ nz. refl;
-    starting = λ nz. s;
-  }
+pub represent-refuses : (width k m n : ℕ) (g out : List ℕ) (r : RepresentAnswer) → (k ≡ 0 → ⊥) → RepresentRefused width k out r → RepresentedBy width k m n g out r
+unfolding RepresentedBy
+represent-refuses width zero m n g out r h x = absurd (h refl)
+represent-refuses width (suc k) m n g out r h x = x
 
-  pub represent-gives : (rows columns out′ : List ℕ) → k ≡ 0 → Produces width m n g (least m n g) rows columns → out′ ≡ least m n g → RepresentedBy width k m n g out 0 rows columns out′
-  represent-gives rows columns out′ e p w = record {
-    number-is = sym e;
-    written = λ z. w;
-    produced = λ z. p;
-    unchanged = λ nz. absurd (nz refl);
-    starting = λ nz. absurd (nz refl);
-  }
+pub represent-gives : (width k m n : ℕ) (g out : List ℕ) (r : RepresentAnswer) → k ≡ 0 → RepresentDone width m n g r → RepresentedBy width k m n g out r
+unfolding RepresentedBy
+represent-gives width k m n g out r e x = rw e x
+
+-- ---- the sizes of the orders returned
+
+pub sizes-starting : (width k m n rows columns : ℕ) → (k ≡ 0 → ⊥) → Sizes width 16 rows columns → OrderSizes width k m n rows columns
+unfolding OrderSizes
+sizes-starting width zero m n rows columns h x = absurd (h refl)
+sizes-starting width (suc k) m n rows columns h x = x
 
 -- ---- two arrangements compared
 
@@ -139,29 +135,15 @@ pub followed-of : (width n j k l : ℕ) (p q i r : List ℕ) → 1 ≤ n → n �
     i ≡ inversePadded width k q → r ≡ composedPadded width j p l i → FollowedByInverse width n p q r
 followed-of width n j k l p q i r a b op oq ej ek el ei er = rw (er, ei, el, ek, ej) (followed width n p q a b op oq)
 
-module _ (width m n : ℕ) (a b : List ℕ) where
-  compared-unmatched : (k c number agreed : ℕ) (rows columns : List ℕ) → number ≡ k → agreed ≡ c → (k ≡ 0 → ⊥) → Starting width rows columns →
-      ComparedBy width k c m n a b number agreed rows columns
-  compared-unmatched k c number agreed rows columns e f h s = record {
-    number-is = e;
-    agreed-is = f;
-    produced = λ z. absurd (h (sym e ∙ z));
-    starting = λ nz. s;
-  }
+pub same-refuses : (width k : ℕ) (t : Bool) (m n : ℕ) (a b : List ℕ) (r : SameAnswer) → (k ≡ 0 → ⊥) → SameRefused width k r → ComparedBy width k t m n a b r
+unfolding ComparedBy
+same-refuses width zero t m n a b r h x = absurd (h refl)
+same-refuses width (suc k) t m n a b r h x = x
 
-  pub same-refuses : (k number agreed : ℕ) (rows columns : List ℕ) → (k ≡ 0 → ⊥) → number ≡ k → agreed ≡ 0 → Starting width rows columns →
-      ComparedBy width (classNumber k m n a b) (classAgreed k m n a b) m n a b number agreed rows columns
-  unfolding classNumber classAgreed
-  same-refuses zero number agreed rows columns h e f s = absurd (h refl)
-  same-refuses (suc k) number agreed rows columns h e f s = compared-unmatched (suc k) 0 number agreed rows columns e f h s
-
-module _ (m n top : ℕ) (a b : List ℕ) (p q : Orders) (e : firstNo (sameQuestions m n top a b) ≡ 0) (lp : LeastOrders m n a p) (lq : LeastOrders m n b q)
+module _ (m n top : ℕ) (a b : List ℕ) (p q : Orders) (fits : Limits m n top × IsGrid m n top a × IsGrid m n top b) (lp : LeastOrders m n a p) (lq : LeastOrders m n b q)
     (c : GridComparison) (found : ComparesGrids (leadingRows m n a p) (leadingRows m n b q) c) where
-  fits : Limits m n top × IsGrid m n top a × IsGrid m n top b
-  fits = same-pass m n top a b .0 e
-
-  agreed-is : sameAgreed m n top a b ≡ c .agreed
-  agreed-is = same-agreed m n top a b e ∙ ap₂ commonPrefixLength (sym (lp .gives)) (sym (lq .gives)) ∙ sym (found .agreed-is)
+  agreed-is : c .agreed ≡ commonPrefixLength (least m n a) (least m n b)
+  agreed-is = found .agreed-is ∙ ap₂ commonPrefixLength (lp .gives) (lq .gives)
 
   pub agreed-small : c .agreed ≤ 128
   agreed-small =
@@ -169,33 +151,45 @@ module _ (m n top : ℕ) (a b : List ℕ) (p q : Orders) (e : firstNo (sameQuest
       let z : length (leadingRows m n a p) ≡ m * n = length-arrangement m n _ _ a in
       omega (arith, w, z, found .agreed-is, size-fits m n (fits .0 .rows-limits .1) (fits .0 .column-limits .1))
 
-  module _ (width : ℕ) (t : Bool) (f : t ≡ isEqual (c .found)) where
-    two-classes : t ≡ false → OneClass m n a b → ⊥
-    two-classes d o = equal-no _ _ (c .found) t (found .found-is) f d (lp .gives ∙ class-least m n a b (fits .1 .sized) o ∙ sym (lq .gives))
+  module _ (t : Bool) (f : t ≡ isEqual (c .found)) where
+    two-classes : t ≡ false → oneClass m n a b ≡ false
+    two-classes d = go (oneClass m n a b) refl
+      where
+        go : (o : Bool) → oneClass m n a b ≡ o → o ≡ false
+        go true e =
+            absurd (equal-no _ _ (c .found) t (found .found-is) f d (lp .gives ∙ class-least m n a b (fits .1 .sized) (passes-class m n a b e) ∙ sym (lq .gives)))
+        go false e = refl
 
-    pub same-differs : t ≡ false → (number agreed : ℕ) (rows columns : List ℕ) → number ≡ 103 → agreed ≡ c .agreed → Starting width rows columns →
-        ComparedBy width (sameNumber m n top a b) (sameAgreed m n top a b) m n a b number agreed rows columns
-    same-differs d number agreed rows columns g h s =
-        let k = same-103 m n top a b e .1 (two-classes d) in
-        compared-unmatched width m n a b _ _ number agreed rows columns (g ∙ sym k) (h ∙ sym agreed-is) (λ z. omega arith) s
+    pub same-differs : t ≡ false → (width k : ℕ) (r : SameAnswer) → k ≡ 0 → r .number ≡ 103 → r .agreed ≡ c .agreed → Starting width (r .rows) (r .columns) →
+        ComparedBy width k (oneClass m n a b) m n a b r
+    unfolding ComparedBy
+    same-differs d width k r e g h s = rw (e, two-classes d) (record { number-is = g; agreed-is = h ∙ agreed-is; starting = s })
 
     one-least : t ≡ true → least m n a ≡ least m n b
     one-least d = sym (lp .gives) ∙ equal-yes _ _ (c .found) t (found .found-is) f d ∙ lq .gives
 
+    all-agree : t ≡ true → c .agreed ≡ m * n
+    all-agree d =
+        let x = length-least m n a (fits .1 .sized) in
+        let y = length-least m n b (fits .2 .sized) in
+        agreed-is ∙ prefix-all (least m n a) (least m n b) (x ∙ sym y) .0 (one-least d) ∙ x
+
     -- orders that produce a's least arrangement, followed by the inverses of those that produce b's
-    pub same-gives : t ≡ true → (pr pc qr qc r s : List ℕ) → Produces width m n a (least m n a) pr pc → Produces width m n b (least m n b) qr qc →
-        FollowedByInverse width m pr qr r → FollowedByInverse 16 n pc qc s →
-        ComparedBy width (sameNumber m n top a b) (sameAgreed m n top a b) m n a b 0 (c .agreed) r s
-    same-gives d pr pc qr qc r s x y fr fs = record {
-      number-is = sym (same-leasts m n top a b e .1 (one-least d));
-      agreed-is = sym agreed-is;
-      produced = λ z. record {
-        row-permutation = fr .whole .permutation;
-        column-permutation = fs .whole .permutation;
-        gives = rw (fr .own, fs .own)
-            (same-orders m n a b (least m n b) _ _ _ _ (fits .2 .sized) (y .row-permutation) (y .column-permutation) (x .gives ∙ one-least d) (y .gives));
-        row-rest = fr .whole .rest;
-        column-rest = fs .whole .rest;
-      };
-      starting = λ nz. absurd (nz refl);
-    }
+    pub same-gives : t ≡ true → (width k : ℕ) (pr pc qr qc : List ℕ) (r : SameAnswer) → k ≡ 0 → r .number ≡ 0 → r .agreed ≡ c .agreed →
+        Produces width m n a (least m n a) pr pc → Produces width m n b (least m n b) qr qc →
+        FollowedByInverse width m pr qr (r .rows) → FollowedByInverse 16 n pc qc (r .columns) → ComparedBy width k (oneClass m n a b) m n a b r
+    unfolding ComparedBy
+    same-gives d width k pr pc qr qc r e g h x y fr fs =
+        rw (e, class-passes m n a b (one-class-one-least m n a b (fits .1 .sized) (fits .2 .sized) .1 (one-least d)))
+        (record {
+          number-is = g;
+          agreed-is = h ∙ all-agree d;
+          produced = record {
+            row-permutation = fr .whole .permutation;
+            column-permutation = fs .whole .permutation;
+            gives = rw (fr .own, fs .own)
+                (same-orders m n a b (least m n b) _ _ _ _ (fits .2 .sized) (y .row-permutation) (y .column-permutation) (x .gives ∙ one-least d) (y .gives));
+            row-rest = fr .whole .rest;
+            column-rest = fs .whole .rest;
+          };
+        })

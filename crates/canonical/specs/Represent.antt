@@ -2,13 +2,18 @@
 --
 --   Produces width m n a b rows columns  ==  the orders returned produce b from a: permutations of m rows and n columns, and each position past them holds its own number
 --   Starting width rows columns    ==  the orders returned move nothing
---   RepresentedBy width k m n g out number rows columns out′  ==  where k is the first no, one may answer so: the number, the two orders, and the output slice afterwards
---   representQuestions m n top g out  ==  the questions that represent asks
---   Represented m n top g out number rows columns out′  ==  represent may answer so
---   terminalRepresentQuestions m n top g out, TerminalRepresented m n top g out number rows columns out′  ==  the same of a terminal's represent, which asks 14 directly after 1
+--   Sizes m n rows columns         ==  rows and columns, the sizes of two orders, are m and n
+--   OrderSizes width k m n rows columns  ==  they are so of the orders returned with the number k: m and n where k is 0, else width and 16, as orders have them that move nothing
+--   RepresentAnswer                ==  what represent returns, and its output slice afterwards
+--   RepresentDone width m n g r    ==  r is 0, the least arrangement, and orders that produce it
+--   RepresentRefused width k out r ==  r is the number k, the output slice as it was, and orders that move nothing
+--   RepresentedBy width k m n g out r    ==  where k is the first no, or 0, one may answer r
+--   representQuestions m n top g out     ==  the questions that represent asks
+--   Represented m n top g out r    ==  represent may answer r
+--   terminalRepresentQuestions m n top g out, TerminalRepresented m n top g out r  ==  the same of a terminal's represent, which asks 14 directly after 1
 use mathlib.Core.Path.{_≡_}
 use mathlib.Core.List.{List, [], _∷_}
-use Prim.Native.Nat.{ℕ, _*_}
+use Prim.Native.Nat.{ℕ, zero, suc, _*_}
 use lib.ListN.{take}
 use Rattle.permutations.specs.Permutations.{IsPermutation, identity}
 use Rattle.permutations.specs.Padded.{padded}
@@ -27,24 +32,45 @@ pub record Starting (width : ℕ) (rows columns : List ℕ) : Type 0 where
   pub row-identity : rows ≡ identity width
   pub column-identity : columns ≡ identity 16
 
-pub record RepresentedBy (width k m n : ℕ) (g out : List ℕ) (number : ℕ) (rows columns out′ : List ℕ) : Type 0 where
-  pub number-is : number ≡ k
-  pub written : number ≡ 0 → out′ ≡ least m n g
-  pub produced : number ≡ 0 → Produces width m n g (least m n g) rows columns
-  pub unchanged : (number ≡ 0 → ⊥) → out′ ≡ out
-  pub starting : (number ≡ 0 → ⊥) → Starting width rows columns
+pub record Sizes (m n rows columns : ℕ) : Type 0 where
+  pub row-size : rows ≡ m
+  pub column-size : columns ≡ n
+
+unfoldable pub OrderSizes : ℕ → ℕ → ℕ → ℕ → ℕ → ℕ → Type 0
+OrderSizes width zero m n rows columns = Sizes m n rows columns
+OrderSizes width (suc k) m n rows columns = Sizes width 16 rows columns
+
+pub record RepresentAnswer : Type 0 where
+  pub number : ℕ
+  pub rows : List ℕ
+  pub columns : List ℕ
+  pub out : List ℕ
+
+pub record RepresentDone (width m n : ℕ) (g : List ℕ) (r : RepresentAnswer) : Type 0 where
+  pub number-is : r .number ≡ 0
+  pub written : r .out ≡ least m n g
+  pub produced : Produces width m n g (least m n g) (r .rows) (r .columns)
+
+pub record RepresentRefused (width k : ℕ) (out : List ℕ) (r : RepresentAnswer) : Type 0 where
+  pub number-is : r .number ≡ k
+  pub unchanged : r .out ≡ out
+  pub starting : Starting width (r .rows) (r .columns)
+
+unfoldable pub RepresentedBy : ℕ → ℕ → ℕ → ℕ → List ℕ → List ℕ → RepresentAnswer → Type 0
+RepresentedBy width zero m n g out r = RepresentDone width m n g r
+RepresentedBy width (suc k) m n g out r = RepresentRefused width (suc k) out r
 
 unfoldable pub representQuestions : ℕ → ℕ → ℕ → List ℕ → List ℕ → List Question
 representQuestions m n top g out =
     question1 m ∷ question2 n ∷ question3 top ∷ question6 (m * n) (g ∷ out ∷ []) ∷ question7 top (g ∷ []) ∷ []
 
-abbrev pub Represented : ℕ → ℕ → ℕ → List ℕ → List ℕ → ℕ → List ℕ → List ℕ → List ℕ → Type 0
-Represented m n top g out number rows columns out′ = RepresentedBy 8 (firstNo (representQuestions m n top g out)) m n g out number rows columns out′
+abbrev pub Represented : ℕ → ℕ → ℕ → List ℕ → List ℕ → RepresentAnswer → Type 0
+Represented m n top g out r = RepresentedBy 8 (firstNo (representQuestions m n top g out)) m n g out r
 
 -- ---- at a terminal
 
 unfoldable pub terminalRepresentQuestions : ℕ → ℕ → ℕ → List ℕ → List ℕ → List Question
 terminalRepresentQuestions m n top g out = afterFirst (question14 m) (representQuestions m n top g out)
 
-abbrev pub TerminalRepresented : ℕ → ℕ → ℕ → List ℕ → List ℕ → ℕ → List ℕ → List ℕ → List ℕ → Type 0
-TerminalRepresented m n top g out number rows columns out′ = RepresentedBy 5 (firstNo (terminalRepresentQuestions m n top g out)) m n g out number rows columns out′
+abbrev pub TerminalRepresented : ℕ → ℕ → ℕ → List ℕ → List ℕ → RepresentAnswer → Type 0
+TerminalRepresented m n top g out r = RepresentedBy 5 (firstNo (terminalRepresentQuestions m n top g out)) m n g out r

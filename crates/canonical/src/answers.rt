@@ -2,41 +2,76 @@
 use permutations::columns::ColumnPermutation;
 use permutations::rows::RowPermutation;
 use permutations::terminal_rows::TerminalRowPermutation;
+use refusals::Asked;
+use refusals::Refusal;
+ghost use mathlib.Core.Path.{_≡_};
+ghost use Rattle.refusals.specs.Numbers.{refusalNumber};
+ghost use Rattle.canonical.specs.Matching.{matchingNumber, matchingAgreed};
 ghost use Rattle.canonical.specs.Answers.{Refused, Unmatched, TerminalRefused, TerminalUnmatched};
 
-// What represent returns: the number, and the two orders.
+// What represent returns: what its questions get, and the two orders.
 pub struct Answer {
-    pub number: u32,
+    pub asked: Asked,
     pub rows: RowPermutation,
     pub columns: ColumnPermutation,
 }
 
-// What same returns: the number, how many leading cells of the representatives agree, and the two orders.
+// What same finds: the two are in one class or in two, each with how many leading cells of the representatives agree, or a question
+// gets a no.
+pub enum Matching {
+    Same(u32),
+    Apart(u32),
+    Refused(Refusal),
+}
+
+impl Matching {
+    // The number of the answer.
+    pub fn number(self) -> u32
+        ensures { λ r. ⌜ r ≡ matchingNumber self ⌝ }
+    {
+        match self {
+            Matching::Same(_) => 0,
+            Matching::Apart(_) => 103,
+            Matching::Refused(refusal) => refusal.number(),
+        }
+    }
+
+    // How many leading cells of the representatives agree; 0 where a question gets a no.
+    pub fn agreed(self) -> u32
+        ensures { λ r. ⌜ r ≡ matchingAgreed self ⌝ }
+    {
+        match self {
+            Matching::Same(agreed) => agreed,
+            Matching::Apart(agreed) => agreed,
+            Matching::Refused(_) => 0,
+        }
+    }
+}
+
+// What same returns: what it finds, and the two orders.
 pub struct Match {
-    pub number: u32,
-    pub agreed: u32,
+    pub found: Matching,
     pub rows: RowPermutation,
     pub columns: ColumnPermutation,
 }
 
-// A number with orders that move nothing.
-pub fn refused(number: u32) -> Answer
-    ensures { λ r. ⌜ Refused number r ⌝ }
+// A refusal, with orders that move nothing.
+pub fn refused(refusal: Refusal) -> Answer
+    ensures { λ r. ⌜ Refused (refusalNumber refusal) r ⌝ }
 {
     Answer {
-        number,
+        asked: Asked::No(refusal),
         rows: RowPermutation::identity(RowPermutation::WIDTH),
         columns: ColumnPermutation::identity(ColumnPermutation::WIDTH),
     }
 }
 
-// A number and how many leading cells agree, with orders that move nothing.
-pub fn unmatched(number: u32, agreed: u32) -> Match
-    ensures { λ r. ⌜ Unmatched number agreed r ⌝ }
+// What same finds, with orders that move nothing.
+pub fn unmatched(found: Matching) -> Match
+    ensures { λ r. ⌜ Unmatched (matchingNumber found) (matchingAgreed found) r ⌝ }
 {
     Match {
-        number,
-        agreed,
+        found,
         rows: RowPermutation::identity(RowPermutation::WIDTH),
         columns: ColumnPermutation::identity(ColumnPermutation::WIDTH),
     }
@@ -44,37 +79,35 @@ pub fn unmatched(number: u32, agreed: u32) -> Match
 
 // What a terminal's represent returns.
 pub struct TerminalAnswer {
-    pub number: u32,
+    pub asked: Asked,
     pub rows: TerminalRowPermutation,
     pub columns: ColumnPermutation,
 }
 
 // What a terminal's same returns.
 pub struct TerminalMatch {
-    pub number: u32,
-    pub agreed: u32,
+    pub found: Matching,
     pub rows: TerminalRowPermutation,
     pub columns: ColumnPermutation,
 }
 
-// A number with orders that move nothing.
-pub fn terminal_refused(number: u32) -> TerminalAnswer
-    ensures { λ r. ⌜ TerminalRefused number r ⌝ }
+// A refusal, with orders that move nothing.
+pub fn terminal_refused(refusal: Refusal) -> TerminalAnswer
+    ensures { λ r. ⌜ TerminalRefused (refusalNumber refusal) r ⌝ }
 {
     TerminalAnswer {
-        number,
+        asked: Asked::No(refusal),
         rows: TerminalRowPermutation::identity(TerminalRowPermutation::WIDTH),
         columns: ColumnPermutation::identity(ColumnPermutation::WIDTH),
     }
 }
 
-// A number and how many leading cells agree, with orders that move nothing.
-pub fn terminal_unmatched(number: u32, agreed: u32) -> TerminalMatch
-    ensures { λ r. ⌜ TerminalUnmatched number agreed r ⌝ }
+// What same finds, with orders that move nothing.
+pub fn terminal_unmatched(found: Matching) -> TerminalMatch
+    ensures { λ r. ⌜ TerminalUnmatched (matchingNumber found) (matchingAgreed found) r ⌝ }
 {
     TerminalMatch {
-        number,
-        agreed,
+        found,
         rows: TerminalRowPermutation::identity(TerminalRowPermutation::WIDTH),
         columns: ColumnPermutation::identity(ColumnPermutation::WIDTH),
     }

@@ -1,58 +1,59 @@
 // What represent and same ask before anything else, and those of a terminal.
 use grids::questions;
+use refusals::Asked;
+use refusals::Refusal;
 ghost use mathlib.Core.Path.{_≡_};
+ghost use Rattle.refusals.specs.Numbers.{askedNumber};
 ghost use Rattle.grids.specs.Questions.{firstNo};
 ghost use Rattle.canonical.specs.Represent.{representQuestions, terminalRepresentQuestions};
 ghost use Rattle.canonical.specs.Same.{sameQuestions, terminalSameQuestions};
 
-// Questions 1, 2, 3, 6 and 7 of represent: the number of the first that gets a no, or 0.
-pub fn represent_no(m: usize, n: usize, top: usize, grid: &[u8], out: &[u8]) -> u32
-    ensures { λ r. ⌜ r ≡ firstNo (representQuestions m n top (now (grid .entry)) (now (out .entry))) ⌝ }
+// Questions 1, 2, 3, 6 and 7 of represent.
+pub fn ask_represent(m: usize, n: usize, top: usize, grid: &[u8], out: &[u8]) -> Asked
+    ensures { λ r. ⌜ askedNumber r ≡ firstNo (representQuestions m n top (now (grid .entry)) (now (out .entry))) ⌝ }
 {
-    let number = questions::shape_no(m, n, top, grid.len(), out.len());
-    if number != 0 {
-        return number;
+    if let Asked::No(refusal) = questions::ask_shape(m, n, top, grid.len(), out.len()) {
+        return Asked::No(refusal);
     }
     if !questions::is_capped(grid, top) {
-        return 7;
+        return Asked::No(Refusal::Cell);
     }
-    0
+    Asked::Yes
 }
 
-// Questions 1, 2, 3, 6 and 7 of same, likewise.
-pub fn same_no(m: usize, n: usize, top: usize, a: &[u8], b: &[u8]) -> u32
-    ensures { λ r. ⌜ r ≡ firstNo (sameQuestions m n top (now (a .entry)) (now (b .entry))) ⌝ }
+// The same questions of same.
+pub fn ask_same(m: usize, n: usize, top: usize, a: &[u8], b: &[u8]) -> Asked
+    ensures { λ r. ⌜ askedNumber r ≡ firstNo (sameQuestions m n top (now (a .entry)) (now (b .entry))) ⌝ }
 {
-    let number = questions::shape_no(m, n, top, a.len(), b.len());
-    if number != 0 {
-        return number;
+    if let Asked::No(refusal) = questions::ask_shape(m, n, top, a.len(), b.len()) {
+        return Asked::No(refusal);
     }
     if !questions::is_capped(a, top) {
-        return 7;
+        return Asked::No(Refusal::Cell);
     }
     if !questions::is_capped(b, top) {
-        return 7;
+        return Asked::No(Refusal::Cell);
     }
-    0
+    Asked::Yes
 }
 
-// Questions 1, 14, 2, 3, 6 and 7 of a terminal's represent: the number of the first that gets a no, or 0. Rows that get a no by
+// Questions 1, 14, 2, 3, 6 and 7 of a terminal's represent. Rows that get a no by
 // 14 pass question 1.
-pub fn terminal_represent_no(m: usize, n: usize, top: usize, grid: &[u8], out: &[u8]) -> u32
-    ensures { λ r. ⌜ r ≡ firstNo (terminalRepresentQuestions m n top (now (grid .entry)) (now (out .entry))) ⌝ }
+pub fn ask_terminal_represent(m: usize, n: usize, top: usize, grid: &[u8], out: &[u8]) -> Asked
+    ensures { λ r. ⌜ askedNumber r ≡ firstNo (terminalRepresentQuestions m n top (now (grid .entry)) (now (out .entry))) ⌝ }
 {
     if !questions::fits_terminal(m) {
-        return 14;
+        return Asked::No(Refusal::TerminalRows);
     }
-    represent_no(m, n, top, grid, out)
+    ask_represent(m, n, top, grid, out)
 }
 
 // Those of a terminal's same, likewise.
-pub fn terminal_same_no(m: usize, n: usize, top: usize, a: &[u8], b: &[u8]) -> u32
-    ensures { λ r. ⌜ r ≡ firstNo (terminalSameQuestions m n top (now (a .entry)) (now (b .entry))) ⌝ }
+pub fn ask_terminal_same(m: usize, n: usize, top: usize, a: &[u8], b: &[u8]) -> Asked
+    ensures { λ r. ⌜ askedNumber r ≡ firstNo (terminalSameQuestions m n top (now (a .entry)) (now (b .entry))) ⌝ }
 {
     if !questions::fits_terminal(m) {
-        return 14;
+        return Asked::No(Refusal::TerminalRows);
     }
-    same_no(m, n, top, a, b)
+    ask_same(m, n, top, a, b)
 }

@@ -19,11 +19,11 @@ use lib.Seq.{take-suc, take-all, getD-take, getD-drop, length-take-le}
 use Rattle.permutations.specs.Lists.{select}
 use Rattle.permutations.proofs.SelectLaws.{select-yes, select-no, length-select}
 use Rattle.bounds.specs.Bounds.{IsBounds, inBounds}
-use Rattle.layout.specs.Layout.{gridsOf, lineLength, cellsOf, decodeShape, decode}
-use Rattle.layout.specs.Lines.{lineStart, lineAt, EntryLine}
+use Rattle.layout.specs.Layout.{gridsOf, headLength, lineLength, lineStart, cellsOf, decodeShape, decode}
+use Rattle.layout.specs.Lines.{lineAt, EntryLine}
 use Rattle.layout.proofs.LineLaws.{laid-lines, start-zero, next-start, cells-inside, line-grid, grids-counted}
-use Rattle.machine.specs.Valid.{Valid}
-use Rattle.machine.proofs.ValidLaws.{valid-sizes, entry-fits}
+use Rattle.calls.specs.Valid.{Valid}
+use Rattle.calls.proofs.ValidLaws.{valid-sizes, entry-fits}
 use Rattle.counting.specs.Within.{LineOutcome, OrderedBounds, BoundTables, oneMore}
 use Rattle.counting.proofs.LineLaws.{line-within}
 
@@ -50,9 +50,9 @@ pub record Counting (b low high : List ℕ) (found from e : ℕ) : Type 0 where
 
 pub record Room (size found from length : ℕ) : Type 0 where
   pub few : found < 500
-  pub after-head : 31 ≤ from
+  pub after-head : headLength ≤ from
   pub inside : from + lineLength size ≤ length
-  pub small : from + lineLength size ≤ 204531
+  pub small : from + lineLength size ≤ headLength + 204500
   pub wider : 3 * size < lineLength size
   pub narrow : 3 * size ≤ 384
 
@@ -76,15 +76,14 @@ pub bounds-ordered : {n top : ℕ} {b low high : List ℕ} → Valid (length low
 bounds-ordered k i = record { few = valid-sizes k .cells-fit; as-many = sym (i .high-size); in-order = i .in-order }
 
 module _ {n : ℕ} {b low high : List ℕ} (k : Valid (length low) n b) where
-  pub counting-none : Counting b low high 0 31 0
+  pub counting-none : Counting b low high 0 headLength 0
   unfolding select
   counting-none = record { place = sym (start-zero (length low)); counted = refl }
 
   pub counting-room : {found from e : ℕ} → Counting b low high found from e → e < n → Room (length low) found from (length b)
-  unfolding lineStart
   counting-room {found} {from} {e} c h =
       let z = valid-sizes k in
-      let f = entry-fits k e (lineLength (length low)) h refl in
+      let f = entry-fits k e h in
       record {
         few = omega (arith, c .counted, length-select (inBounds (length low) (decodeShape b .top) low high) (take e (gridsOf (decode b .entries))), length-take e (gridsOf (decode b .entries)), z .count-fits, z .capacity-fits);
         after-head = omega (arith, c .place);

@@ -3,6 +3,7 @@ use grids::cells;
 use lines::bytes::above;
 use lines::bytes::stated;
 use lines::entries;
+use lines::head;
 use lines::tables::put;
 ghost use mathlib.Core.Path.{_≡_};
 ghost use mathlib.Core.Bool.{_&&_};
@@ -12,7 +13,7 @@ ghost use Rattle.permutations.specs.Lists.{select};
 ghost use Rattle.grids.specs.Order.{rank};
 ghost use Rattle.bounds.specs.Bounds.{IsBounds, inBounds};
 ghost use Rattle.layout.specs.Layout.{gridsOf, decodeShape, decode};
-ghost use Rattle.machine.specs.Valid.{Valid};
+ghost use Rattle.calls.specs.Valid.{Valid};
 ghost use Rattle.lines.specs.Bytes.{stated};
 ghost use Rattle.counting.specs.Within.{passes, LineOutcome, OrderedBounds, BoundTables, oneMore};
 
@@ -75,7 +76,7 @@ pub fn count_within(register: &[u8], count: usize, low: &[u8], high: &[u8]) -> u
     let mut spans = [0u8; 384];
     fill_tables(low, high, &mut lows, &mut spans);
     let mut found = 0;
-    let mut from = 31;
+    let mut from = head::LENGTH;
     let mut e = 0;
     while e < count {
         let end = from + width;

@@ -9,3 +9,4 @@ pub mod QuestionSteps
 pub mod TerminalLaws
 pub mod ComparisonSteps
 pub mod ArrangementSteps
+pub mod LentLaws

@@ -11,6 +11,7 @@
 --   all-one, all-two       ==  what holds of each of one or two slices holds of every slice of the list
 --   limits-asked           ==  questions 1 to 3 ask the limits
 --   limits-decide, limits-refuse, limits-pass  ==  the first no of questions 1 to 3, and of those that follow
+--   numbers-numbered, numbers-decide  ==  questions 1 to 4 have numbers; they get a yes exactly within the limits
 --   lengths-asked, cells-asked  ==  what questions 6 and 7 ask of slices
 --   slices-pass            ==  what questions 1, 2, 3, 6 and 7 together get a yes for
 --   size-fits              ==  a grid within the limits has at most 128 cells
@@ -34,8 +35,8 @@ use Rattle.permutations.specs.Lists.{every, All}
 use Rattle.permutations.proofs.BoolLaws.{and-yes, yes-and}
 use Rattle.permutations.proofs.ListLaws.{every-at, at-every, mem-at, of-mem}
 use Rattle.grids.specs.Grids.{IsGrid, capped, isGrid}
-use Rattle.grids.specs.Asked.{limitsNo, shapeNo}
-use Rattle.grids.specs.Questions.{Question, firstNo, inRange, Limits, question1, question2, question3, question6, question7}
+use Rattle.grids.specs.Asked.{limitsNo, numbersNo, shapeNo}
+use Rattle.grids.specs.Questions.{Question, firstNo, inRange, Limits, question1, question2, question3, question4, question6, question7}
 
 abbrev pub AllYes : List Question → Type 0
 AllYes l = All (λ q. q .answer ≡ true) l
@@ -172,6 +173,20 @@ module _ (m n top : ℕ) where
   pub limits-pass : (l : List Question) → Limits m n top → firstNo (question1 m ∷ question2 n ∷ question3 top ∷ l) ≡ firstNo l
   unfolding limitsNo
   limits-pass l h = first-no-next (question1 m ∷ question2 n ∷ question3 top ∷ []) l limits-numbered (limits-decide .1 h)
+
+module _ (m n top capacity : ℕ) where
+  pub numbers-numbered : Numbered (question1 m ∷ question2 n ∷ question3 top ∷ question4 capacity ∷ [])
+  unfolding question1 question2 question3 question4
+  numbers-numbered = (omega arith, (omega arith, (omega arith, (omega arith, tt))))
+
+  pub numbers-decide : (numbersNo m n top capacity ≡ 0) ↔ (Limits m n top × ((1 ≤ capacity) × (capacity ≤ 500)))
+  unfolding numbersNo question4
+  numbers-decide =
+      let z = first-no-zero (question1 m ∷ question2 n ∷ question3 top ∷ question4 capacity ∷ []) numbers-numbered in
+      let a = limits-asked m n top (question4 capacity ∷ []) in (
+        λ e. let h = a .0 (z .0 e) in (h .0, range-yes 1 500 capacity (h .1 .0)),
+        λ i. z .1 (a .1 (i .0, (yes-range 1 500 capacity (i .1), tt))),
+      )
 
 pub lengths-asked : (size : ℕ) (l : List (List ℕ)) → (question6 size l .answer ≡ true) ↔ ((s : List ℕ) → List·Memᴰ s l → length s ≡ size)
 unfolding question6

@@ -4,6 +4,7 @@
 --   rows-no, columns-no, top-no  ==  of questions 1 to 3, those before get a yes, this one a no
 --   limits-yes  ==  each gets a yes
 --   shape-limits, lengths-no, shape-yes  ==  of a shape's questions, one of 1 to 3 gets a no, then 6; each gets a yes
+--   numbers-limits, capacity-no, numbers-yes  ==  of questions 1 to 4, one of 1 to 3 gets a no, then 4; each gets a yes
 --   Greatest g i x  ==  x is the greatest of the first i cells of g, or 0
 --   greatest-none, greatest-next, greatest-capped  ==  at first, a cell further, and what it says of the test of cells
 use mathlib.Core.Path.{_≡_, sym, _∙_}
@@ -18,8 +19,8 @@ use lib.Dec.{eqb, leb}
 use borrow.Author.Tests.{eqb-true, eq-eqb, leb-true, le-leb}
 use Rattle.permutations.proofs.BoolLaws.{and-yes, yes-and, bool-ext, refuted}
 use Rattle.grids.specs.Grids.{capped}
-use Rattle.grids.specs.Asked.{limitsNo, shapeNo}
-use Rattle.grids.specs.Questions.{Question, firstNo, inRange, Limits, question1, question2, question3}
+use Rattle.grids.specs.Asked.{limitsNo, numbersNo, shapeNo}
+use Rattle.grids.specs.Questions.{Question, firstNo, inRange, Limits, question1, question2, question3, question4}
 use Rattle.grids.proofs.QuestionLaws.{firstNo-pass, firstNo-stop, range-yes, yes-range, limits-decide, limits-refuse, limits-pass, capped-at, at-capped}
 
 pub range-no : (a b x : ℕ) → ((a ≤ x) × (x ≤ b) → ⊥) → inRange a b x ≡ false
@@ -71,6 +72,24 @@ module _ (m n top : ℕ) where
       pub shape-yes : x ≡ m * n → y ≡ m * n → 0 ≡ shapeNo m n top x y
       unfolding firstNo
       shape-yes d e = sym (past-limits ∙ firstNo-pass (two-lengths (m * n) x y) [] (two-lengths-asked (m * n) x y .1 (d, e)))
+
+module _ (m n top capacity : ℕ) where
+  pub numbers-limits : {k : ℕ} → k ≡ limitsNo m n top → (k ≡ 0 → ⊥) → k ≡ numbersNo m n top capacity
+  unfolding numbersNo
+  numbers-limits e h = e ∙ sym (limits-refuse m n top (question4 capacity ∷ []) (λ z. h (e ∙ z)))
+
+  module _ (z : 0 ≡ limitsNo m n top) where
+    past-three : numbersNo m n top capacity ≡ firstNo (question4 capacity ∷ [])
+    unfolding numbersNo
+    past-three = limits-pass m n top (question4 capacity ∷ []) (limits-decide m n top .0 (sym z))
+
+    pub capacity-no : ((1 ≤ capacity) × (capacity ≤ 500) → ⊥) → 4 ≡ numbersNo m n top capacity
+    unfolding question4
+    capacity-no h = sym (past-three ∙ firstNo-stop (question4 capacity) [] (range-no 1 500 capacity h))
+
+    pub numbers-yes : (1 ≤ capacity) × (capacity ≤ 500) → 0 ≡ numbersNo m n top capacity
+    unfolding question4 firstNo
+    numbers-yes h = sym (past-three ∙ firstNo-pass (question4 capacity) [] (yes-range 1 500 capacity h))
 
 -- ---- question 7
 

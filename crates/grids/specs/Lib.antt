@@ -7,3 +7,4 @@ pub mod Least
 pub mod Questions
 pub mod Asked
 pub mod Comparisons
+pub mod Lent

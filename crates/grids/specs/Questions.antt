@@ -7,6 +7,7 @@
 --   question1 m         ==  are the rows 1 to 8?
 --   question2 n         ==  are the columns 1 to 16?
 --   question3 top       ==  is top 0 to 15?
+--   question4 capacity  ==  is the capacity 1 to 500?
 --   question6 size l    ==  has every slice of l its exact length?
 --   question7 top l     ==  is every cell or bound of the slices of l at most top?
 --   question14 m        ==  are a terminal's rows other than 6 to 8?
@@ -43,6 +44,9 @@ question2 n = record { number = 2; answer = inRange 1 16 n }
 
 unfoldable pub question3 : ℕ → Question
 question3 top = record { number = 3; answer = inRange 0 15 top }
+
+unfoldable pub question4 : ℕ → Question
+question4 capacity = record { number = 4; answer = inRange 1 500 capacity }
 
 unfoldable pub question6 : ℕ → List (List ℕ) → Question
 question6 size l = record { number = 6; answer = every (λ s. eqb (length s) size) l }

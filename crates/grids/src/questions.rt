@@ -1,48 +1,66 @@
 // The questions that the calls share.
+use refusals::Asked;
+use refusals::Refusal;
 ghost use mathlib.Core.Path.{_≡_};
 ghost use mathlib.Core.Logic.{_⊎_};
 ghost use Prim.Native.Nat.{_≤_};
 ghost use Rattle.grids.specs.Grids.{capped};
-ghost use Rattle.grids.specs.Asked.{limitsNo, shapeNo};
+ghost use Rattle.grids.specs.Asked.{limitsNo, numbersNo, shapeNo};
 ghost use Rattle.grids.specs.Questions.{question14};
+ghost use Rattle.refusals.specs.Numbers.{askedNumber};
 
-// Questions 1, 2 and 3: the number of the first that gets a no, or 0.
-pub fn limits_no(m: usize, n: usize, top: usize) -> u32
-    ensures { λ r. ⌜ r ≡ limitsNo m n top ⌝ }
+// Questions 1, 2 and 3.
+pub fn ask_limits(m: usize, n: usize, top: usize) -> Asked
+    ensures { λ r. ⌜ askedNumber r ≡ limitsNo m n top ⌝ }
 {
     if m < 1 {
-        return 1;
+        return Asked::No(Refusal::Rows);
     }
     if 8 < m {
-        return 1;
+        return Asked::No(Refusal::Rows);
     }
     if n < 1 {
-        return 2;
+        return Asked::No(Refusal::Columns);
     }
     if 16 < n {
-        return 2;
+        return Asked::No(Refusal::Columns);
     }
     if 15 < top {
-        return 3;
+        return Asked::No(Refusal::Top);
     }
-    0
+    Asked::Yes
 }
 
-// Questions 1, 2, 3 and 6, of two slices' lengths: the number of the first that gets a no, or 0.
-pub fn shape_no(m: usize, n: usize, top: usize, first: usize, second: usize) -> u32
-    ensures { λ r. ⌜ r ≡ shapeNo m n top first second ⌝ }
+// Questions 1, 2, 3 and 6, of two slices' lengths.
+pub fn ask_shape(m: usize, n: usize, top: usize, first: usize, second: usize) -> Asked
+    ensures { λ r. ⌜ askedNumber r ≡ shapeNo m n top first second ⌝ }
 {
-    let number = limits_no(m, n, top);
-    if number != 0 {
-        return number;
+    if let Asked::No(refusal) = ask_limits(m, n, top) {
+        return Asked::No(refusal);
     }
     if first != m * n {
-        return 6;
+        return Asked::No(Refusal::Length);
     }
     if second != m * n {
-        return 6;
+        return Asked::No(Refusal::Length);
     }
-    0
+    Asked::Yes
+}
+
+// Questions 1, 2, 3 and 4.
+pub fn ask_numbers(m: usize, n: usize, top: usize, capacity: usize) -> Asked
+    ensures { λ r. ⌜ askedNumber r ≡ numbersNo m n top capacity ⌝ }
+{
+    if let Asked::No(refusal) = ask_limits(m, n, top) {
+        return Asked::No(refusal);
+    }
+    if capacity < 1 {
+        return Asked::No(Refusal::Capacity);
+    }
+    if 500 < capacity {
+        return Asked::No(Refusal::Capacity);
+    }
+    Asked::Yes
 }
 
 // Question 14: whether a terminal's rows are other than 6 to 8.

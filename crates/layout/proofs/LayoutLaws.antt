@@ -22,7 +22,7 @@ use lib.Seq.{take-at, drop-at, drop-drop, drop-cons, getD-append-add}
 use Rattle.permutations.specs.Lists.{tabulate}
 use Rattle.permutations.proofs.ListLaws.{tabulate-is, mem-at, at-map}
 use Rattle.layout.specs.Decimal.{field, value}
-use Rattle.layout.specs.Layout.{Shape, Entry, Register, clients, gridSize, fields, headLength, entryWidth, lineLength, entryLine, blankLine, headLine, layout, layoutLength, numberAt, cellsOf, holdingsOf, entryOf, count, entryAt, decodeShape, decode}
+use Rattle.layout.specs.Layout.{Shape, Entry, Register, clients, gridSize, fields, numberWidth, cellWidth, headNumbers, headLength, entryWidth, lineLength, entryLine, blankLine, headList, headLine, layout, layoutLength, numberAt, cellsOf, holdingsOf, entryOf, count, entryAt, decodeShape, decode}
 use Rattle.layout.specs.Lines.{noEntry}
 use Rattle.layout.proofs.DecimalLaws.{value-field, length-field}
 
@@ -96,7 +96,7 @@ Sized size es = (e : Entry) → List·Memᴰ e es → Fitted size e
 
 pub length-entry : (size : ℕ) (e : Entry) → Fitted size e → length (entryLine e) ≡ lineLength size
 unfolding entryLine lineLength entryWidth
-length-entry size e f = length-ended 3 (e .grid ++ e .holdings) ∙ omega (arith, length-append (e .grid) (e .holdings), f .cells, f .held)
+length-entry size e f = length-ended cellWidth (e .grid ++ e .holdings) ∙ omega (arith, length-append (e .grid) (e .holdings), f .cells, f .held)
 
 pub length-blank : (size : ℕ) → length (blankLine size) ≡ lineLength size
 unfolding blankLine lineLength
@@ -104,10 +104,10 @@ length-blank size = length-append (replicate (entryWidth size) 32) (10 ∷ []) �
 
 pub length-head : (s : Shape) (n : ℕ) → length (headLine s n) ≡ headLength
 unfolding headLine
-length-head s n = length-ended 6 (s .rows ∷ s .columns ∷ s .top ∷ s .capacity ∷ n ∷ [])
+length-head s n = length-ended numberWidth (headList s n)
 
-number-read : (l u : List ℕ) (k : ℕ) → k < length l → getD l k 0 < 1000 → value (take 3 (drop (3 * k) (fields 3 l ++ u))) ≡ getD l k 0
-number-read l u k h small = rw (mul-comm 3 k) (fields-read 2 l u k h small)
+number-read : (l u : List ℕ) (k : ℕ) → k < length l → getD l k 0 < 1000 → value (take cellWidth (drop (cellWidth * k) (fields cellWidth l ++ u))) ≡ getD l k 0
+number-read l u k h small = rw (mul-comm cellWidth k) (fields-read (cellWidth - 1) l u k h small)
 
 -- an entry's line, with anything behind it
 module _ (size : ℕ) (e : Entry) (f : Fitted size e) (u : List ℕ) where
@@ -115,7 +115,7 @@ module _ (size : ℕ) (e : Entry) (f : Fitted size e) (u : List ℕ) where
   unfolding entryLine cellsOf numberAt
   line-cells small = tabulate-is 0 (e .grid) size _ (f .cells) λ k c. sym (one k c)
     where
-      one : (k : ℕ) → k < size → value (take 3 (drop (3 * k) ((fields 3 (e .grid ++ e .holdings) ++ (10 ∷ [])) ++ u))) ≡ getD (e .grid) k 0
+      one : (k : ℕ) → k < size → value (take cellWidth (drop (cellWidth * k) ((fields cellWidth (e .grid ++ e .holdings) ++ (10 ∷ [])) ++ u))) ≡ getD (e .grid) k 0
       one k c =
           let i = List·getD-append (e .grid) (e .holdings) 0 k (omega (arith, f .cells)) in
           rw append-assoc (number-read (e .grid ++ e .holdings) ((10 ∷ []) ++ u) k (omega (arith, length-append (e .grid) (e .holdings), f .cells)) (omega (arith, i, small k c)) ∙ i)
@@ -124,7 +124,7 @@ module _ (size : ℕ) (e : Entry) (f : Fitted size e) (u : List ℕ) where
   unfolding entryLine holdingsOf numberAt
   line-holdings small = tabulate-is 0 (e .holdings) clients _ (f .held) λ k c. sym (one k c)
     where
-      one : (k : ℕ) → k < clients → value (take 3 (drop (3 * (size + k)) ((fields 3 (e .grid ++ e .holdings) ++ (10 ∷ [])) ++ u))) ≡ getD (e .holdings) k 0
+      one : (k : ℕ) → k < clients → value (take cellWidth (drop (cellWidth * (size + k)) ((fields cellWidth (e .grid ++ e .holdings) ++ (10 ∷ [])) ++ u))) ≡ getD (e .holdings) k 0
       one k c =
           let i = rw (f .cells) at (getD-append-add (e .grid) (e .holdings) k 0) in
           rw append-assoc (number-read (e .grid ++ e .holdings) ((10 ∷ []) ++ u) (size + k) (omega (arith, length-append (e .grid) (e .holdings), f .cells, f .held)) (omega (arith, i, small k c)) ∙ i)
@@ -145,10 +145,10 @@ pub record Printable (r : Register) : Type 0 where
   pub held-small : (e : Entry) → List·Memᴰ e (r .entries) → (k : ℕ) → k < clients → getD (e .holdings) k 0 < 1000
 
 -- the number at place i of line 1
-head-read : (s : Shape) (n : ℕ) (t : List ℕ) (i : ℕ) → i < 5 → getD (s .rows ∷ s .columns ∷ s .top ∷ s .capacity ∷ n ∷ []) i 0 < 1000000 →
-    numberAt 6 (i * 6) (headLine s n ++ t) ≡ getD (s .rows ∷ s .columns ∷ s .top ∷ s .capacity ∷ n ∷ []) i 0
+head-read : (s : Shape) (n : ℕ) (t : List ℕ) (i : ℕ) → i < headNumbers → getD (headList s n) i 0 < 1000000 →
+    numberAt numberWidth (i * numberWidth) (headLine s n ++ t) ≡ getD (headList s n) i 0
 unfolding numberAt headLine
-head-read s n t i h small = rw append-assoc (fields-read 5 (s .rows ∷ s .columns ∷ s .top ∷ s .capacity ∷ n ∷ []) ((10 ∷ []) ++ t) i h small)
+head-read s n t i h small = rw append-assoc (fields-read (numberWidth - 1) (headList s n) ((10 ∷ []) ++ t) i h small)
 
 -- entry e of the body is read back
 entry-read : (size : ℕ) (es : List Entry) (b blanks : List ℕ) → drop headLength b ≡ flatten (map entryLine es) ++ blanks → Sized size es →

@@ -4,3 +4,4 @@ pub mod HoldingLaws
 pub mod RegisterLaws
 pub mod LineLaws
 pub mod MoveLaws
+pub mod LayoutBytes

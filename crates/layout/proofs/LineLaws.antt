@@ -37,8 +37,8 @@ use Rattle.grids.specs.Grids.{capped}
 use Rattle.grids.proofs.OrderLaws.{less-decides, equal-eq, eq-equal}
 use Rattle.grids.proofs.QuestionLaws.{grid-of, grid-capped}
 use Rattle.layout.specs.Decimal.{value}
-use Rattle.layout.specs.Layout.{Shape, Entry, Register, clients, gridsOf, gridSize, headLength, entryWidth, lineLength, entryLine, blankLine, headLine, layout, layoutLength, numberAt, cellsOf, holdingsOf, entryOf, count, entryAt, decodeShape, decode, Ascends, IsRegister, isHoldings, ascending, isRegister, laidOut}
-use Rattle.layout.specs.Lines.{noEntry, lineStart, lineAt, EntriesLaid, BlanksLaid, HeadLaid}
+use Rattle.layout.specs.Layout.{Shape, Entry, Register, clients, gridsOf, gridSize, cellWidth, headLength, entryWidth, lineLength, lineStart, entryLine, blankLine, headLine, layout, layoutLength, numberAt, cellsOf, holdingsOf, entryOf, count, entryAt, decodeShape, decode, Ascends, IsRegister, isHoldings, ascending, isRegister, laidOut}
+use Rattle.layout.specs.Lines.{noEntry, lineAt, EntriesLaid, BlanksLaid, HeadLaid}
 use Rattle.layout.proofs.LayoutLaws.{Sized, Wide, wide-map, of-replicate, piece, length-entry, length-blank, length-head, length-layout}
 use Rattle.layout.proofs.RegisterLaws.{holdings-decides, ascending-decides, register-decides, register-sized}
 
@@ -92,11 +92,9 @@ module _ {A : Type 0} where
 -- ---- lines by their places
 
 pub start-zero : (size : ℕ) → lineStart size 0 ≡ headLength
-unfolding lineStart
 start-zero size = omega (arith, zero-mul (lineLength size))
 
 pub next-start : (size e : ℕ) → lineStart size (e + 1) ≡ lineStart size e + lineLength size
-unfolding lineStart
 next-start size e = omega arith
 
 pub length-line : (size : ℕ) (b : List ℕ) (e : ℕ) → lineStart size (e + 1) ≤ length b → length (lineAt size b e) ≡ lineLength size
@@ -104,7 +102,7 @@ unfolding lineAt
 length-line size b e h =
     length-take-le (lineLength size) (drop (lineStart size e) b) (omega (arith, next-start size e, length-drop (lineStart size e) b))
 
-pub cells-inside : (size : ℕ) → 3 * size < lineLength size
+pub cells-inside : (size : ℕ) → cellWidth * size < lineLength size
 unfolding lineLength entryWidth
 cells-inside size = omega arith
 
@@ -114,33 +112,33 @@ line-short size h = omega arith
 
 pub length-cells : (size : ℕ) (l : List ℕ) → length (cellsOf size l) ≡ size
 unfolding cellsOf
-length-cells size l = length-tabulate 0 size (λ k. numberAt 3 (3 * k) l)
+length-cells size l = length-tabulate 0 size (λ k. numberAt cellWidth (cellWidth * k) l)
 
-pub cell-at : (size : ℕ) (l : List ℕ) (k : ℕ) → k < size → getD (cellsOf size l) k 0 ≡ numberAt 3 (3 * k) l
+pub cell-at : (size : ℕ) (l : List ℕ) (k : ℕ) → k < size → getD (cellsOf size l) k 0 ≡ numberAt cellWidth (cellWidth * k) l
 unfolding cellsOf
-cell-at size l k h = at-tabulate size (λ k. numberAt 3 (3 * k) l) k 0 h
+cell-at size l k h = at-tabulate size (λ k. numberAt cellWidth (cellWidth * k) l) k 0 h
 
 pub length-holdings : (size : ℕ) (l : List ℕ) → length (holdingsOf size l) ≡ clients
 unfolding holdingsOf
-length-holdings size l = length-tabulate 0 clients (λ k. numberAt 3 (3 * (size + k)) l)
+length-holdings size l = length-tabulate 0 clients (λ k. numberAt cellWidth (cellWidth * (size + k)) l)
 
-pub holding-at : (size : ℕ) (l : List ℕ) (k : ℕ) → k < clients → getD (holdingsOf size l) k 0 ≡ numberAt 3 (3 * (size + k)) l
+pub holding-at : (size : ℕ) (l : List ℕ) (k : ℕ) → k < clients → getD (holdingsOf size l) k 0 ≡ numberAt cellWidth (cellWidth * (size + k)) l
 unfolding holdingsOf
-holding-at size l k h = at-tabulate clients (λ k. numberAt 3 (3 * (size + k)) l) k 0 h
+holding-at size l k h = at-tabulate clients (λ k. numberAt cellWidth (cellWidth * (size + k)) l) k 0 h
 
 -- they are read from the line's bytes, and from more of them as well
 pub holdings-first : (size : ℕ) (l : List ℕ) → holdingsOf size (take (lineLength size) l) ≡ holdingsOf size l
 unfolding holdingsOf numberAt lineLength entryWidth
 holdings-first size l =
-    tabulate-ext 0 clients _ _ (λ i h. ap value (ap (λ (r : List ℕ). take 3 r) (drop-take (3 * (size + i)) (lineLength size) l) ∙ take-take 3 (lineLength size - 3 * (size + i)) (drop (3 * (size + i)) l) (omega arith)))
+    tabulate-ext 0 clients _ _ (λ i h. ap value (ap (λ (r : List ℕ). take cellWidth r) (drop-take (cellWidth * (size + i)) (lineLength size) l) ∙ take-take cellWidth (lineLength size - cellWidth * (size + i)) (drop (cellWidth * (size + i)) l) (omega arith)))
 
 pub entry-line : (size : ℕ) (b : List ℕ) (e : ℕ) → entryAt size b e ≡ entryOf size (lineAt size b e)
-unfolding entryAt lineAt lineStart
+unfolding entryAt lineAt
 entry-line size b e = refl
 
 pub from-lines : (s : Shape) (n : ℕ) (b : List ℕ) (ls : List (List ℕ)) → length b ≡ layoutLength s → take headLength b ≡ headLine s n → length ls ≡ s .capacity →
     ((e : ℕ) → e < s .capacity → lineAt (gridSize s) b e ≡ getD ls e []) → b ≡ headLine s n ++ flatten ls
-unfolding lineAt lineStart layoutLength
+unfolding lineAt layoutLength
 from-lines s n b ls sized first many line =
     sym (take-append-drop headLength b) ∙ ap₂ _++_ first (of-parts (lineLength (gridSize s)) (drop headLength b) ls whole one)
   where
@@ -188,7 +186,7 @@ blank-of r e low high =
 
 module _ (r : Register) (sized : Sized (gridSize (r .shape)) (r .entries)) (fits : length (r .entries) ≤ r .shape .capacity) where
   pub line-of : (e : ℕ) → e < r .shape .capacity → lineAt (gridSize (r .shape)) (layout r) e ≡ getD (linesOf r) e []
-  unfolding lineAt lineStart
+  unfolding lineAt
   line-of e h =
       rw (layout-lines r, ← (drop-drop (e * lineLength (gridSize (r .shape))) headLength (headLine (r .shape) (length (r .entries)) ++ flatten (linesOf r))), drop-at (headLine (r .shape) (length (r .entries))) (flatten (linesOf r)) headLength (length-head (r .shape) (length (r .entries))))
       (at-parts (lineLength (gridSize (r .shape))) (linesOf r) (wide-lines r sized) e (omega (arith, length-lines r fits)))

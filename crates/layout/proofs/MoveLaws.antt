@@ -16,8 +16,8 @@ use lib.ListN.{length, getD, take, drop, replicate, length-append, length-drop, 
 use lib.Seq.{take-at, drop-at, drop-drop, split-at, set-split, length-take-le}
 use Rattle.permutations.proofs.ListLaws.{mem-at}
 use Rattle.layout.specs.Decimal.{field}
-use Rattle.layout.specs.Layout.{Shape, Entry, Register, clients, gridSize, changed, fields, lineLength, entryLine, blankLine, headLine, layout, layoutLength}
-use Rattle.layout.specs.Lines.{noEntry, lineStart}
+use Rattle.layout.specs.Layout.{Shape, Entry, Register, clients, gridSize, changed, fields, numberWidth, cellWidth, countPlace, headLength, lineLength, lineStart, entryLine, blankLine, headLine, layout, layoutLength}
+use Rattle.layout.specs.Lines.{noEntry, withField}
 use Rattle.layout.proofs.DecimalLaws.{length-field}
 use Rattle.layout.proofs.LineLaws.{flatten-append, nothing}
 use Rattle.layout.proofs.LayoutLaws.{Fitted, Sized, length-fields, length-entry, length-blank, length-head, length-entries, length-blanks}
@@ -77,15 +77,15 @@ put-field a f f′ c u b j k e la lf =
 four : Shape → List ℕ
 four s = s .rows ∷ s .columns ∷ s .top ∷ s .capacity ∷ []
 
-head-parts : (s : Shape) (n : ℕ) → headLine s n ≡ fields 6 (four s) ++ (field 6 n ++ (10 ∷ []))
+head-parts : (s : Shape) (n : ℕ) → headLine s n ≡ fields numberWidth (four s) ++ (field numberWidth n ++ (10 ∷ []))
 unfolding headLine fields flatten four
 head-parts s n = simp append-assoc
 
 -- line 1 with another count
-recount : (s : Shape) (n m : ℕ) (u b : List ℕ) → b ≡ headLine s n ++ u → take 24 b ++ (field 6 m ++ drop 6 (drop 24 b)) ≡ headLine s m ++ u
-unfolding four
+recount : (s : Shape) (n m : ℕ) (u b : List ℕ) → b ≡ headLine s n ++ u → withField countPlace m b ≡ headLine s m ++ u
+unfolding withField four
 recount s n m u b e =
-    put-field (fields 6 (four s)) (field 6 n) (field 6 m) (10 ∷ []) u b 24 6 (e ∙ ap (λ (l : List ℕ). l ++ u) (head-parts s n)) (length-fields 6 (four s)) (length-field 6 n)
+    put-field (fields numberWidth (four s)) (field numberWidth n) (field numberWidth m) (10 ∷ []) u b countPlace numberWidth (e ∙ ap (λ (l : List ℕ). l ++ u) (head-parts s n)) (length-fields numberWidth (four s)) (length-field numberWidth n)
     ∙ ap (λ (l : List ℕ). l ++ u) (sym (head-parts s m))
 
 -- ---- the lines
@@ -125,7 +125,6 @@ sized-drop size p es h g m = h g (rw (take-append-drop p es) at (Memᴰ·append-
 
 -- the lines before p, with line 1
 start-is : (s : Shape) (n p : ℕ) (xs : Entries) → Sized (gridSize s) xs → length xs ≡ p → length (headLine s n) + length (entryLines xs) ≡ lineStart (gridSize s) p
-unfolding lineStart
 start-is s n p xs sized e = ap₂ _+_ (length-head s n) (length-entries (gridSize s) xs sized ∙ ap (λ (k : ℕ). k * lineLength (gridSize s)) e)
 
 -- as many lines
@@ -137,7 +136,7 @@ lines-are size k ys sized e = length-entries size ys sized ∙ ap (λ (k : ℕ).
 module _ (s : Shape) (xs ys : Entries) (g : Entry) (n p m : ℕ) (front : Sized (gridSize s) xs) (back : Sized (gridSize s) ys) where
   insert-parts : (b b₁ : List ℕ) → length xs ≡ p → p + length ys ≡ n → s .capacity - n ≡ suc m → b ≡ layout (record { shape = s; entries = xs ++ ys }) →
       b₁ ≡ take (lineStart (gridSize s) p) b ++ (entryLine g ++ (take ((n - p) * lineLength (gridSize s)) (drop (lineStart (gridSize s) p) b) ++ drop ((n - p) * lineLength (gridSize s) + lineLength (gridSize s)) (drop (lineStart (gridSize s) p) b))) →
-      take 24 b₁ ++ (field 6 (n + 1) ++ drop 6 (drop 24 b₁)) ≡ layout (record { shape = s; entries = xs ++ (g ∷ ys) })
+      withField countPlace (n + 1) b₁ ≡ layout (record { shape = s; entries = xs ++ (g ∷ ys) })
   insert-parts b b₁ lx ly room e d =
       recount s n (n + 1) (entryLines xs ++ (entryLine g ++ (entryLines ys ++ blankLines (gridSize s) m))) b₁
       (d ∙ put-in (headLine s n) (entryLines xs) (entryLines ys) (blankLine (gridSize s)) (blankLines (gridSize s) m) (entryLine g) b _ _ _
@@ -150,7 +149,7 @@ module _ (s : Shape) (xs ys : Entries) (g : Entry) (n p m : ℕ) (front : Sized 
 
   remove-parts : (b b₁ : List ℕ) → length xs ≡ p → Fitted (gridSize s) g → p + suc (length ys) ≡ n → n ≤ s .capacity → s .capacity - n ≡ m → b ≡ layout (record { shape = s; entries = xs ++ (g ∷ ys) }) →
       b₁ ≡ take (lineStart (gridSize s) p) b ++ (take ((n - (p + 1)) * lineLength (gridSize s)) (drop (lineLength (gridSize s)) (drop (lineStart (gridSize s) p) b)) ++ (blankLine (gridSize s) ++ drop ((n - (p + 1)) * lineLength (gridSize s) + lineLength (gridSize s)) (drop (lineStart (gridSize s) p) b))) →
-      take 24 b₁ ++ (field 6 (n - 1) ++ drop 6 (drop 24 b₁)) ≡ layout (record { shape = s; entries = xs ++ ys })
+      withField countPlace (n - 1) b₁ ≡ layout (record { shape = s; entries = xs ++ ys })
   remove-parts b b₁ lx lg ly fits room e d =
       recount s n (n - 1) (entryLines xs ++ (entryLines ys ++ (blankLine (gridSize s) ++ blankLines (gridSize s) m))) b₁
       (d ∙ take-out (headLine s n) (entryLines xs) (entryLine g) (entryLines ys) (blankLines (gridSize s) m) (blankLine (gridSize s)) b _ _ _
@@ -170,7 +169,7 @@ pub insert-layout : (r : Register) (b b₁ : List ℕ) (g : Entry) (p : ℕ) →
     ++ (entryLine g
     ++ (take ((length (r .entries) - p) * lineLength (gridSize (r .shape))) (drop (lineStart (gridSize (r .shape)) p) b)
     ++ drop ((length (r .entries) - p) * lineLength (gridSize (r .shape)) + lineLength (gridSize (r .shape))) (drop (lineStart (gridSize (r .shape)) p) b))) →
-    take 24 b₁ ++ (field 6 (length (r .entries) + 1) ++ drop 6 (drop 24 b₁)) ≡ layout (record { shape = r .shape; entries = take p (r .entries) ++ (g ∷ drop p (r .entries)) })
+    withField countPlace (length (r .entries) + 1) b₁ ≡ layout (record { shape = r .shape; entries = take p (r .entries) ++ (g ∷ drop p (r .entries)) })
 insert-layout r b b₁ g p sized e room inside d =
     insert-parts (r .shape) (take p (r .entries)) (drop p (r .entries)) g (length (r .entries)) p (r .shape .capacity - length (r .entries) - 1)
     (sized-take _ p (r .entries) sized) (sized-drop _ p (r .entries) sized) b b₁
@@ -182,7 +181,7 @@ pub remove-layout : (r : Register) (b b₁ : List ℕ) (p : ℕ) → Sized (grid
     ++ (take ((length (r .entries) - (p + 1)) * lineLength (gridSize (r .shape))) (drop (lineLength (gridSize (r .shape))) (drop (lineStart (gridSize (r .shape)) p) b))
     ++ (blankLine (gridSize (r .shape))
     ++ drop ((length (r .entries) - (p + 1)) * lineLength (gridSize (r .shape)) + lineLength (gridSize (r .shape))) (drop (lineStart (gridSize (r .shape)) p) b))) →
-    take 24 b₁ ++ (field 6 (length (r .entries) - 1) ++ drop 6 (drop 24 b₁)) ≡ layout (record { shape = r .shape; entries = take p (r .entries) ++ drop (suc p) (r .entries) })
+    withField countPlace (length (r .entries) - 1) b₁ ≡ layout (record { shape = r .shape; entries = take p (r .entries) ++ drop (suc p) (r .entries) })
 remove-layout r b b₁ p sized e fits inside d =
     remove-parts (r .shape) (take p (r .entries)) (drop (suc p) (r .entries)) (getD (r .entries) p noEntry) (length (r .entries)) p (r .shape .capacity - length (r .entries))
     (sized-take _ p (r .entries) sized) (sized-drop _ (suc p) (r .entries) sized) b b₁
@@ -196,13 +195,13 @@ unfolding fields
 fields-append w a b = ap flatten (map-append (field w) a b) ∙ flatten-append (map (field w) a) (map (field w) b)
 
 -- a line by one of its numbers
-line-parts : (pre post : List ℕ) (y : ℕ) (u : List ℕ) → (fields 3 (pre ++ (y ∷ post)) ++ (10 ∷ [])) ++ u ≡ fields 3 pre ++ (field 3 y ++ (fields 3 post ++ ((10 ∷ []) ++ u)))
+line-parts : (pre post : List ℕ) (y : ℕ) (u : List ℕ) → (fields cellWidth (pre ++ (y ∷ post)) ++ (10 ∷ [])) ++ u ≡ fields cellWidth pre ++ (field cellWidth y ++ (fields cellWidth post ++ ((10 ∷ []) ++ u)))
 unfolding fields flatten
 line-parts pre post y u =
-    append-assoc (fields 3 (pre ++ (y ∷ post))) (10 ∷ []) u
-    ∙ ap (λ (l : List ℕ). l ++ ((10 ∷ []) ++ u)) (fields-append 3 pre (y ∷ post))
-    ∙ append-assoc (fields 3 pre) (field 3 y ++ fields 3 post) ((10 ∷ []) ++ u)
-    ∙ ap (λ (l : List ℕ). fields 3 pre ++ l) (append-assoc (field 3 y) (fields 3 post) ((10 ∷ []) ++ u))
+    append-assoc (fields cellWidth (pre ++ (y ∷ post))) (10 ∷ []) u
+    ∙ ap (λ (l : List ℕ). l ++ ((10 ∷ []) ++ u)) (fields-append cellWidth pre (y ∷ post))
+    ∙ append-assoc (fields cellWidth pre) (field cellWidth y ++ fields cellWidth post) ((10 ∷ []) ++ u)
+    ∙ ap (λ (l : List ℕ). fields cellWidth pre ++ l) (append-assoc (field cellWidth y) (fields cellWidth post) ((10 ∷ []) ++ u))
 
 module _ (e : Entry) (c : ℕ) (inside : c - 1 < length (e .holdings)) where
   before : List ℕ
@@ -215,37 +214,37 @@ module _ (e : Entry) (c : ℕ) (inside : c - 1 < length (e .holdings)) where
   unfolding before
   length-before = length-append (e .grid) (take (c - 1) (e .holdings)) ∙ ap (λ (k : ℕ). length (e .grid) + k) (length-take-le (c - 1) (e .holdings) (omega arith))
 
-  entry-parts : (u : List ℕ) → entryLine e ++ u ≡ fields 3 before ++ (field 3 (getD (e .holdings) (c - 1) 0) ++ (fields 3 behind ++ ((10 ∷ []) ++ u)))
+  entry-parts : (u : List ℕ) → entryLine e ++ u ≡ fields cellWidth before ++ (field cellWidth (getD (e .holdings) (c - 1) 0) ++ (fields cellWidth behind ++ ((10 ∷ []) ++ u)))
   unfolding entryLine before behind
   entry-parts u =
-      ap (λ (l : List ℕ). (fields 3 l ++ (10 ∷ [])) ++ u)
+      ap (λ (l : List ℕ). (fields cellWidth l ++ (10 ∷ [])) ++ u)
       (ap (λ (l : List ℕ). e .grid ++ l) (split-at (e .holdings) (c - 1) 0 inside) ∙ sym (append-assoc (e .grid) (take (c - 1) (e .holdings)) (getD (e .holdings) (c - 1) 0 ∷ drop (suc (c - 1)) (e .holdings))))
       ∙ line-parts (e .grid ++ take (c - 1) (e .holdings)) (drop (suc (c - 1)) (e .holdings)) (getD (e .holdings) (c - 1) 0) u
 
-  changed-parts : (x : ℕ) (u : List ℕ) → entryLine (record { grid = e .grid; holdings = changed c x (e .holdings) }) ++ u ≡ fields 3 before ++ (field 3 x ++ (fields 3 behind ++ ((10 ∷ []) ++ u)))
+  changed-parts : (x : ℕ) (u : List ℕ) → entryLine (record { grid = e .grid; holdings = changed c x (e .holdings) }) ++ u ≡ fields cellWidth before ++ (field cellWidth x ++ (fields cellWidth behind ++ ((10 ∷ []) ++ u)))
   unfolding entryLine before behind changed
   changed-parts x u =
-      ap (λ (l : List ℕ). (fields 3 l ++ (10 ∷ [])) ++ u)
+      ap (λ (l : List ℕ). (fields cellWidth l ++ (10 ∷ [])) ++ u)
       (ap (λ (l : List ℕ). e .grid ++ l) (set-split (e .holdings) (c - 1) x inside) ∙ sym (append-assoc (e .grid) (take (c - 1) (e .holdings)) (x ∷ drop (suc (c - 1)) (e .holdings))))
       ∙ line-parts (e .grid ++ take (c - 1) (e .holdings)) (drop (suc (c - 1)) (e .holdings)) x u
 
   -- the line with the number written over
-  written-over : (x k : ℕ) (u t : List ℕ) → k ≡ 3 * (length (e .grid) + (c - 1)) → t ≡ entryLine e ++ u →
-      take k t ++ (field 3 x ++ drop 3 (drop k t)) ≡ entryLine (record { grid = e .grid; holdings = changed c x (e .holdings) }) ++ u
+  written-over : (x k : ℕ) (u t : List ℕ) → k ≡ cellWidth * (length (e .grid) + (c - 1)) → t ≡ entryLine e ++ u →
+      take k t ++ (field cellWidth x ++ drop cellWidth (drop k t)) ≡ entryLine (record { grid = e .grid; holdings = changed c x (e .holdings) }) ++ u
   written-over x k u t ke te =
-      rw (te ∙ entry-parts u, take-at (fields 3 before) _ k wide, drop-at (fields 3 before) (field 3 (getD (e .holdings) (c - 1) 0) ++ (fields 3 behind ++ ((10 ∷ []) ++ u))) k wide, drop-at (field 3 (getD (e .holdings) (c - 1) 0)) (fields 3 behind ++ ((10 ∷ []) ++ u)) 3 (length-field 3 (getD (e .holdings) (c - 1) 0)))
+      rw (te ∙ entry-parts u, take-at (fields cellWidth before) _ k wide, drop-at (fields cellWidth before) (field cellWidth (getD (e .holdings) (c - 1) 0) ++ (fields cellWidth behind ++ ((10 ∷ []) ++ u))) k wide, drop-at (field cellWidth (getD (e .holdings) (c - 1) 0)) (fields cellWidth behind ++ ((10 ∷ []) ++ u)) cellWidth (length-field cellWidth (getD (e .holdings) (c - 1) 0)))
       (sym (changed-parts x u))
     where
-      wide : length (fields 3 before) ≡ k
-      wide = length-fields 3 before ∙ omega (arith, length-before, ke)
+      wide : length (fields cellWidth before) ≡ k
+      wide = length-fields cellWidth before ∙ omega (arith, length-before, ke)
 
-pub change-layout : (r : Register) (b b₁ : List ℕ) (p c x k : ℕ) → Sized (gridSize (r .shape)) (r .entries) → b ≡ layout r → p < length (r .entries) → 1 ≤ c → c ≤ clients → k ≡ 3 * (gridSize (r .shape) + (c - 1)) →
-    b₁ ≡ take (lineStart (gridSize (r .shape)) p) b ++ (take k (drop (lineStart (gridSize (r .shape)) p) b) ++ (field 3 x ++ drop 3 (drop k (drop (lineStart (gridSize (r .shape)) p) b)))) →
+pub change-layout : (r : Register) (b b₁ : List ℕ) (p c x k : ℕ) → Sized (gridSize (r .shape)) (r .entries) → b ≡ layout r → p < length (r .entries) → 1 ≤ c → c ≤ clients → k ≡ cellWidth * (gridSize (r .shape) + (c - 1)) →
+    b₁ ≡ take (lineStart (gridSize (r .shape)) p) b ++ (take k (drop (lineStart (gridSize (r .shape)) p) b) ++ (field cellWidth x ++ drop cellWidth (drop k (drop (lineStart (gridSize (r .shape)) p) b)))) →
     b₁ ≡ layout (record { shape = r .shape; entries = take p (r .entries) ++ (record { grid = getD (r .entries) p noEntry .grid; holdings = changed c x (getD (r .entries) p noEntry .holdings) } ∷ drop (suc p) (r .entries)) })
 change-layout r b b₁ p c x k sized e inside low high at d =
     d
     ∙ ap₂ _++_ (before-start head xs (entryLine g ++ rest) b start parts starts)
-    (written-over g c held x k rest (drop start b) (at ∙ ap (λ (i : ℕ). 3 * (i + (c - 1))) (sym (fit .cells))) (from-start head xs (entryLine g ++ rest) b start parts starts))
+    (written-over g c held x k rest (drop start b) (at ∙ ap (λ (i : ℕ). cellWidth * (i + (c - 1))) (sym (fit .cells))) (from-start head xs (entryLine g ++ rest) b start parts starts))
     ∙ append-assoc head xs (entryLine g′ ++ rest)
     ∙ sym (layout-parts (r .shape) (take p (r .entries)) (g′ ∷ drop (suc p) (r .entries)) n m count′ refl ∙ ap (λ (l : List ℕ). head ++ (xs ++ l)) (entries-cons g′ (drop (suc p) (r .entries)) (blankLines (gridSize (r .shape)) m)))
   where
@@ -303,7 +302,6 @@ pub record Opened (s : Shape) (k : ℕ) (b : List ℕ) : Type 0 where
   pub bytes : b ≡ headLine s 0 ++ (flatten (replicate k (blankLine (gridSize s))) ++ rest)
 
 blank-start : (s : Shape) (k : ℕ) → length (headLine s 0) + length (blankLines (gridSize s) k) ≡ lineStart (gridSize s) k
-unfolding lineStart
 blank-start s k = ap₂ _+_ (length-head s 0) (length-blanks (gridSize s) k)
 
 blanks-snoc : (size k : ℕ) (t : List ℕ) → blankLines size k ++ (blankLine size ++ t) ≡ blankLines size (k + 1) ++ t
@@ -328,16 +326,16 @@ length-over z b start w h lz =
     ∙ omega (arith, length-take-le start b (omega arith), length-append z (drop w (drop start b)), length-drop w (drop start b), length-drop start b)
 
 pub opened-inside : {s : Shape} {k : ℕ} {b : List ℕ} → Opened s k b → k < s .capacity → lineStart (gridSize s) k + lineLength (gridSize s) ≤ length b
-unfolding lineStart layoutLength
+unfolding layoutLength
 opened-inside {s} {k} {b} o room =
     let q : (k + 1) * lineLength (gridSize s) ≤ s .capacity * lineLength (gridSize s) = mul-le-mul-right (lineLength (gridSize s)) (omega arith) in
     rw (o .sized) (omega (arith, add-mul k 1 (lineLength (gridSize s))))
 
-pub opened-head : {s : Shape} (b : List ℕ) → length b ≡ layoutLength s → Opened s 0 (headLine s 0 ++ drop 31 b)
+pub opened-head : {s : Shape} (b : List ℕ) → length b ≡ layoutLength s → Opened s 0 (headLine s 0 ++ drop headLength b)
 unfolding flatten layoutLength
 opened-head {s} b e = record {
-  sized = length-append (headLine s 0) (drop 31 b) ∙ omega (arith, length-head s 0, length-drop 31 b);
-  rest = drop 31 b;
+  sized = length-append (headLine s 0) (drop headLength b) ∙ omega (arith, length-head s 0, length-drop headLength b);
+  rest = drop headLength b;
   bytes = refl;
 }
 
@@ -355,11 +353,11 @@ opened-next {s} {k} {b} o room = record {
 }
 
 -- the same in the form of a part put back after it is written
-pub opened-head-part : {s : Shape} (b : List ℕ) {b₁ ys : List ℕ} → length b ≡ layoutLength s → ys ≡ headLine s 0 → b₁ ≡ take 0 b ++ (ys ++ drop (31 - 0) (drop 0 b)) → Opened s 0 b₁
+pub opened-head-part : {s : Shape} (b : List ℕ) {b₁ ys : List ℕ} → length b ≡ layoutLength s → ys ≡ headLine s 0 → b₁ ≡ take 0 b ++ (ys ++ drop (headLength - 0) (drop 0 b)) → Opened s 0 b₁
 opened-head-part b sized e d = rw (d, e) (opened-head b sized)
 
 pub opened-all : {s : Shape} {b : List ℕ} → Opened s (s .capacity) b → b ≡ layout (record { shape = s; entries = [] })
-unfolding lineStart layoutLength flatten
+unfolding layoutLength flatten
 opened-all {s} {b} o =
     o .bytes
     ∙ ap (λ (l : List ℕ). headLine s 0 ++ (blankLines (gridSize s) (s .capacity) ++ l)) (nothing (o .rest) (omega (arith, length-opened o, o .sized)))

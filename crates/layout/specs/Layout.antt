@@ -8,11 +8,16 @@
 --   gridsOf l      ==  the grids of entries
 --   gridSize s     ==  how many cells a grid of the shape has
 --   fields w l     ==  the numbers of l, w wide each
---   headLength     ==  how many bytes line 1 has
+--   numberWidth, cellWidth  ==  how wide a number of line 1 is, and a cell or a holding
+--   headNumbers    ==  how many numbers line 1 has
+--   rowsPlace, columnsPlace, topPlace, capacityPlace, countPlace  ==  where each of them begins
+--   headLength     ==  how many bytes line 1 has, the line feed included
 --   entryWidth size  ==  how many bytes the numbers of an entry with so many cells take, its holdings included
 --   lineLength size  ==  how many bytes its line has, the line feed included
---   headLine s n   ==  line 1: rows, columns, top, capacity and the count n, each 6 wide, and a line feed
---   entryLine e    ==  an entry's line: its cells and then its holdings, 3 wide each, and a line feed
+--   lineStart size e  ==  where line e of the entries begins, the first being 0
+--   headList s n   ==  the numbers of line 1: rows, columns, top, capacity and the count n
+--   headLine s n   ==  line 1: these numbers and a line feed
+--   entryLine e    ==  an entry's line: its cells and then its holdings, and a line feed
 --   blankLine size ==  a line of spaces of the same length
 --   layout r       ==  the register's bytes: line 1, the entries, and blank lines up to the capacity
 --   layoutLength s ==  how many bytes that is
@@ -24,7 +29,7 @@
 --   decodeShape b  ==  the shape that the bytes state
 --   decode b       ==  the register that the bytes state
 --   InLimits s     ==  rows 1 to 8, columns 1 to 16, top 0 to 15, capacity 1 to 500
---   holding c h    ==  the holding of client c, the first being 1
+--   holding c h    ==  the holding of client c, 1 to 8; question 15 refuses any other client before, and here 0 has client 1's, 9 and above have 0
 --   changed c x h  ==  holdings with x in its place
 --   IsHoldings h   ==  a holding of 0 to 999 for each client, and not all are 0
 --   Ascends l      ==  each grid of l comes before all later ones
@@ -76,23 +81,53 @@ gridSize s = s .rows * s .columns
 unfoldable pub fields : ℕ → List ℕ → List ℕ
 fields w l = flatten (map (field w) l)
 
+abbrev pub numberWidth : ℕ
+numberWidth = 6
+
+abbrev pub cellWidth : ℕ
+cellWidth = 3
+
+abbrev pub headNumbers : ℕ
+headNumbers = 5
+
+abbrev pub rowsPlace : ℕ
+rowsPlace = 0 * numberWidth
+
+abbrev pub columnsPlace : ℕ
+columnsPlace = 1 * numberWidth
+
+abbrev pub topPlace : ℕ
+topPlace = 2 * numberWidth
+
+abbrev pub capacityPlace : ℕ
+capacityPlace = 3 * numberWidth
+
+abbrev pub countPlace : ℕ
+countPlace = 4 * numberWidth
+
 abbrev pub headLength : ℕ
-headLength = 31
+headLength = headNumbers * numberWidth + 1
 
 unfoldable pub entryWidth : ℕ → ℕ
-entryWidth size = 3 * (size + clients)
+entryWidth size = cellWidth * (size + clients)
 
 unfoldable pub lineLength : ℕ → ℕ
 lineLength size = entryWidth size + 1
 
+abbrev pub lineStart : ℕ → ℕ → ℕ
+lineStart size e = headLength + e * lineLength size
+
 unfoldable pub entryLine : Entry → List ℕ
-entryLine e = fields 3 (e .grid ++ e .holdings) ++ (10 ∷ [])
+entryLine e = fields cellWidth (e .grid ++ e .holdings) ++ (10 ∷ [])
 
 unfoldable pub blankLine : ℕ → List ℕ
 blankLine size = replicate (entryWidth size) 32 ++ (10 ∷ [])
 
+abbrev pub headList : Shape → ℕ → List ℕ
+headList s n = s .rows ∷ s .columns ∷ s .top ∷ s .capacity ∷ n ∷ []
+
 unfoldable pub headLine : Shape → ℕ → List ℕ
-headLine s n = fields 6 (s .rows ∷ s .columns ∷ s .top ∷ s .capacity ∷ n ∷ []) ++ (10 ∷ [])
+headLine s n = fields numberWidth (headList s n) ++ (10 ∷ [])
 
 unfoldable pub layout : Register → List ℕ
 layout r =
@@ -100,16 +135,16 @@ layout r =
     ++ (flatten (map entryLine (r .entries)) ++ flatten (replicate (r .shape .capacity - length (r .entries)) (blankLine (gridSize (r .shape)))))
 
 unfoldable pub layoutLength : Shape → ℕ
-layoutLength s = headLength + s .capacity * lineLength (gridSize s)
+layoutLength s = lineStart (gridSize s) (s .capacity)
 
 unfoldable pub numberAt : ℕ → ℕ → List ℕ → ℕ
 numberAt w i b = value (take w (drop i b))
 
 unfoldable pub cellsOf : ℕ → List ℕ → List ℕ
-cellsOf size l = tabulate 0 size (λ k. numberAt 3 (3 * k) l)
+cellsOf size l = tabulate 0 size (λ k. numberAt cellWidth (cellWidth * k) l)
 
 unfoldable pub holdingsOf : ℕ → List ℕ → List ℕ
-holdingsOf size l = tabulate 0 clients (λ k. numberAt 3 (3 * (size + k)) l)
+holdingsOf size l = tabulate 0 clients (λ k. numberAt cellWidth (cellWidth * (size + k)) l)
 
 abbrev pub entryOf : ℕ → List ℕ → Entry
 entryOf size l = record { grid = cellsOf size l; holdings = holdingsOf size l }
@@ -121,13 +156,18 @@ unfoldable pub changed : ℕ → ℕ → List ℕ → List ℕ
 changed c x h = set h (c - 1) x
 
 unfoldable pub count : List ℕ → ℕ
-count b = numberAt 6 24 b
+count b = numberAt numberWidth countPlace b
 
 unfoldable pub entryAt : ℕ → List ℕ → ℕ → Entry
-entryAt size b e = entryOf size (take (lineLength size) (drop (headLength + e * lineLength size) b))
+entryAt size b e = entryOf size (take (lineLength size) (drop (lineStart size e) b))
 
 unfoldable pub decodeShape : List ℕ → Shape
-decodeShape b = record { rows = numberAt 6 0 b; columns = numberAt 6 6 b; top = numberAt 6 12 b; capacity = numberAt 6 18 b }
+decodeShape b = record {
+  rows = numberAt numberWidth rowsPlace b;
+  columns = numberAt numberWidth columnsPlace b;
+  top = numberAt numberWidth topPlace b;
+  capacity = numberAt numberWidth capacityPlace b;
+}
 
 unfoldable pub decode : List ℕ → Register
 decode b = record { shape = decodeShape b; entries = tabulate 0 (count b) (entryAt (gridSize (decodeShape b)) b) }

@@ -2,20 +2,21 @@
 --
 --   noEntry                    ==  what stands where there is no entry
 --   firstEntry c g             ==  the entry of a grid that client c alone holds, once
---   lineStart size e           ==  where line e of the entries begins, the first being 0
---   lineAt size b e            ==  the bytes of that line, its line feed included
+--   lineAt size b e            ==  the bytes of line e of the entries, the first being 0, its line feed included
+--   withField at x b           ==  b with the number x in the field from `at` on, as wide as those of line 1
 --   EntryLine size top l       ==  l is the line of an entry whose cells are at most top, with holdings
 --   EntriesLaid size top n b   ==  the first n lines are lines of entries, each of which comes before the next
 --   BlanksLaid size from to b  ==  the lines from `from` up to `to` are blank
 --   HeadLaid b                 ==  line 1 and the length are as laid out: the limits, the count at most the capacity
 use mathlib.Core.Path.{_≡_}
-use mathlib.Core.List.{List, []}
+use mathlib.Core.List.{List, [], _++_}
 use mathlib.Core.Bool.{true}
-use Prim.Native.Nat.{ℕ, _+_, _*_, _≤_, _<_}
+use Prim.Native.Nat.{ℕ, _+_, _≤_, _<_}
 use lib.ListN.{length, take, drop}
 use Rattle.grids.specs.Order.{_≺_}
 use Rattle.grids.specs.Grids.{capped}
-use Rattle.layout.specs.Layout.{Entry, noHoldings, changed, cellsOf, holdingsOf, entryOf, isHoldings, headLength, lineLength, entryLine, blankLine, headLine, layoutLength, count, decodeShape, InLimits}
+use Rattle.layout.specs.Decimal.{field}
+use Rattle.layout.specs.Layout.{Entry, noHoldings, changed, cellsOf, holdingsOf, entryOf, isHoldings, numberWidth, headLength, lineLength, lineStart, entryLine, blankLine, headLine, layoutLength, count, decodeShape, InLimits}
 
 abbrev pub noEntry : Entry
 noEntry = record { grid = []; holdings = [] }
@@ -23,11 +24,11 @@ noEntry = record { grid = []; holdings = [] }
 abbrev pub firstEntry : ℕ → List ℕ → Entry
 firstEntry c g = record { grid = g; holdings = changed c 1 noHoldings }
 
-unfoldable pub lineStart : ℕ → ℕ → ℕ
-lineStart size e = headLength + e * lineLength size
-
 unfoldable pub lineAt : ℕ → List ℕ → ℕ → List ℕ
 lineAt size b e = take (lineLength size) (drop (lineStart size e) b)
+
+unfoldable pub withField : ℕ → ℕ → List ℕ → List ℕ
+withField at x b = take at b ++ (field numberWidth x ++ drop numberWidth (drop at b))
 
 pub record EntryLine (size top : ℕ) (l : List ℕ) : Type 0 where
   pub bytes : l ≡ entryLine (entryOf size l)

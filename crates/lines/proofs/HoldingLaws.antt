@@ -15,15 +15,15 @@ use native.Mathlib.Decide.{decLt}
 use native.Mathlib.Omega.{arith}
 use lib.ListN.{length, getD}
 use Rattle.permutations.proofs.BoolLaws.{bool-ext}
-use Rattle.layout.specs.Layout.{clients, entryWidth, lineLength, numberAt, holdingsOf, holding, changed, someHeld}
+use Rattle.layout.specs.Layout.{clients, cellWidth, entryWidth, lineLength, numberAt, holdingsOf, holding, changed, someHeld}
 use Rattle.layout.proofs.HoldingLaws.{length-changed, holding-changed, holding-other, held-some, some-held}
 use Rattle.layout.proofs.LineLaws.{length-holdings, holding-at}
 
-pub holding-inside : (size c : ℕ) → 1 ≤ c → c ≤ clients → 3 * (size + (c - 1)) + 3 ≤ lineLength size
+pub holding-inside : (size c : ℕ) → 1 ≤ c → c ≤ clients → cellWidth * (size + (c - 1)) + cellWidth ≤ lineLength size
 unfolding lineLength entryWidth
 holding-inside size c a b = omega arith
 
-pub holding-stated : (size : ℕ) (l : List ℕ) (c : ℕ) {x : ℕ} → 1 ≤ c → c ≤ clients → x ≡ numberAt 3 (3 * (size + (c - 1))) l → x ≡ holding c (holdingsOf size l)
+pub holding-stated : (size : ℕ) (l : List ℕ) (c : ℕ) {x : ℕ} → 1 ≤ c → c ≤ clients → x ≡ numberAt cellWidth (cellWidth * (size + (c - 1))) l → x ≡ holding c (holdingsOf size l)
 unfolding holding
 holding-stated size l c a b e = e ∙ sym (holding-at size l (c - 1) (omega arith))
 

@@ -21,7 +21,7 @@ use lib.ListN.{length, take, drop, set, getD, replicate, length-append, length-t
 use lib.Seq.{take-suc, take-all, drop-cons, set-at, take-at, drop-at, getD-take, getD-drop, getD-append-add, length-take-le, append-snoc, drop-drop}
 use Rattle.grids.proofs.QuestionLaws.{capped-at}
 use Rattle.layout.specs.Decimal.{field}
-use Rattle.layout.specs.Layout.{Entry, clients, fields, entryWidth, lineLength, entryLine, blankLine, numberAt, cellsOf, entryOf}
+use Rattle.layout.specs.Layout.{Entry, clients, fields, cellWidth, entryWidth, lineLength, entryLine, blankLine, numberAt, cellsOf, entryOf}
 use Rattle.layout.specs.Lines.{EntryLine}
 use Rattle.layout.proofs.LayoutLaws.{Fitted, length-entry}
 use Rattle.layout.proofs.LineLaws.{length-cells, cell-at, length-holdings}
@@ -32,7 +32,7 @@ use Rattle.lines.proofs.FillLaws.{Filled, fill-none, fill, fill-part, f
 pub length-line : {size top : ℕ} {l : List ℕ} → EntryLine size top l → length l ≡ lineLength size
 length-line {size} {top} {l} e = ap length (e .bytes) ∙ length-entry size (entryOf size l) (record { cells = length-cells size l; held = length-holdings size l })
 
-pub cell-small : {size top : ℕ} {l : List ℕ} (k : ℕ) → EntryLine size top l → k < size → numberAt 3 (3 * k) l ≤ top
+pub cell-small : {size top : ℕ} {l : List ℕ} (k : ℕ) → EntryLine size top l → k < size → numberAt cellWidth (cellWidth * k) l ≤ top
 cell-small {size} {top} {l} k e h = rw (cell-at size l k h) at (capped-at top (cellsOf size l) (e .at-most) k (omega (arith, length-cells size l)))
 
 pub record ReadTo (k : ℕ) (l c o : List ℕ) : Type 0 where
@@ -41,7 +41,7 @@ pub record ReadTo (k : ℕ) (l c o : List ℕ) : Type 0 where
 pub read-none : (l c : List ℕ) → ReadTo 0 l c c
 read-none l c = record { so-far = fill-none c }
 
-pub read-next : {k : ℕ} {l c o : List ℕ} (x : ℕ) → ReadTo k l c o → k < length c → x ≡ numberAt 3 (3 * k) l → ReadTo (k + 1) l c (set o k x)
+pub read-next : {k : ℕ} {l c o : List ℕ} (x : ℕ) → ReadTo k l c o → k < length c → x ≡ numberAt cellWidth (cellWidth * k) l → ReadTo (k + 1) l c (set o k x)
 read-next {k} {l} {c} {o} x r h e = record {
   so-far =
       fill _ x (r .so-far) h
@@ -59,23 +59,23 @@ fields-snoc w [] x = append-nil (field w x)
 fields-snoc w (y ∷ l) x = ap (λ (r : List ℕ). field w y ++ r) (fields-snoc w l x) ∙ sym (append-assoc (field w y) (fields w l) (field w x))
 
 pub record EntryTo (k i : ℕ) (g l o : List ℕ) : Type 0 where
-  pub place : i ≡ 3 * k
+  pub place : i ≡ cellWidth * k
   pub within : k ≤ length g
-  pub so-far : Filled (fields 3 (take k g)) l i o
+  pub so-far : Filled (fields cellWidth (take k g)) l i o
 
 pub entry-none : (g l : List ℕ) → EntryTo 0 0 g l l
 unfolding fields flatten
 entry-none g l = record { place = refl; within = omega arith; so-far = fill-none l }
 
-pub entry-next : {k i x : ℕ} {g l o : List ℕ} (ys : List ℕ) → EntryTo k i g l o → k < length g → i + 3 ≤ length l → x ≡ getD g k 0 → ys ≡ field (length (take (i + 3 - i) (drop i o))) x →
-    EntryTo (k + 1) (i + 3) g l (take i o ++ (ys ++ drop (i + 3 - i) (drop i o)))
+pub entry-next : {k i x : ℕ} {g l o : List ℕ} (ys : List ℕ) → EntryTo k i g l o → k < length g → i + cellWidth ≤ length l → x ≡ getD g k 0 → ys ≡ field (length (take (i + cellWidth - i) (drop i o))) x →
+    EntryTo (k + 1) (i + cellWidth) g l (take i o ++ (ys ++ drop (i + cellWidth - i) (drop i o)))
 entry-next {k} {i} {x} {g} {l} {o} ys t h b e y = record {
   place = omega (arith, t .place);
   within = omega arith;
   so-far =
-      let z : i + 3 - i ≡ 3 = omega arith in
-      fill-part _ (i + 3) x ys (t .so-far) (omega arith) b y
-      (rw (add-one, z, take-suc g k 0 h, e) (fields-snoc 3 (take k g) (getD g k 0)));
+      let z : i + cellWidth - i ≡ cellWidth = omega arith in
+      fill-part _ (i + cellWidth) x ys (t .so-far) (omega arith) b y
+      (rw (add-one, z, take-suc g k 0 h, e) (fields-snoc cellWidth (take k g) (getD g k 0)));
 }
 
 pub entry-all : {k i : ℕ} {l o : List ℕ} (size : ℕ) (e : Entry) → Fitted size e → EntryTo k i (e .grid ++ e .holdings) l o → size + clients ≤ k → lineLength size ≤ length l →
@@ -83,8 +83,8 @@ pub entry-all : {k i : ℕ} {l o : List ℕ} (size : ℕ) (e : Entry) → Fitted
 unfolding entryLine lineLength entryWidth
 entry-all {k} {i} {l} {o} size e f t h b =
     let n : length (e .grid ++ e .holdings) ≡ size + clients = length-append (e .grid) (e .holdings) ∙ omega (arith, f .cells, f .held) in
-    filled (fields 3 (e .grid ++ e .holdings) ++ (10 ∷ [])) (lineLength size) (fill _ 10 (t .so-far) (omega (arith, t .place, t .within)) refl)
-    (ap (λ (r : List ℕ). fields 3 r ++ (10 ∷ [])) (take-all k (e .grid ++ e .holdings) (omega arith)))
+    filled (fields cellWidth (e .grid ++ e .holdings) ++ (10 ∷ [])) (lineLength size) (fill _ 10 (t .so-far) (omega (arith, t .place, t .within)) refl)
+    (ap (λ (r : List ℕ). fields cellWidth r ++ (10 ∷ [])) (take-all k (e .grid ++ e .holdings) (omega arith)))
     (omega (arith, t .place, t .within))
 
 pub record BlankTo (k : ℕ) (l o : List ℕ) : Type 0 where

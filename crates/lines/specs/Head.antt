@@ -2,12 +2,9 @@
 --
 --   shapeOf h    ==  the shape that its numbers are
 --   States b h   ==  the bytes b state these numbers
---   withField at x b  ==  b with the number x in the six bytes from `at` on
 use mathlib.Core.Path.{_≡_}
-use mathlib.Core.List.{List, _++_}
+use mathlib.Core.List.{List}
 use Prim.Native.Nat.{ℕ}
-use lib.ListN.{take, drop}
-use Rattle.layout.specs.Decimal.{field}
 use Rattle.layout.specs.Layout.{Shape, count, decodeShape}
 use Rattle.lines.specs.declared.head.Head.{Head}
 
@@ -17,6 +14,3 @@ shapeOf h = record { rows = h .rows; columns = h .columns; top = h .top; capacit
 pub record States (b : List ℕ) (h : Head) : Type 0 where
   pub shape : shapeOf h ≡ decodeShape b
   pub counts : h .count ≡ count b
-
-unfoldable pub withField : ℕ → ℕ → List ℕ → List ℕ
-withField at x b = take at b ++ (field 6 x ++ drop 6 (drop at b))

@@ -1,27 +1,33 @@
-// The lines of entries: their length, read, written, put in and taken out; and the length of a register. The part of the register
-// from a line's first byte onward is lent.
+// The lines of entries: their length and place, read, written, put in and taken out. The part of the register from a line's first
+// byte onward is lent.
+use crate::head;
 use crate::numbers;
 ghost use mathlib.Core.Path.{_≡_};
 ghost use mathlib.Core.List.{_++_};
-ghost use Prim.Native.Nat.{_+_, _*_, _≤_};
+ghost use Prim.Native.Nat.{_+_, _≤_};
 ghost use lib.ListN.{length, getD, take, drop};
-ghost use Rattle.layout.specs.Layout.{clients, noHoldings, changed, headLength, lineLength, entryLine, blankLine, cellsOf};
+ghost use Rattle.layout.specs.Layout.{clients, noHoldings, changed, headLength, lineLength, lineStart, entryLine, blankLine, cellsOf};
 ghost use Rattle.layout.specs.Lines.{firstEntry, EntryLine};
+
+// How wide a cell or a holding is, and how many clients have a holding.
+pub const WIDTH: usize = 3;
+
+pub const CLIENTS: usize = 8;
 
 // How many bytes the line of an entry with so many cells has, the line feed included.
 pub fn line_length(size: usize) -> usize
     requires { ⌜ size ≤ 128 ⌝ }
     ensures { λ r. ⌜ (r ≡ lineLength size) × (r ≤ 409) ⌝ }
 {
-    3 * (size + 8) + 1
+    WIDTH * (size + CLIENTS) + 1
 }
 
-// How many bytes a register has whose entries have so many cells.
-pub fn register_length(size: usize, capacity: usize) -> usize
-    requires { ⌜ (size ≤ 128) × (capacity ≤ 500) ⌝ }
-    ensures { λ r. ⌜ (r ≡ headLength + capacity * lineLength size) × (r ≤ 204531) ⌝ }
+// Where line e of the entries begins, the first being 0. At the capacity that is how many bytes the register has.
+pub fn line_start(size: usize, e: usize) -> usize
+    requires { ⌜ (size ≤ 128) × (e ≤ 500) ⌝ }
+    ensures { λ r. ⌜ (r ≡ lineStart size e) × (r ≤ headLength + 204500) ⌝ }
 {
-    31 + capacity * line_length(size)
+    head::LENGTH + e * line_length(size)
 }
 
 // Reads the cells of an entry's line.
@@ -31,7 +37,7 @@ pub fn read_line(line: &[u8], cells: &mut [u8])
 {
     let mut k = 0;
     while k < cells.len() {
-        cells[k] = numbers::three_wide(line, 3 * k) as u8;
+        cells[k] = numbers::three_wide(line, WIDTH * k) as u8;
         k += 1;
     }
 }
@@ -55,11 +61,11 @@ fn write_line(part: &mut [u8], grid: &[u8], client: usize)
     requires { ⌜ (length (now grid) ≤ 128) × (1 ≤ client) × (client ≤ clients) × (lineLength (length (now grid)) ≤ length (now part)) ⌝ }
     ensures { λ _. ⌜ now (part .exit) ≡ entryLine (firstEntry client (now (grid .entry))) ++ drop (lineLength (length (now (grid .entry)))) (now (part .entry)) ⌝ }
 {
-    let count = grid.len() + 8;
+    let count = grid.len() + CLIENTS;
     let mut k = 0;
     let mut at = 0;
     while k < count {
-        let end = at + 3;
+        let end = at + WIDTH;
         let x = number(grid, client, k);
         numbers::write_number(&mut part[at..end], x);
         at = end;

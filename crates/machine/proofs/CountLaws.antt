@@ -21,11 +21,10 @@ use Rattle.bounds.proofs.BoundsLaws.{bounds-pass}
 use Rattle.bounds.proofs.AllpermLaws.{least-allperm}
 use Rattle.bounds.proofs.PruneLaws.{prune-pass, pruned-some, says-some, says-none, pruned-is-bounds, least-same-bounds, none-in-bounds}
 use Rattle.layout.specs.Layout.{Shape, gridsOf, gridSize}
-use Rattle.machine.specs.Calls.{Outcome, counted, placed}
-use Rattle.machine.specs.CallLists.{accepted}
+use Rattle.calls.specs.Calls.{Outcome, counted, placed, accepted}
 use Rattle.machine.specs.Machine.{shown, stepUnless, countClasses, outcome}
 use Rattle.machine.specs.Demand3.{prunedFor}
-use Rattle.machine.proofs.SortedLaws.{Entries, Grids}
+use Rattle.calls.proofs.EntryLaws.{Entries, Grids}
 use Rattle.machine.proofs.MachineLaws.{Good, self-least, count-same}
 use Rattle.machine.proofs.LiveLaws.{bounds-refused}
 

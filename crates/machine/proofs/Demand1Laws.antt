@@ -14,13 +14,14 @@ use borrow.Author.Tests.{ne-eqb}
 use Rattle.grids.specs.Questions.{firstNo, question6, question7, question14, afterFirst}
 use Rattle.bounds.specs.Prune.{boundsQuestions, question8}
 use Rattle.layout.specs.Layout.{Shape, Register, gridsOf, decode}
-use Rattle.machine.specs.Calls.{Outcome, refusal, answered, question5, question9, question10, question15, question16, gridQuestions, clientQuestions, holds, openQuestions, enterQuestions, strikeQuestions, countQuestions, terminalEnterQuestions, enterInto, strikeFrom, enterRegister, strikeRegister, countRegister, terminalEnterRegister, opened, entered, struck, counted, terminalEntered}
-use Rattle.machine.specs.CallLists.{Call, enter, strike, countIn, terminalEnter, Implementation, registerCalls, Meets, called, questionsOf, accepted}
+use Rattle.calls.specs.Entries.{question9, question10, question15, question16, gridQuestions, clientQuestions, holds}
+use Rattle.calls.specs.Calls.{Outcome, refusal, answered, question5, openQuestions, enterQuestions, strikeQuestions, countQuestions, terminalEnterQuestions, enterInto, strikeFrom, enterRegister, strikeRegister, countRegister, terminalEnterRegister, opened, entered, struck, counted, terminalEntered, accepted}
+use Rattle.machine.specs.CallLists.{Call, enter, strike, countIn, terminalEnter, Implementation, registerCalls, LentCall, Meets, called, questionsOf}
 use Rattle.machine.specs.Demand1.{Demand1}
-use Rattle.machine.proofs.RefusalLaws.{opened-refused, entered-refused, struck-refused, counted-refused, refused-number, count-unchanged}
-use Rattle.machine.proofs.CallLaws.{opened-length, entered-length, struck-length}
-use Rattle.machine.proofs.TerminalLaws.{terminal-entered-refused, terminal-entered-length}
-use Rattle.machine.proofs.CallListLaws.{meets-has}
+use Rattle.calls.proofs.RefusalLaws.{opened-refused, entered-refused, struck-refused, counted-refused, refused-number, count-unchanged}
+use Rattle.calls.proofs.CallLaws.{opened-length}
+use Rattle.calls.proofs.TerminalLaws.{terminal-entered-refused}
+use Rattle.machine.proofs.CallListLaws.{call-length, meets-call}
 
 pub call-refused : (b : List ℕ) (c : Call) (k : ℕ) → firstNo (questionsOf b c) ≡ suc k → called registerCalls b c ≡ refusal (suc k) b
 unfolding called registerCalls questionsOf
@@ -79,21 +80,14 @@ count-kept : (b low high : List ℕ) → called registerCalls b (countIn low hig
 unfolding called registerCalls
 count-kept b low high = count-unchanged b low high
 
-length-kept : (b : List ℕ) (c : Call) → length (called registerCalls b c .bytes) ≡ length b
-unfolding called registerCalls
-length-kept b (enter c g) = entered-length b c g
-length-kept b (strike c g) = struck-length b c g
-length-kept b (countIn low high) = ap length (count-unchanged b low high)
-length-kept b (terminalEnter c g) = terminal-entered-length b c g
-
 pub demand1 : (i : Implementation) → Meets i → Demand1 i
-unfolding registerCalls
-demand1 i h = meets-has Demand1 i h (record {
-  open-refuses = opened-refused;
-  refuses = call-refused;
-  open-accepts = open-asked;
-  accepts = accepted-asked;
-  count-unchanged = count-kept;
-  open-length = opened-length;
-  same-length = length-kept;
-})
+unfolding LentCall
+demand1 i h = record {
+  open-refuses = λ s b w l k e. h .opens s b w l ∙ opened-refused s b k e;
+  refuses = λ b c l m k e. meets-call i h b c l m ∙ call-refused b c k e;
+  open-accepts = λ s b w l. ap (λ (o : Outcome). eqb (o .number) 0) (h .opens s b w l) ∙ open-asked s b;
+  accepts = λ b c l m. ap (λ (o : Outcome). accepted (o .number)) (meets-call i h b c l m) ∙ accepted-asked b c;
+  count-unchanged = λ b low high l m n. ap (λ (o : Outcome). o .bytes) (meets-call i h b (countIn low high) l (m, n)) ∙ count-kept b low high;
+  open-length = λ s b w l. ap (λ (o : Outcome). length (o .bytes)) (h .opens s b w l) ∙ opened-length s b;
+  same-length = λ b c l m. ap (λ (o : Outcome). length (o .bytes)) (meets-call i h b c l m) ∙ call-length b c;
+}

@@ -1,5 +1,6 @@
 -- What a call does to the holdings that the register's bytes state, on all bytes.
 --
+--   own-apart ==  a call of specs/Calls changes no holding of a client that it does not name, whatever the lists are
 --   apart    ==  a call changes no holding of a client that it does not name, of every implementation that meets the calls' contracts
 --   by-one   ==  and none by more than 1
 use mathlib.Core.Path.{_≡_, refl, ap, _∙_}
@@ -17,16 +18,17 @@ use Rattle.grids.specs.Questions.{firstNo}
 use Rattle.layout.specs.Layout.{Entry, Register, clients, changed, layout, decode, IsRegister, laidOut}
 use Rattle.layout.proofs.LayoutLaws.{decode-layout}
 use Rattle.layout.proofs.RegisterLaws.{register-printable}
-use Rattle.machine.specs.Calls.{Outcome, answered, leastIn, more, fewer, holdingsIn, heldBy, kept, enterInto, strikeFrom, enterQuestions, strikeQuestions, enterRegister, strikeRegister, entered, struck, terminalEntered}
+use Rattle.calls.specs.Entries.{leastIn, more, fewer, holdingsIn, heldBy}
+use Rattle.calls.specs.Calls.{Outcome, answered, kept, enterInto, strikeFrom, enterQuestions, strikeQuestions, enterRegister, strikeRegister, entered, struck, terminalEntered}
 use Rattle.machine.specs.CallLists.{Call, enter, strike, countIn, terminalEnter, Implementation, registerCalls, Meets, called}
 use Rattle.machine.specs.Holdings.{names, heldIn, Apart, ByOne}
 use Rattle.layout.proofs.HoldingLaws.{length-changed}
-use Rattle.machine.proofs.HoldingLaws.{kept-becomes, one, more-held, fewer-held}
-use Rattle.machine.proofs.AskedLaws.{client-pass, enter-pass, strike-pass}
-use Rattle.machine.proofs.RefusalLaws.{count-unchanged}
-use Rattle.machine.proofs.CallLaws.{keptIn, stated-fit, enter-keeps, strike-keeps, unlaid-entered, unlaid-struck}
-use Rattle.machine.proofs.TerminalLaws.{terminal-cases}
-use Rattle.machine.proofs.CallListLaws.{meets-has}
+use Rattle.calls.proofs.HoldingLaws.{kept-becomes, one, more-held, fewer-held}
+use Rattle.calls.proofs.AskedLaws.{client-pass, enter-tested, strike-tested}
+use Rattle.calls.proofs.RefusalLaws.{count-unchanged}
+use Rattle.calls.proofs.CallLaws.{keptIn, stated-fit, enter-keeps, strike-keeps, unlaid-entered, unlaid-struck}
+use Rattle.calls.proofs.TerminalLaws.{terminal-cases}
+use Rattle.machine.proofs.CallListLaws.{meets-call}
 
 -- from x to y by at most 1, and not at all where the client is not named
 record Moved (named : Bool) (x y : ℕ) : Type 0 where
@@ -71,7 +73,7 @@ module _ (b : List ℕ) (c : ℕ) (g : List ℕ) (k : ℕ) (first : 1 ≤ k) (a 
   entered-raised : laidOut b ≡ true → Moved (eqb c k) (heldIn b k a) (heldIn (entered b c g .bytes) k a)
   unfolding entered enterRegister enterInto more heldIn
   entered-raised e = answered-moved (firstNo (enterQuestions b (decode b) c g r)) b (enterInto (decode b) c r) (eqb c k) k a λ z.
-      let q = client-pass (decode b .shape) c g .0 (enter-pass b (decode b) c g r .0 z .1) in
+      let q = client-pass (decode b .shape) c g .0 (enter-tested b (decode b) c g r .0 z .1) in
       raised (eqb c k) (equal r a) (heldBy k a es) _
       (kept-held b r (more c (holdingsIn r es)) k a (enter-keeps b c g e z)
       ∙ more-held es (kept r (more c (holdingsIn r es)) es) r c (q .1) (q .2) (stated-fit b r e .sized) a k first (kept-becomes r (more c (holdingsIn r es)) es (all-of-r e _)))
@@ -79,7 +81,7 @@ module _ (b : List ℕ) (c : ℕ) (g : List ℕ) (k : ℕ) (first : 1 ≤ k) (a 
   struck-lowered : laidOut b ≡ true → Moved (eqb c k) (heldIn b k a) (heldIn (struck b c g .bytes) k a)
   unfolding struck strikeRegister strikeFrom fewer heldIn
   struck-lowered e = answered-moved (firstNo (strikeQuestions b (decode b) c g r)) b (strikeFrom (decode b) c r) (eqb c k) k a λ z.
-      let p = strike-pass b (decode b) c g r .0 z in
+      let p = strike-tested b (decode b) c g r .0 z in
       let q = client-pass (decode b .shape) c g .0 (p .1) in
       lowered (eqb c k) (equal r a) (heldBy k a es) _
       (ap (λ (x : ℕ). x + one (eqb c k && equal r a)) (kept-held b r (fewer c (holdingsIn r es)) k a (strike-keeps b c g e z))
@@ -113,10 +115,16 @@ call-moved b (strike c g) k first a = struck-moved b c g k first a
 call-moved b (countIn low high) k first a = unmoved false _ _ (ap (λ (l : List ℕ). heldIn l k a) (count-unchanged b low high))
 call-moved b (terminalEnter c g) k first a = terminal-moved b c g k first a
 
+pub own-apart : (b : List ℕ) (c : Call) (k : ℕ) → 1 ≤ k → names k c ≡ false → (r : List ℕ) → heldIn (called registerCalls b c .bytes) k r ≡ heldIn b k r
+own-apart b c k first n r = call-moved b c k first r .still n
+
 pub apart : (i : Implementation) → Meets i → Apart i
 unfolding Apart
-apart i h = meets-has Apart i h (λ b c k first n r. call-moved b c k first r .still n)
+apart i h b c l m k first n r = ap (λ (o : Outcome). heldIn (o .bytes) k r) (meets-call i h b c l m) ∙ own-apart b c k first n r
 
 pub by-one : (i : Implementation) → Meets i → ByOne i
 unfolding ByOne
-by-one i h = meets-has ByOne i h (λ b c k first r. call-moved b c k first r .most)
+by-one i h b c l m k first r =
+    let e = ap (λ (o : Outcome). heldIn (o .bytes) k r) (meets-call i h b c l m) in
+    let w = call-moved b c k first r .most in
+    (omega (arith, e, w .0), omega (arith, e, w .1))

@@ -27,17 +27,19 @@ use Rattle.grids.proofs.OrderLaws.{equal-eq, eq-equal}
 use Rattle.grids.proofs.GridLaws.{class-passes, passes-class}
 use Rattle.grids.proofs.LeastLaws.{class-least, least-class}
 use Rattle.bounds.specs.Prune.{boundsQuestions, question8}
-use Rattle.layout.specs.Layout.{Shape, clients, mostHeld, gridsOf, gridSize, holding}
-use Rattle.machine.specs.Calls.{gridQuestions, clientQuestions, question15, leastIn, more, fewer, holds, holdingsIn, heldBy}
-use Rattle.machine.specs.CallLists.{Call, enter, strike, countIn, terminalEnter, Implementation, run, accepted}
+use Rattle.layout.specs.Layout.{Shape, clients, gridsOf, gridSize, holding}
+use Rattle.calls.specs.Entries.{gridQuestions, clientQuestions, question15, leastIn, more, fewer, holds, holdingsIn, heldBy}
+use Rattle.calls.specs.Calls.{accepted}
+use Rattle.machine.specs.CallLists.{Call, enter, strike, countIn, terminalEnter, Implementation, run}
 use Rattle.machine.specs.Machine.{Step, stepUnless, enterClass, strikeClass, countClasses, entering, striking, step, outcome, outcomes}
 use Rattle.machine.specs.Demand3.{entersClass, strikesClass, acceptedOf, entersOf, strikesOf, live, ListsLive}
-use Rattle.machine.proofs.SortedLaws.{Entries, holds-in, in-holds, of-grids}
-use Rattle.machine.proofs.AskedLaws.{client-pass}
-use Rattle.machine.proofs.RefusalLaws.{refused-number}
+use Rattle.calls.proofs.EntryLaws.{Entries, holds-in, in-holds, of-grids}
+use Rattle.calls.proofs.AskedLaws.{client-pass}
+use Rattle.calls.proofs.RefusalLaws.{refused-number}
 use Rattle.layout.proofs.HoldingLaws.{length-changed}
-use Rattle.machine.proofs.HoldingLaws.{held-member, held-here, none-by, put-becomes, one, more-held, fewer-held}
-use Rattle.machine.proofs.MachineLaws.{Good, grids-good, set-fit, step-good, terminal-step-has, afterwards, afterwards-good}
+use Rattle.calls.proofs.HoldingLaws.{held-member, held-here, none-by, one, more-held, fewer-held}
+use Rattle.machine.proofs.SetLaws.{put-becomes}
+use Rattle.machine.proofs.MachineLaws.{Good, grids-good, enter-cases, strike-cases, set-fit, step-good, terminal-step-has, afterwards, afterwards-good}
 
 pub class-equal : (m n : ℕ) (a b : List ℕ) → length a ≡ m * n → length b ≡ m * n → oneClass m n a b ≡ equal (least m n a) (least m n b)
 class-equal m n a b e f =
@@ -84,25 +86,23 @@ module _ (s : Shape) (l : Entries) (g : Good s l) (k : ℕ) (first : 1 ≤ k) (a
     striking-tally p = fewer-held l (striking l c r) r c low high (set-fit s l g r .sized) a k first p (put-becomes r (fewer c (holdingsIn r l)) l (length-changed c _ (holdingsIn r l) ∙ set-fit s l g r .sized))
 
     enter-tally : Tallied l k a false (eqb c k && equal r a) (enterClass s l c r)
-    unfolding enterClass accepted
-    enter-tally = go (holds r (gridsOf l)) refl (ltb (heldBy c r l) mostHeld) refl (ltb (length l) (s .capacity)) refl
+    unfolding accepted
+    enter-tally =
+        enter-cases (Tallied l k a false (eqb c k && equal r a)) s l c r
+        (λ h m. done)
+        (refused-tally l k a false (eqb c k && equal r a) 16 refl)
+        (λ h f. done)
+        (refused-tally l k a false (eqb c k && equal r a) 9 refl)
       where
         done : heldBy k a (entering l c r) + 0 ≡ heldBy k a l + one ((eqb c k && equal r a) && true)
         done = rw (and-true (eqb c k && equal r a)) (omega (arith, entering-tally))
 
-        go : (h : Bool) → holds r (gridsOf l) ≡ h → (m : Bool) → ltb (heldBy c r l) mostHeld ≡ m → (f : Bool) → ltb (length l) (s .capacity) ≡ f → Tallied l k a false (eqb c k && equal r a) (enterClass s l c r)
-        go true h true m f e = rw (h, m, enterClass) done
-        go true h false m f e = rw (h, m, enterClass) (refused-tally l k a false (eqb c k && equal r a) 16 refl)
-        go false h t m true e = rw (h, e, enterClass) done
-        go false h t m false e = rw (h, e, enterClass) (refused-tally l k a false (eqb c k && equal r a) 9 refl)
-
-    strike-tally : Tallied l k a (eqb c k && equal r a) false (strikeClass l c r)
-    unfolding strikeClass accepted
-    strike-tally = go (ltb 0 (heldBy c r l)) refl
-      where
-        go : (h : Bool) → ltb 0 (heldBy c r l) ≡ h → Tallied l k a (eqb c k && equal r a) false (strikeClass l c r)
-        go true h = rw (h, strikeClass, and-true (eqb c k && equal r a)) (omega (arith, striking-tally (ltb-true 0 (heldBy c r l) h)))
-        go false h = rw (h, strikeClass) (refused-tally l k a (eqb c k && equal r a) false 10 refl)
+    strike-tally : Tallied l k a (eqb c k && equal r a) false (strikeClass s l c r)
+    unfolding accepted
+    strike-tally =
+        strike-cases (Tallied l k a (eqb c k && equal r a) false) s l c r
+        (λ h. rw (and-true (eqb c k && equal r a)) (omega (arith, striking-tally h)))
+        (refused-tally l k a (eqb c k && equal r a) false 10 refl)
 
 module _ (s : Shape) (l : Entries) (g : Good s l) (a : List ℕ) (z : length a ≡ gridSize s) (k : ℕ) (first : 1 ≤ k) where
   -- client c's call of the grid q, of which `t` is what comes after its questions, where x and y say whether a call of the class strikes and enters
@@ -127,7 +127,7 @@ module _ (s : Shape) (l : Entries) (g : Good s l) (a : List ℕ) (z : length a �
   pub held-step : (c : Call) → Tallied l k (leastIn s a) (strikesClass (s .rows) (s .columns) a k c) (entersClass (s .rows) (s .columns) a k c) (step s l c)
   unfolding step entersClass strikesClass accepted
   held-step (enter c q) = tally-enter c q
-  held-step (strike c q) = tally-client c q (λ t. t) (λ t. false) (strikeClass l c (leastIn s q)) (λ low high. strike-tally s l g k first (leastIn s a) c low high (leastIn s q))
+  held-step (strike c q) = tally-client c q (λ t. t) (λ t. false) (strikeClass s l c (leastIn s q)) (λ low high. strike-tally s l g k first (leastIn s a) c low high (leastIn s q))
   held-step (countIn low high) = count-tally (firstNo (boundsQuestions (gridSize s) (s .top) low high)) low high
   held-step (terminalEnter c q) =
       terminal-step-has s l c q (enterClass s l c (leastIn s q)) (Tallied l k (leastIn s a) false (eqb c k && oneClass (s .rows) (s .columns) q a)) (tally-enter c q)

@@ -2,6 +2,7 @@
 --
 --   ascendingly l  ==  the grids of l, ascending
 --   lists-one    ==  two lists of the live classes, ascending, are equal
+--   lists-inside ==  as many grids of either lie in bounds
 --   counts-live  ==  the count is the length of any such list
 --   sent-live    ==  an accepted count of bounds counts the grids of any such list that lie in them
 --   pruned-live  ==  a count of what prune leaves counts those that lie in the bounds as sent
@@ -11,12 +12,15 @@ use mathlib.Core.Bool.{Bool, true}
 use Prim.Native.Nat.{ℕ}
 use lib.ListN.{length, length-map}
 use Rattle.permutations.specs.Lists.{select}
+use Rattle.grids.specs.Lent.{Bytes}
 use Rattle.layout.specs.Layout.{Shape, Entry, gridsOf, count}
-use Rattle.machine.specs.Calls.{Outcome}
-use Rattle.machine.specs.CallLists.{Call, Implementation, left, accepted}
+use Rattle.calls.specs.Calls.{Outcome, accepted}
+use Rattle.machine.specs.CallLists.{Call, Implementation, left}
 use Rattle.machine.specs.Machine.{sorted}
-use Rattle.machine.specs.Demand3.{Once, live, ListsLive, prunedFor, AfterOpen}
-use Rattle.machine.proofs.SortedLaws.{Entries, Grids, asc-ext, in-sorted, of-sorted, sorted-asc, length-sorted, count-sorted}
+use Rattle.calls.specs.Entries.{Once}
+use Rattle.machine.specs.Demand3.{live, ListsLive, prunedFor, AfterOpen}
+use Rattle.calls.proofs.EntryLaws.{Entries, Grids, asc-ext}
+use Rattle.machine.proofs.SetLaws.{in-sorted, of-sorted, sorted-asc, length-sorted, count-sorted}
 use Rattle.machine.proofs.CountLaws.{inside}
 
 -- grids as entries, and sorted
@@ -58,6 +62,13 @@ count-ascendingly : (t : List ℕ → Bool) (l : Grids) → Once l → length (s
 unfolding ascendingly
 count-ascendingly t l o = count-sorted t (bare l) (bare-once l o) ∙ ap (λ (k : Grids). length (select t k)) (bare-grids l)
 
+-- so as many of either lie in bounds
+pub lists-inside : (s : Shape) (live : List ℕ → Bool) (k l : Grids) → ListsLive (s .rows) (s .columns) live k → ListsLive (s .rows) (s .columns) live l → (low high : List ℕ) → inside s k low high ≡ inside s l low high
+lists-inside s live k l x y low high =
+    sym (count-ascendingly _ k (x .once))
+    ∙ ap (λ (z : Grids). inside s z low high) (lists-one (s .rows) (s .columns) live k l x y)
+    ∙ count-ascendingly _ l (y .once)
+
 module _ (i : Implementation) (s : Shape) (b : List ℕ) (calls : List Call) (a : AfterOpen i s b calls) (l : Grids) (y : ListsLive (s .rows) (s .columns) (live i s b calls) l) where
   one : ascendingly (a .classes) ≡ ascendingly l
   one = lists-one (s .rows) (s .columns) (live i s b calls) (a .classes) l (a .lists) y
@@ -66,14 +77,11 @@ module _ (i : Implementation) (s : Shape) (b : List ℕ) (calls : List Call) (a 
   counts-live = a .counts ∙ sym (length-ascendingly (a .classes)) ∙ ap length one ∙ length-ascendingly l
 
   as-many : (low high : List ℕ) → inside s (a .classes) low high ≡ inside s l low high
-  as-many low high =
-      sym (count-ascendingly _ (a .classes) (a .lists .once))
-      ∙ ap (λ (x : Grids). inside s x low high) one
-      ∙ count-ascendingly _ l (y .once)
+  as-many low high = lists-inside s (live i s b calls) (a .classes) l (a .lists) y low high
 
-  pub sent-live : (low high : List ℕ) → accepted (i .counts (left i b calls) low high .number) ≡ true →
+  pub sent-live : (low high : List ℕ) → Bytes low → Bytes high → accepted (i .counts (left i b calls) low high .number) ≡ true →
       i .counts (left i b calls) low high .place ≡ inside s l low high
-  sent-live low high h = a .counts-sent low high h ∙ as-many low high
+  sent-live low high x y h = a .counts-sent low high x y h ∙ as-many low high
 
   pub pruned-live : (low high : List ℕ) → prunedFor s low high .number ≡ 0 →
       i .counts (left i b calls) (prunedFor s low high .low) (prunedFor s low high .high) .place ≡ inside s l low high

@@ -8,6 +8,7 @@
 --   terminal-step-yes, terminal-step-no  ==  a terminal's step is enter's where question 14 gets a yes, and 14 where it gets a no
 --   terminal-step-has  ==  what holds of both holds of it
 --   enter-same, strike-same, count-same, terminal-enter-same  ==  each call on the machine's bytes answers and leaves what the machine does
+--   enter-cases, strike-cases  ==  what holds of each case of an enter, of a strike, holds of it
 --   afterwards s l calls  ==  the set after the calls
 --   set-fit          ==  a class's holdings are one for each client, each at most 999
 --   step-good, afterwards-good  ==  a good set stays good
@@ -31,17 +32,18 @@ use Rattle.grids.proofs.QuestionLaws.{firstNo-pass, firstNo-stop}
 use Rattle.bounds.specs.Bounds.{inBounds}
 use Rattle.bounds.specs.Prune.{boundsQuestions}
 use Rattle.layout.specs.Layout.{Shape, Entry, Register, mostHeld, gridsOf, gridSize, layout, holding, decode, InLimits, IsHoldings, IsRegister, someHeld, laidOut}
-use Rattle.machine.specs.Calls.{Outcome, answered, question5, question9, question10, question16, clientQuestions, leastIn, more, fewer, holds, holdingsIn, heldBy, placeIn, insert, without, kept, enterInto, strikeFrom, enterQuestions, strikeQuestions, countQuestions, enterRegister, strikeRegister, entriesIn, countRegister, entered, struck, counted, terminalEntered}
+use Rattle.calls.specs.Entries.{question9, question10, question16, clientQuestions, leastIn, more, fewer, holds, holdingsIn, heldBy, placeIn, insert, without, Once}
+use Rattle.calls.specs.Calls.{Outcome, answered, question5, kept, enterInto, strikeFrom, enterQuestions, strikeQuestions, countQuestions, enterRegister, strikeRegister, entriesIn, countRegister, entered, struck, counted, terminalEntered}
 use Rattle.machine.specs.CallLists.{Call, enter, strike, countIn, terminalEnter}
-use Rattle.machine.specs.Machine.{sorted, shown, Step, stepUnless, put, entering, enterClass, strikeClass, countClasses, step, outcome}
-use Rattle.machine.specs.Demand3.{Once}
+use Rattle.machine.specs.Machine.{sorted, shown, Step, stepUnless, put, entering, striking, enterClass, strikeClass, countClasses, step, outcome}
 use Rattle.layout.proofs.LayoutLaws.{decode-layout}
 use Rattle.layout.proofs.RegisterLaws.{register-printable, question5-layouts}
-use Rattle.machine.proofs.AskedLaws.{client-numbered, client-pass}
-use Rattle.machine.proofs.TerminalLaws.{terminal-entered, no-terminal-entered}
-use Rattle.machine.proofs.SortedLaws.{Entries, holds-in, of-grids, of-sorted, sorted-asc, length-sorted, count-sorted, holds-sorted, sorted-select}
-use Rattle.machine.proofs.HoldingLaws.{sorted-holdings, none-by, held-here, HoldingsFit, holdings-fit, changed-fit, fit-held, differs, of-without, without-once, without-none, without-fewer, without-shorter}
-use Rattle.machine.proofs.LeastSteps.{answered-append}
+use Rattle.calls.proofs.AskedLaws.{client-numbered, client-pass}
+use Rattle.calls.proofs.TerminalLaws.{terminal-entered, no-terminal-entered}
+use Rattle.calls.proofs.EntryLaws.{Entries, holds-in, of-grids}
+use Rattle.machine.proofs.SetLaws.{of-sorted, sorted-asc, length-sorted, count-sorted, holds-sorted, sorted-select, sorted-holdings}
+use Rattle.calls.proofs.HoldingLaws.{none-by, held-here, HoldingsFit, holdings-fit, changed-fit, fit-held, differs, of-without, without-once, without-none, without-fewer, without-shorter}
+use Rattle.calls.proofs.LeastSteps.{answered-append}
 
 -- ---- what holds of a set reached by calls
 
@@ -108,8 +110,8 @@ module _ (s : Shape) (l : Entries) (c : ℕ) (g : List ℕ) (t : Step) where
 -- ---- one call on the machine's bytes
 
 -- an outcome by its parts
-made : (k : ℕ) {p q : ℕ} {a b : List ℕ} → p ≡ q → a ≡ b → _≡_ {A = Outcome} (record { number = k; place = p; bytes = a }) (record { number = k; place = q; bytes = b })
-made k e f = λ i. record { number = k; place = e i; bytes = f i }
+made : {j k p q : ℕ} {a b : List ℕ} → j ≡ k → p ≡ q → a ≡ b → _≡_ {A = Outcome} (record { number = j; place = p; bytes = a }) (record { number = k; place = q; bytes = b })
+made d e f = λ i. record { number = d i; place = e i; bytes = f i }
 
 -- the first no, and what is answered then, on bytes and by the machine
 refused-or : (k : ℕ) (o : Outcome) (s : Shape) (l : Entries) (u : Step) → (k ≡ 0 → o ≡ outcome s u) → answered k (shown s l) o ≡ outcome s (stepUnless k l u)
@@ -148,25 +150,15 @@ module _ (s : Shape) (l : Entries) (g : Good s l) where
 
   enter-class : (c : ℕ) (r : List ℕ) →
       answered (firstNo (question9 (registerOf s l) r ∷ question16 (registerOf s l) c r ∷ [])) (shown s l) (enterInto (registerOf s l) c r) ≡ outcome s (enterClass s l c r)
-  unfolding question9 question16 registerOf firstNo answered enterInto enterClass outcome
-  enter-class c r = go (holds r (gridsOf l)) refl (ltb (heldBy c r l) mostHeld) refl (ltb (length l) (s .capacity)) refl
-    where
-      go : (h : Bool) → holds r (gridsOf l) ≡ h → (m : Bool) → ltb (heldBy c r l) mostHeld ≡ m → (f : Bool) → ltb (length l) (s .capacity) ≡ f →
-          answered (firstNo (question9 (registerOf s l) r ∷ question16 (registerOf s l) c r ∷ [])) (shown s l) (enterInto (registerOf s l) c r) ≡ outcome s (enterClass s l c r)
-      go true h true m f e = rw (holds-sorted r l, h, held-same c r, m, firstNo, enterClass) (made 101 (place-same r) (shown-put (more c) r))
-      go true h false m f e = rw (holds-sorted r l, h, held-same c r, m, firstNo, enterClass) refl
-      go false h t m true e = rw (holds-sorted r l, h, length-sorted l, e, held-same c r, none-by l r c h, firstNo, enterClass) (made 0 (place-same r) (shown-put (more c) r))
-      go false h t m false e = rw (holds-sorted r l, h, length-sorted l, e, firstNo, enterClass) refl
+  unfolding question9 question16 registerOf enterInto enterClass outcome
+  enter-class c r =
+      rw (holds-sorted r l, length-sorted l, held-same c r)
+      (refused-or _ _ s l _ (λ z. made refl (place-same r) (shown-put (more c) r)))
 
   strike-class : (c : ℕ) (r : List ℕ) →
-      answered (firstNo (question10 (registerOf s l) c r ∷ [])) (shown s l) (strikeFrom (registerOf s l) c r) ≡ outcome s (strikeClass l c r)
-  unfolding question10 registerOf firstNo answered strikeFrom strikeClass outcome
-  strike-class c r = go (ltb 0 (heldBy c r l)) refl
-    where
-      go : (h : Bool) → ltb 0 (heldBy c r l) ≡ h →
-          answered (firstNo (question10 (registerOf s l) c r ∷ [])) (shown s l) (strikeFrom (registerOf s l) c r) ≡ outcome s (strikeClass l c r)
-      go true h = rw (held-same c r, h, firstNo, strikeClass) (made 0 (place-same r) (shown-put (fewer c) r))
-      go false h = rw (held-same c r, h, firstNo, strikeClass) refl
+      answered (firstNo (question10 (registerOf s l) c r ∷ [])) (shown s l) (strikeFrom (registerOf s l) c r) ≡ outcome s (strikeClass s l c r)
+  unfolding question10 registerOf strikeFrom strikeClass outcome
+  strike-class c r = rw (held-same c r) (refused-or _ _ s l _ (λ z. made refl (place-same r) (shown-put (fewer c) r)))
 
   -- a client's call of the grid a, qs what it asks of the register, o what it answers where each gets a yes, and u the machine's step after the questions of the slices
   client-call : (c : ℕ) (a : List ℕ) (qs : List Question) (o : Outcome) (u : Step) → answered (firstNo qs) (shown s l) o ≡ outcome s u →
@@ -180,9 +172,9 @@ module _ (s : Shape) (l : Entries) (g : Good s l) where
   unfolding enterRegister enterQuestions registerOf
   enter-register c a r = client-call c a (question9 (registerOf s l) r ∷ question16 (registerOf s l) c r ∷ []) _ (enterClass s l c r) (enter-class c r)
 
-  strike-register : (c : ℕ) (a r : List ℕ) → strikeRegister (shown s l) (registerOf s l) c a r ≡ outcome s (stepUnless (firstNo (clientQuestions s c a)) l (strikeClass l c r))
+  strike-register : (c : ℕ) (a r : List ℕ) → strikeRegister (shown s l) (registerOf s l) c a r ≡ outcome s (stepUnless (firstNo (clientQuestions s c a)) l (strikeClass s l c r))
   unfolding strikeRegister strikeQuestions registerOf
-  strike-register c a r = client-call c a (question10 (registerOf s l) c r ∷ []) _ (strikeClass l c r) (strike-class c r)
+  strike-register c a r = client-call c a (question10 (registerOf s l) c r ∷ []) _ (strikeClass s l c r) (strike-class c r)
 
   pub enter-same : (c : ℕ) (a : List ℕ) → entered (shown s l) c a ≡ outcome s (stepUnless (firstNo (clientQuestions s c a)) l (enterClass s l c (leastIn s a)))
   unfolding entered registerOf
@@ -190,7 +182,7 @@ module _ (s : Shape) (l : Entries) (g : Good s l) where
       ap (λ (x : Register). enterRegister (shown s l) x c a (leastIn (x .shape) a)) (reads s l g)
       ∙ enter-register c a (leastIn s a)
 
-  pub strike-same : (c : ℕ) (a : List ℕ) → struck (shown s l) c a ≡ outcome s (stepUnless (firstNo (clientQuestions s c a)) l (strikeClass l c (leastIn s a)))
+  pub strike-same : (c : ℕ) (a : List ℕ) → struck (shown s l) c a ≡ outcome s (stepUnless (firstNo (clientQuestions s c a)) l (strikeClass s l c (leastIn s a)))
   unfolding struck registerOf
   strike-same c a =
       ap (λ (x : Register). strikeRegister (shown s l) x c a (leastIn (x .shape) a)) (reads s l g)
@@ -211,7 +203,7 @@ module _ (s : Shape) (l : Entries) (g : Good s l) where
   count-same low high =
       ap (λ (x : Register). countRegister (shown s l) x low high) (reads s l g)
       ∙ ap (λ (k : ℕ). answered k (shown s l) (record { number = 0; place = entriesIn (registerOf s l) low high; bytes = shown s l })) (question5-passes _)
-      ∙ refused-or (firstNo (boundsQuestions (gridSize s) (s .top) low high)) _ s l (countClasses s l low high) (λ z. made 0 (entries-same low high) refl)
+      ∙ refused-or (firstNo (boundsQuestions (gridSize s) (s .top) low high)) _ s l (countClasses s l low high) (λ z. made refl (entries-same low high) refl)
 
   pub terminal-enter-same : (c : ℕ) (a : List ℕ) → terminalEntered (shown s l) c a ≡ outcome s (stepUnless (firstNo (question14 (s .rows) ∷ clientQuestions s c a)) l (enterClass s l c (leastIn s a)))
   unfolding registerOf outcome
@@ -224,6 +216,34 @@ module _ (s : Shape) (l : Entries) (g : Good s l) where
           terminalEntered (shown s l) c a ≡ outcome s (stepUnless (firstNo (question14 (s .rows) ∷ clientQuestions s c a)) l (enterClass s l c (leastIn s a)))
       go (inl e) = terminal-entered (shown s l) c a (rw rows e) ∙ enter-same c a ∙ ap (outcome s) (sym (terminal-step-yes s l c a _ e))
       go (inr e) = no-terminal-entered (shown s l) c a (laid s l g) (rw rows e) ∙ ap (outcome s) (sym (terminal-step-no s l c a _ e))
+
+-- ---- the cases of enter and strike
+
+pub enter-cases : (P : Step → Type 0) (s : Shape) (l : Entries) (c : ℕ) (r : List ℕ) →
+    (holds r (gridsOf l) ≡ true → heldBy c r l < mostHeld → P (record { number = 101; place = placeIn (gridsOf l) r; next = entering l c r })) →
+    P (record { number = 16; place = 0; next = l }) →
+    (holds r (gridsOf l) ≡ false → length l < s .capacity → P (record { number = 0; place = placeIn (gridsOf l) r; next = entering l c r })) →
+    P (record { number = 9; place = 0; next = l }) →
+    P (enterClass s l c r)
+unfolding enterClass question9 question16 firstNo stepUnless
+enter-cases P s l c r held most new full = go (holds r (gridsOf l)) refl (ltb (heldBy c r l) mostHeld) refl (ltb (length l) (s .capacity)) refl
+  where
+    go : (h : Bool) → holds r (gridsOf l) ≡ h → (m : Bool) → ltb (heldBy c r l) mostHeld ≡ m → (f : Bool) → ltb (length l) (s .capacity) ≡ f → P (enterClass s l c r)
+    go true h true m f e = rw (h, m, enterClass) (held h (ltb-true (heldBy c r l) mostHeld m))
+    go true h false m f e = rw (h, m, enterClass) most
+    go false h t m true e = rw (h, e, none-by l r c h, enterClass) (new h (ltb-true (length l) (s .capacity) e))
+    go false h t m false e = rw (h, e, enterClass) full
+
+pub strike-cases : (P : Step → Type 0) (s : Shape) (l : Entries) (c : ℕ) (r : List ℕ) →
+    (0 < heldBy c r l → P (record { number = 0; place = placeIn (gridsOf l) r; next = striking l c r })) →
+    P (record { number = 10; place = 0; next = l }) →
+    P (strikeClass s l c r)
+unfolding strikeClass question10 firstNo stepUnless
+strike-cases P s l c r held none = go (ltb 0 (heldBy c r l)) refl
+  where
+    go : (h : Bool) → ltb 0 (heldBy c r l) ≡ h → P (strikeClass s l c r)
+    go true h = rw (h, strikeClass) (held (ltb-true 0 (heldBy c r l) h))
+    go false h = rw (h, strikeClass) none
 
 -- ---- a good set stays good
 
@@ -275,28 +295,26 @@ module _ (s : Shape) (l : Entries) (g : Good s l) where
     least-good = let i = client-pass s c a .0 e .0 in (least-grid (s .rows) (s .columns) (s .top) a i, least-least (s .rows) (s .columns) a (i .sized))
 
     enter-good : Good s (enterClass s l c r .next)
-    unfolding enterClass heldBy more
-    enter-good = go (holds r (gridsOf l)) refl (ltb (heldBy c r l) mostHeld) refl (ltb (length l) (s .capacity)) refl
+    unfolding heldBy more
+    enter-good =
+        enter-cases (λ t. Good s (t .next)) s l c r
+        (λ h m. entered-good m (held-room r h))
+        g
+        (λ h d. entered-good (omega (arith, none-by l r c h)) (omega (arith, without-fewer r l)))
+        g
       where
         entered-good : heldBy c r l < mostHeld → length (without r l) < s .capacity → Good s (entering l c r)
         entered-good small room = put-good r (more c (holdingsIn r l)) (least-good .0) (least-good .1) (changed-fit c _ _ (omega (arith, small)) (set-fit r)) room
 
-        go : (h : Bool) → holds r (gridsOf l) ≡ h → (m : Bool) → ltb (heldBy c r l) mostHeld ≡ m → (f : Bool) → ltb (length l) (s .capacity) ≡ f → Good s (enterClass s l c r .next)
-        go true h true m f d = rw (h, m, enterClass) (entered-good (ltb-true (heldBy c r l) mostHeld m) (held-room r h))
-        go true h false m f d = rw (h, m, enterClass) g
-        go false h t m true d = rw (h, d, enterClass) (entered-good (omega (arith, none-by l r c h)) (omega (arith, without-fewer r l, ltb-true (length l) (s .capacity) d)))
-        go false h t m false d = rw (h, d, enterClass) g
-
-    strike-good : Good s (strikeClass l c r .next)
-    unfolding strikeClass fewer holding
-    strike-good = go (ltb 0 (heldBy c r l)) refl
+    strike-good : Good s (strikeClass s l c r .next)
+    unfolding fewer holding
+    strike-good =
+        strike-cases (λ t. Good s (t .next)) s l c r
+        (λ h. put-good r (fewer c (holdingsIn r l)) (least-good .0) (least-good .1) (changed-fit c _ _ small (set-fit r)) (held-room r (held-here l r c h)))
+        g
       where
         small : getD (holdingsIn r l) (c - 1) 0 - 1 ≤ mostHeld
         small = let q = client-pass s c a .0 e in omega (arith, set-fit r .capped (c - 1) (omega (arith, q .1, q .2)))
-
-        go : (h : Bool) → ltb 0 (heldBy c r l) ≡ h → Good s (strikeClass l c r .next)
-        go true h = rw (h, strikeClass) (put-good r (fewer c (holdingsIn r l)) (least-good .0) (least-good .1) (changed-fit c _ _ small (set-fit r)) (held-room r (held-here l r c (ltb-true 0 (heldBy c r l) h))))
-        go false h = rw (h, strikeClass) g
 
   unless-good : (k : ℕ) (t : Step) → (k ≡ 0 → Good s (t .next)) → Good s (stepUnless k l t .next)
   unfolding stepUnless

@@ -4,21 +4,21 @@
 --   step-answers    ==  so it holds of a step's
 use mathlib.Core.Path.{_≡_, refl}
 use mathlib.Core.List.{List, _∷_}
-use mathlib.Core.Bool.{Bool, true, false}
+use mathlib.Core.Bool.{Bool}
 use Prim.Native.Nat.{ℕ, zero, suc}
 use native.Mathlib.Omega.{arith}
 use lib.ListN.{length}
-use lib.Dec.{ltb}
 use Rattle.permutations.specs.Lists.{select}
 use Rattle.grids.specs.Questions.{firstNo, question6, question7, question14}
 use Rattle.grids.proofs.QuestionLaws.{firstNo-has}
 use Rattle.bounds.specs.Bounds.{inBounds}
 use Rattle.bounds.specs.Prune.{boundsQuestions, question8}
-use Rattle.layout.specs.Layout.{Shape, mostHeld, gridsOf, gridSize}
-use Rattle.machine.specs.Calls.{gridQuestions, clientQuestions, question15, leastIn, holds, heldBy, placeIn}
+use Rattle.layout.specs.Layout.{Shape, gridsOf, gridSize}
+use Rattle.calls.specs.Entries.{gridQuestions, clientQuestions, question15, leastIn, placeIn}
 use Rattle.machine.specs.CallLists.{Call, enter, strike, countIn, terminalEnter}
 use Rattle.machine.specs.Machine.{Step, stepUnless, enterClass, strikeClass, countClasses, step}
-use Rattle.machine.proofs.SortedLaws.{Entries}
+use Rattle.calls.proofs.EntryLaws.{Entries}
+use Rattle.machine.proofs.MachineLaws.{enter-cases, strike-cases}
 
 pub record Answerable (P : ℕ → ℕ → Type 0) (l : Entries) : Type 0 where
   pub length-no : P 6 0
@@ -61,22 +61,10 @@ module _ (P : ℕ → ℕ → Type 0) (s : Shape) (l : Entries) (a : Answerable 
       firstNo-has Refuses (boundsQuestions (gridSize s) (s .top) low high) (λ n. absurd (n refl)) (λ n. a .length-no, (λ n. a .cells-no, (λ n. a .order-no, tt)))
 
   enter-has : (c : ℕ) (r : List ℕ) → Has (enterClass s l c r)
-  unfolding enterClass
-  enter-has c r = go (holds r (gridsOf l)) refl (ltb (heldBy c r l) mostHeld) refl (ltb (length l) (s .capacity)) refl
-    where
-      go : (h : Bool) → holds r (gridsOf l) ≡ h → (m : Bool) → ltb (heldBy c r l) mostHeld ≡ m → (f : Bool) → ltb (length l) (s .capacity) ≡ f → Has (enterClass s l c r)
-      go true h true m f e = rw (h, m, enterClass) (a .held r)
-      go true h false m f e = rw (h, m, enterClass) (a .most)
-      go false h t m true e = rw (h, e, enterClass) (a .done r)
-      go false h t m false e = rw (h, e, enterClass) (a .full)
+  enter-has c r = enter-cases Has s l c r (λ h m. a .held r) (a .most) (λ h f. a .done r) (a .full)
 
-  strike-has : (c : ℕ) (r : List ℕ) → Has (strikeClass l c r)
-  unfolding strikeClass
-  strike-has c r = go (ltb 0 (heldBy c r l)) refl
-    where
-      go : (h : Bool) → ltb 0 (heldBy c r l) ≡ h → Has (strikeClass l c r)
-      go true h = rw (h, strikeClass) (a .done r)
-      go false h = rw (h, strikeClass) (a .not-held)
+  strike-has : (c : ℕ) (r : List ℕ) → Has (strikeClass s l c r)
+  strike-has c r = strike-cases Has s l c r (λ h. a .done r) (a .not-held)
 
   count-has : (low high : List ℕ) → Has (countClasses s l low high)
   unfolding countClasses

@@ -1,12 +1,14 @@
 -- Two ways to count: bounds as sent, and what prune leaves of them. On a register reached by calls they give one number, zero where prune says 102.
 --
 --   CountsAlike i b low high  ==  they do so on the register b, with the rows, columns and top that it states
---   BothCounts i         ==  they do so on every register that an open and any calls leave
+--   BothCounts i         ==  they do so on every register that an open within the limits and any calls leave, for all slices of bytes
 use mathlib.Core.Path.{_≡_}
 use mathlib.Core.List.{List}
 use Prim.Native.Nat.{ℕ}
-use Rattle.layout.specs.Layout.{Shape, decodeShape}
-use Rattle.machine.specs.CallLists.{Call, Implementation, left}
+use Rattle.permutations.specs.Lists.{All}
+use Rattle.grids.specs.Lent.{Bytes}
+use Rattle.layout.specs.Layout.{Shape, decodeShape, InLimits}
+use Rattle.machine.specs.CallLists.{Call, Implementation, LentCall, left}
 use Rattle.machine.specs.Demand3.{prunedFor}
 
 pub record CountsAlike (i : Implementation) (b low high : List ℕ) : Type 0 where
@@ -18,5 +20,5 @@ pub record CountsAlike (i : Implementation) (b low high : List ℕ) : Type 0 whe
 
 unfoldable pub BothCounts : Implementation → Type 0
 BothCounts i =
-    (s : Shape) (slice : List ℕ) → i .opens s slice .number ≡ 0 → (calls : List Call) (low high : List ℕ) →
-    CountsAlike i (left i (i .opens s slice .bytes) calls) low high
+    (s : Shape) (slice : List ℕ) → InLimits s → Bytes slice → i .opens s slice .number ≡ 0 → (calls : List Call) → All LentCall calls →
+    (low high : List ℕ) → Bytes low → Bytes high → CountsAlike i (left i (i .opens s slice .bytes) calls) low high

@@ -2,11 +2,12 @@
 --
 --   CountOutcome   ==  the outcome, and low and high afterwards
 --   Counting       ==  programs for count, as functions of the slices that they are lent
---   MeetsCount f   ==  the outcome is that of specs/Calls, and low and high are as they were, on all arguments
+--   MeetsCount f   ==  the outcome is that of calls/specs/Calls, and low and high are as they were, for all slices of bytes
 use mathlib.Core.Path.{_≡_}
 use mathlib.Core.List.{List}
 use Prim.Native.Nat.{ℕ}
-use Rattle.machine.specs.Calls.{Outcome, counted}
+use Rattle.grids.specs.Lent.{Bytes}
+use Rattle.calls.specs.Calls.{Outcome, counted}
 
 pub record CountOutcome : Type 0 where
   pub outcome : Outcome
@@ -17,6 +18,6 @@ abbrev pub Counting : Type 0
 Counting = (b low high : List ℕ) → CountOutcome
 
 pub record MeetsCount (f : Counting) : Type 0 where
-  pub answers : (b low high : List ℕ) → f b low high .outcome ≡ counted b low high
-  pub low-kept : (b low high : List ℕ) → f b low high .low ≡ low
-  pub high-kept : (b low high : List ℕ) → f b low high .high ≡ high
+  pub answers : (b low high : List ℕ) → Bytes b → Bytes low → Bytes high → f b low high .outcome ≡ counted b low high
+  pub low-kept : (b low high : List ℕ) → Bytes b → Bytes low → Bytes high → f b low high .low ≡ low
+  pub high-kept : (b low high : List ℕ) → Bytes b → Bytes low → Bytes high → f b low high .high ≡ high

@@ -9,9 +9,10 @@ use mathlib.Core.List.{List}
 use mathlib.Core.Bool.{Bool, false}
 use Prim.Native.Nat.{ℕ, _+_, _≤_}
 use lib.Dec.{eqb}
+use Rattle.grids.specs.Lent.{Bytes}
 use Rattle.layout.specs.Layout.{decode}
-use Rattle.machine.specs.Calls.{heldBy}
-use Rattle.machine.specs.CallLists.{Call, enter, strike, countIn, terminalEnter, Implementation, called}
+use Rattle.calls.specs.Entries.{heldBy}
+use Rattle.machine.specs.CallLists.{Call, enter, strike, countIn, terminalEnter, Implementation, LentCall, called}
 
 unfoldable pub names : ℕ → Call → Bool
 names k (enter c g) = eqb c k
@@ -23,9 +24,9 @@ unfoldable pub heldIn : List ℕ → ℕ → List ℕ → ℕ
 heldIn b k r = heldBy k r (decode b .entries)
 
 unfoldable pub Apart : Implementation → Type 0
-Apart i = (b : List ℕ) (c : Call) (k : ℕ) → 1 ≤ k → names k c ≡ false → (r : List ℕ) → heldIn (called i b c .bytes) k r ≡ heldIn b k r
+Apart i = (b : List ℕ) (c : Call) → Bytes b → LentCall c → (k : ℕ) → 1 ≤ k → names k c ≡ false → (r : List ℕ) → heldIn (called i b c .bytes) k r ≡ heldIn b k r
 
 unfoldable pub ByOne : Implementation → Type 0
 ByOne i =
-    (b : List ℕ) (c : Call) (k : ℕ) → 1 ≤ k → (r : List ℕ) →
+    (b : List ℕ) (c : Call) → Bytes b → LentCall c → (k : ℕ) → 1 ≤ k → (r : List ℕ) →
     (heldIn (called i b c .bytes) k r ≤ heldIn b k r + 1) × (heldIn b k r ≤ heldIn (called i b c .bytes) k r + 1)

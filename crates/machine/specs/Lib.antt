@@ -1,6 +1,3 @@
-pub mod Calls
-pub mod Places
-pub mod Valid
 pub mod CallLists
 pub mod CountSlices
 pub mod Machine

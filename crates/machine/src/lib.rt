@@ -1,1 +1,1 @@
-// What the register's calls answer, the plain machine, and demands 1 and 3: definitions and theorems. The calls' code stands above.
+// The plain machine, lists of calls, and demands 1 and 3: definitions and theorems. The calls' code stands above.

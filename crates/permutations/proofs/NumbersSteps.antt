@@ -2,7 +2,7 @@
 --
 --   padded-none, padded-more, padded-end  ==  a loop's start, its next position, and its end
 --   listing-sound                  ==  a permutation: each number below n stands before position n
---   isSound-take, isSound-first    ==  the test looks at the first `width` positions only
+--   isSound-take                   ==  the test looks at the first `width` positions only
 --   followed-is, reversed-is       ==  the composition and the inverse, in the first `width` positions
 --   own-identity, own-composed, own-inverse  ==  the identity there, and where the composition or the inverse is the identity
 --   composed-of, inverse-of        ==  the composition and the inverse, with the first positions by their names
@@ -88,9 +88,6 @@ isSound-take width n p =
     let s = sound width n p t in
     isSound-yes width n (take width p)
     (record { some = s .some; fits = s .fits; permutation = rw (take-take n width p (s .fits)) (s .permutation) })
-
-pub isSound-first : (width n : ℕ) (a p : List ℕ) → take width a ≡ p → isSound width n a ≡ isSound width n p
-isSound-first width n a p e = sym (isSound-take width n a) ∙ ap (isSound width n) e
 
 -- ---- composition and inverse
 

@@ -1,9 +1,9 @@
 // Column numbers, and permutations of columns.
 use crate::numbers;
 ghost use mathlib.Core.Path.{_≡_};
-ghost use lib.ListN.{getD, set, take};
+ghost use lib.ListN.{set, take};
 ghost use Rattle.permutations.specs.Permutations.{identity};
-ghost use Rattle.permutations.specs.Padded.{isSound, composedPadded, inversePadded};
+ghost use Rattle.permutations.specs.Padded.{composedPadded, inversePadded};
 ghost use Rattle.permutations.specs.Columns.{columnNumbers, ListsColumns};
 
 pub struct ColumnNumber(pub u8);
@@ -25,18 +25,6 @@ impl ColumnPermutation {
         ColumnPermutation::from_numbers(numbers::own_numbers(), size)
     }
 
-    // The column at a position; column 0 past the end.
-    pub fn column(self, i: usize) -> ColumnNumber
-        ensures { λ r. ⌜ r .0 ≡ getD (columnNumbers self) i 0 ⌝ }
-    {
-        let at = self.at;
-        if i < ColumnPermutation::WIDTH {
-            at[i]
-        } else {
-            ColumnNumber(0)
-        }
-    }
-
     // The permutation with another column at a position; unchanged past the end.
     pub fn with(self, i: usize, column: ColumnNumber) -> ColumnPermutation
         ensures { λ r. ⌜ ListsColumns (set (columnNumbers self) i (column .0)) (self .size) r ⌝ }
@@ -46,13 +34,6 @@ impl ColumnPermutation {
             out.at[i] = column;
         }
         out
-    }
-
-    // Whether the size is 1 to 16 and the first `size` positions list each column number below it once.
-    pub fn is_permutation(self) -> bool
-        ensures { λ r. ⌜ r ≡ isSound 16 (self .size) (columnNumbers self) ⌝ }
-    {
-        numbers::lists_each_once(self.bytes(), ColumnPermutation::WIDTH, self.size)
     }
 
     // This permutation followed by another: sends i to self(other(i)).

@@ -3,7 +3,7 @@ use crate::numbers;
 ghost use mathlib.Core.Path.{_≡_};
 ghost use lib.ListN.{getD, set, take};
 ghost use Rattle.permutations.specs.Permutations.{identity, swapped};
-ghost use Rattle.permutations.specs.Padded.{isSound, composedPadded, inversePadded};
+ghost use Rattle.permutations.specs.Padded.{composedPadded, inversePadded};
 ghost use Rattle.permutations.specs.Rows.{rowNumbers, ListsRows};
 
 pub struct RowNumber(pub u8);
@@ -55,13 +55,6 @@ impl RowPermutation {
         let first = self.row(i);
         let second = self.row(j);
         self.with(i, second).with(j, first)
-    }
-
-    // Whether the size is 1 to 8 and the first `size` positions list each row number below it once.
-    pub fn is_permutation(self) -> bool
-        ensures { λ r. ⌜ r ≡ isSound 8 (self .size) (rowNumbers self) ⌝ }
-    {
-        numbers::lists_each_once(self.numbers(), RowPermutation::WIDTH, self.size)
     }
 
     // This permutation followed by another: sends i to self(other(i)).

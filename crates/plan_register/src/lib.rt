@@ -20,7 +20,7 @@ ghost use Rattle.canonical.specs.Represent.{Represented, TerminalRepresented};
 ghost use Rattle.canonical.specs.Same.{Compared, TerminalCompared};
 ghost use Rattle.bounds.specs.Prune.{prunedTo};
 ghost use Rattle.bounds.specs.Demand2.{Prunes};
-ghost use Rattle.machine.specs.Calls.{opened, entered, struck, counted, terminalEntered, placed, shape};
+ghost use Rattle.calls.specs.Calls.{opened, entered, struck, counted, terminalEntered, placed, shape};
 ghost use Rattle.plan_register.specs.Exported.{Exported, ExportedMatch, TerminalExported, TerminalExportedMatch};
 
 // The number, the row order and the column order.
@@ -35,8 +35,9 @@ pub struct Arranged {
 fn exported(answer: Answer) -> Arranged
     ensures { λ r. ⌜ Exported answer r ⌝ }
 {
+    let asked = answer.asked;
     Arranged {
-        number: answer.number,
+        number: asked.number(),
         rows: answer.rows.bytes(),
         columns: answer.columns.bytes(),
     }
@@ -55,9 +56,10 @@ pub struct Matched {
 fn exported_match(answer: Match) -> Matched
     ensures { λ r. ⌜ ExportedMatch answer r ⌝ }
 {
+    let found = answer.found;
     Matched {
-        number: answer.number,
-        agreed: answer.agreed,
+        number: found.number(),
+        agreed: found.agreed(),
         rows: answer.rows.bytes(),
         columns: answer.columns.bytes(),
     }
@@ -74,8 +76,9 @@ pub struct TerminalArranged {
 fn terminal_exported(answer: TerminalAnswer) -> TerminalArranged
     ensures { λ r. ⌜ TerminalExported answer r ⌝ }
 {
+    let asked = answer.asked;
     TerminalArranged {
-        number: answer.number,
+        number: asked.number(),
         rows: answer.rows.bytes(),
         columns: answer.columns.bytes(),
     }
@@ -93,9 +96,10 @@ pub struct TerminalMatched {
 fn terminal_exported_match(answer: TerminalMatch) -> TerminalMatched
     ensures { λ r. ⌜ TerminalExportedMatch answer r ⌝ }
 {
+    let found = answer.found;
     TerminalMatched {
-        number: answer.number,
-        agreed: answer.agreed,
+        number: found.number(),
+        agreed: found.agreed(),
         rows: answer.rows.bytes(),
         columns: answer.columns.bytes(),
     }
@@ -109,14 +113,14 @@ pub extern "C" fn plan_register_represent(
     grid: &[u8],
     out: &mut [u8],
 ) -> Arranged
-    ensures { λ r. ⌜ Represented m n top (now (grid .entry)) (now (out .entry)) (r .number) (r .rows) (r .columns) (now (out .exit)) ⌝ }
+    ensures { λ r. ⌜ Represented m n top (now (grid .entry)) (now (out .entry)) (record { number = r .number; rows = r .rows; columns = r .columns; out = now (out .exit) }) ⌝ }
 {
     exported(represent::represent(m, n, top, grid, out))
 }
 
 #[no_mangle]
 pub extern "C" fn plan_register_same(m: usize, n: usize, top: usize, a: &[u8], b: &[u8]) -> Matched
-    ensures { λ r. ⌜ Compared m n top (now (a .entry)) (now (b .entry)) (r .number) (r .agreed) (r .rows) (r .columns) ⌝ }
+    ensures { λ r. ⌜ Compared m n top (now (a .entry)) (now (b .entry)) (record { number = r .number; agreed = r .agreed; rows = r .rows; columns = r .columns }) ⌝ }
 {
     exported_match(same::same(m, n, top, a, b))
 }
@@ -131,7 +135,7 @@ pub extern "C" fn plan_register_prune(
 ) -> Counted
     ensures { λ r. ⌜ Prunes m n top (now (low .entry)) (now (high .entry)) (prunedTo (r .number) (r .count) (now (low .exit)) (now (high .exit))) ⌝ }
 {
-    prune::prune(m, n, top, low, high)
+    prune::prune(m, n, top, low, high).counted()
 }
 
 #[no_mangle]
@@ -144,7 +148,7 @@ pub extern "C" fn plan_register_open(
 ) -> Placed
     ensures { λ r. ⌜ placed (r .number) (r .place) (now (register .exit)) ≡ opened (shape m n top capacity) (now (register .entry)) ⌝ }
 {
-    opening::open_register(m, n, top, capacity, register)
+    opening::open_register(m, n, top, capacity, register).placed()
 }
 
 // Enters the class of a grid for a client. 0: its entry is new, and this client alone holds it, once. 101: its entry was there, and this
@@ -154,7 +158,7 @@ pub extern "C" fn plan_register_open(
 pub extern "C" fn plan_register_enter(register: &mut [u8], client: usize, grid: &[u8]) -> Placed
     ensures { λ r. ⌜ placed (r .number) (r .place) (now (register .exit)) ≡ entered (now (register .entry)) client (now (grid .entry)) ⌝ }
 {
-    entering::enter(register, client, grid)
+    entering::enter(register, client, grid).placed()
 }
 
 // Strikes the class of a grid for a client. 0: this client's holding is written, 1 lower, or where nobody holds the class then its entry
@@ -163,14 +167,14 @@ pub extern "C" fn plan_register_enter(register: &mut [u8], client: usize, grid: 
 pub extern "C" fn plan_register_strike(register: &mut [u8], client: usize, grid: &[u8]) -> Placed
     ensures { λ r. ⌜ placed (r .number) (r .place) (now (register .exit)) ≡ struck (now (register .entry)) client (now (grid .entry)) ⌝ }
 {
-    striking::strike(register, client, grid)
+    striking::strike(register, client, grid).placed()
 }
 
 #[no_mangle]
 pub extern "C" fn plan_register_count(register: &[u8], low: &[u8], high: &[u8]) -> Counted
     ensures { λ r. ⌜ placed (r .number) (r .count) (now (register .entry)) ≡ counted (now (register .entry)) (now (low .entry)) (now (high .entry)) ⌝ }
 {
-    counts::count(register, low, high)
+    counts::count(register, low, high).counted()
 }
 
 #[no_mangle]
@@ -181,7 +185,7 @@ pub extern "C" fn plan_register_terminal_represent(
     grid: &[u8],
     out: &mut [u8],
 ) -> TerminalArranged
-    ensures { λ r. ⌜ TerminalRepresented m n top (now (grid .entry)) (now (out .entry)) (r .number) (r .rows) (r .columns) (now (out .exit)) ⌝ }
+    ensures { λ r. ⌜ TerminalRepresented m n top (now (grid .entry)) (now (out .entry)) (record { number = r .number; rows = r .rows; columns = r .columns; out = now (out .exit) }) ⌝ }
 {
     terminal_exported(terminal_represent::represent(m, n, top, grid, out))
 }
@@ -194,7 +198,7 @@ pub extern "C" fn plan_register_terminal_same(
     a: &[u8],
     b: &[u8],
 ) -> TerminalMatched
-    ensures { λ r. ⌜ TerminalCompared m n top (now (a .entry)) (now (b .entry)) (r .number) (r .agreed) (r .rows) (r .columns) ⌝ }
+    ensures { λ r. ⌜ TerminalCompared m n top (now (a .entry)) (now (b .entry)) (record { number = r .number; agreed = r .agreed; rows = r .rows; columns = r .columns }) ⌝ }
 {
     terminal_exported_match(terminal_same::same(m, n, top, a, b))
 }
@@ -208,5 +212,5 @@ pub extern "C" fn plan_register_terminal_enter(
 ) -> Placed
     ensures { λ r. ⌜ placed (r .number) (r .place) (now (register .exit)) ≡ terminalEntered (now (register .entry)) client (now (grid .entry)) ⌝ }
 {
-    terminal_entering::enter(register, client, grid)
+    terminal_entering::enter(register, client, grid).placed()
 }

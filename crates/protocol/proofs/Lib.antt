@@ -4,6 +4,7 @@ pub mod ShapeLaws
 pub mod ReportLaws
 pub mod ReadingLaws
 pub mod StartLaws
+pub mod LentLines
 pub mod RunLaws
 pub mod Demand3Laws
 pub mod SliceLaws

@@ -3,6 +3,7 @@
 --   by-command, by-none  ==  how a line is read that is laid, and another
 --   enter-read, strike-read, bounds-read  ==  the line of each command, as a call; the cells of command 3 are low and high in turn
 --   prune-says, prune-calls  ==  how command 3 is read after prune answered: its number is not 0, or is
+--   bounds-some, bounds-none  ==  the machine's step for bounds where prune says 0, and where it says 102
 --   command-of           ==  what is answered to a command is printed under it
 --   stepOf s l r         ==  the machine's step for a line read as r
 --   step-of-good         ==  it leaves a set reached by calls
@@ -18,7 +19,7 @@ use Rattle.permutations.proofs.BoolLaws.{refuted}
 use Rattle.grids.specs.Questions.{firstNo}
 use Rattle.bounds.specs.Prune.{Pruned, pruneQuestions, pruned}
 use Rattle.bounds.proofs.BoundsLaws.{bounds-pass}
-use Rattle.bounds.proofs.PruneLaws.{PruneCase, refused, some, none, prune-case, prune-asked, some-decides, pruned-refused, pruned-some, pruned-none, pruned-is-bounds}
+use Rattle.bounds.proofs.PruneLaws.{PruneCase, refused, some, none, prune-case, prune-asked, some-decides, says-some, says-none, pruned-refused, pruned-some, pruned-none, pruned-is-bounds}
 use Rattle.layout.specs.Layout.{Shape, Entry, gridSize}
 use Rattle.machine.specs.CallLists.{enter, strike, countIn, registerCalls}
 use Rattle.machine.specs.Machine.{shown, Step, stepUnless, countClasses, step, outcome}
@@ -110,6 +111,16 @@ module _ (s : Shape) (l : List Entry) (g : Good s l) where
     asked : (j : ℕ) → firstNo (pruneQuestions (s .rows) (s .columns) (s .top) low high) ≡ j → boundsStep s l low high ≡ stepUnless j l (countOf s l low high)
     unfolding boundsStep
     asked j e = rw (sym (prune-asked (s .rows) (s .columns) (s .top) low high (g .limits .grid-limits)) ∙ e) refl
+
+    pub bounds-some : prunedFor s low high .number ≡ 0 → boundsStep s l low high ≡ countClasses s l low high
+    unfolding stepUnless countOf
+    bounds-some z = let w = says-some (s .rows) (s .columns) (s .top) low high z in asked 0 (w .0) ∙ rw (some-decides (s .rows) (s .columns) (s .top) low high .1 (w .1), countOf) refl
+
+    pub bounds-none : prunedFor s low high .number ≡ 102 → boundsStep s l low high ≡ record { number = 102; place = 0; next = l }
+    unfolding stepUnless countOf
+    bounds-none z =
+        let w = says-none (s .rows) (s .columns) (s .top) low high z in
+        asked 0 (w .0) ∙ rw (refuted _ (some-decides (s .rows) (s .columns) (s .top) low high) (w .1), countOf) refl
 
     counted : prunedFor s low high .number ≡ 0 → step s l (countIn (prunedFor s low high .low) (prunedFor s low high .high)) ≡ countClasses s l low high
     unfolding step stepUnless countClasses

@@ -27,7 +27,7 @@ use Rattle.bounds.specs.Prune.{boundsQuestions}
 use Rattle.bounds.proofs.PruneLaws.{prune-small, prune-asked}
 use Rattle.layout.specs.Layout.{Shape, Entry, gridsOf, gridSize, numberAt}
 use Rattle.layout.proofs.LayoutLaws.{length-ended, fields-read}
-use Rattle.machine.specs.Calls.{placeIn}
+use Rattle.calls.specs.Entries.{placeIn}
 use Rattle.machine.specs.CallLists.{Call, enter, strike}
 use Rattle.machine.specs.Machine.{Step, stepUnless, countClasses, step}
 use Rattle.machine.proofs.MachineLaws.{Good}

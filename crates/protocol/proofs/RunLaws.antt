@@ -6,6 +6,7 @@
 --   transcript-ends    ==  and a line for each further line, and then the register
 --   set-calls          ==  the machine's set after lines is that after the calls that they make
 --   reports-replies    ==  what is printed for lines is what the machine answers to these calls
+--   reports-among, line-printed  ==  what is printed for a line among others, and where it stands
 --   set-good           ==  what holds of a set reached by calls holds of the set after lines
 --   length-shown       ==  how many bytes the machine shows
 --   register-laid, length-register  ==  the register printed is one, of the length that line 1 gives
@@ -13,13 +14,13 @@
 --   transcript-some    ==  something is printed for every input
 --   transcript-cut     ==  an input that is cut off behind the limit prints what the whole does
 use mathlib.Core.Path.{_≡_, refl, sym, ap, _∙_}
-use mathlib.Core.List.{List, [], _∷_, _++_, flatMap}
+use mathlib.Core.List.{List, [], _∷_, _++_, flatMap, append-assoc}
 use mathlib.Core.Bool.{Bool, true, false}
-use Prim.Native.Nat.{ℕ, zero, suc, _≤_, _<_}
+use Prim.Native.Nat.{ℕ, zero, suc, _*_, _≤_, _<_}
 use native.Mathlib.Decide.{decLt}
 use native.Mathlib.Omega.{arith}
 use lib.ListN.{length, take, drop, length-append, length-drop}
-use lib.Seq.{take-all, length-take-le}
+use lib.Seq.{take-at, drop-at, take-all, length-take-le}
 use Rattle.permutations.specs.Lists.{select}
 use Rattle.permutations.proofs.SelectLaws.{select-yes, select-no}
 use Rattle.layout.specs.Layout.{Shape, Entry, gridSize, layoutLength, laidOut}
@@ -33,9 +34,9 @@ use Rattle.protocol.specs.Commands.{report, LineAnswer, answerStep, malf
 use Rattle.protocol.specs.Readings.{Reading, says, calls, readLine, madeBy, madeIn, commandOf}
 use Rattle.protocol.specs.Transcript.{byteLimit, shapeIn, startNo, reports, setAfter, registerFrom, printedFrom, printedRegister, transcript}
 use Rattle.protocol.specs.Programs.{outputLimit}
-use Rattle.protocol.specs.Demand3.{reply, replies}
+use Rattle.protocol.specs.Demand3.{reply, replies, printedLine}
 use Rattle.protocol.proofs.LineLaws.{lines-fewer}
-use Rattle.protocol.proofs.ReportLaws.{length-report, length-reports, malformed-answer}
+use Rattle.protocol.proofs.ReportLaws.{length-report, length-answer, length-reports, malformed-answer}
 use Rattle.protocol.proofs.ReadingLaws.{stepOf, step-of-good, reading-answer}
 use Rattle.protocol.proofs.StartLaws.{over-limit, start-pass, start-limits}
 
@@ -104,6 +105,29 @@ reports-replies s (line ∷ ls) l g =
     ap (λ (a : LineAnswer). a .printed ++ reports s (a .next) ls) (reading-answer s l g line)
     ∙ ap (λ (x : List ℕ). report (commandOf r) (stepOf s l r .number) (stepOf s l r .place) ++ x) (reports-replies s ls (stepOf s l r .next) (step-of-good s l g r))
     ∙ sym (made-replies s l r (madeIn s ls) ls)
+
+-- ---- one line among the others
+
+pub reports-among : (s : Shape) (before : List (List ℕ)) (line : List ℕ) (after : List (List ℕ)) (l : List Entry) →
+    reports s l (before ++ (line ∷ after)) ≡ reports s l before ++ (answer s (setAfter s l before) line .printed ++ reports s (answer s (setAfter s l before) line .next) after)
+unfolding reports setAfter
+reports-among s [] line after l = refl
+reports-among s (x ∷ before) line after l =
+    ap (λ (out : List ℕ). answer s l x .printed ++ out) (reports-among s before line after (answer s l x .next))
+    ∙ sym (append-assoc (answer s l x .printed) (reports s (answer s l x .next) before) _)
+
+pub line-printed : (input : List ℕ) → startNo input ≡ 0 → (before : List (List ℕ)) (line : List ℕ) (after : List (List ℕ)) → furtherLines input ≡ before ++ (line ∷ after) →
+    printedLine (length before) (transcript input) ≡ answer (shapeIn input) (setAfter (shapeIn input) [] before) line .printed
+unfolding printedLine
+line-printed input e before line after f =
+    let s = shapeIn input in
+    let a = answer s (setAfter s [] before) line in
+    let out = reports s [] before in
+    ap (λ (x : List ℕ). take 19 (drop (19 * length before) x))
+    (transcript-ends input e ∙ ap (λ (ls : List (List ℕ)). reports s [] ls ++ printedRegister input) f ∙ ap (λ (x : List ℕ). x ++ printedRegister input) (reports-among s before line after []) ∙ append-assoc out (a .printed ++ reports s (a .next) after) (printedRegister input))
+    ∙ ap (take 19) (drop-at out ((a .printed ++ reports s (a .next) after) ++ printedRegister input) (19 * length before) (length-reports s [] before))
+    ∙ ap (take 19) (append-assoc (a .printed) (reports s (a .next) after) (printedRegister input))
+    ∙ take-at (a .printed) (reports s (a .next) after ++ printedRegister input) 19 (length-answer s (setAfter s [] before) line)
 
 -- ---- the register printed
 

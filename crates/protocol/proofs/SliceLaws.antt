@@ -15,6 +15,7 @@ use lib.Seq.{take-at, drop-at}
 use lib.Dec.{leb}
 use borrow.Author.Tests.{leb-true, le-leb}
 use Rattle.permutations.proofs.BoolLaws.{and-yes, yes-and}
+use Rattle.grids.specs.Lent.{Bytes}
 use Rattle.protocol.specs.Transcript.{byteLimit, transcript}
 use Rattle.protocol.specs.Programs.{Prints, outputLimit, over, Transcribed, transcribing, hasRoom, transcribed, Transcribing, MeetsTranscribe, printing}
 use Rattle.protocol.proofs.RunLaws.{transcript-fits}
@@ -35,6 +36,10 @@ module _ (input register out : List ℕ) where
   unfolding transcribed over
   transcribed-rest e = rw (e, transcribed) (drop-at (transcript input) (drop (length (transcript input)) out) (length (transcript input)) refl)
 
+  pub transcribed-none : hasRoom register out ≡ false → transcribed input register out .count ≡ 0
+  unfolding transcribed
+  transcribed-none e = rw (e, transcribed)
+
   pub transcribed-fits : transcribed input register out .count ≤ length out
   unfolding transcribed hasRoom
   transcribed-fits = go (hasRoom register out) refl
@@ -52,6 +57,6 @@ module _ (input register out : List ℕ) where
     pub count-prints : hasRoom register out ≡ true → take r out′ ≡ transcript input
     count-prints h = ap (λ (t : Transcribed). take (t .count) (t .out)) e ∙ transcribed-prints h
 
-pub transcribes-prints : (f : Transcribing) → MeetsTranscribe f → (register out : List ℕ) → hasRoom register out ≡ true → Prints (printing f register out)
+pub transcribes-prints : (f : Transcribing) → MeetsTranscribe f → (register out : List ℕ) → Bytes register → Bytes out → hasRoom register out ≡ true → Prints (printing f register out)
 unfolding MeetsTranscribe Prints printing
-transcribes-prints f h register out e input = rw (h input register out) (transcribed-prints input register out e)
+transcribes-prints f h register out x y e input z = rw (h input register out z x y) (transcribed-prints input register out e)

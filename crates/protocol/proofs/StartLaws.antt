@@ -13,12 +13,12 @@ use Prim.Native.Nat.{ℕ, suc, _≤_, _<_}
 use native.Mathlib.Omega.{arith}
 use lib.ListN.{length}
 use borrow.Author.Tests.{leb-true, le-leb, lt-leb}
-use Rattle.grids.specs.Questions.{firstNo, question1, question2, question3, question6}
+use Rattle.grids.specs.Asked.{numbersNo}
+use Rattle.grids.specs.Questions.{firstNo, question1, question2, question3, question4, question6}
 use Rattle.grids.proofs.QuestionLaws.{Numbered, first-no-zero, firstNo-pass, firstNo-stop, first-no-stays, first-no-next, range-yes, limits-asked}
 use Rattle.layout.specs.Layout.{Shape, layoutLength, InLimits}
-use Rattle.machine.specs.Calls.{refusal, answered, question4, openQuestions, opened}
-use Rattle.machine.specs.Valid.{numbersNo}
-use Rattle.machine.proofs.AskedLaws.{numberQuestions, number-numbered, numbers-pass}
+use Rattle.calls.specs.Calls.{refusal, answered, openQuestions, opened}
+use Rattle.calls.proofs.AskedLaws.{numberQuestions, number-numbered, numbers-pass}
 use Rattle.protocol.specs.Transcript.{byteLimit, shapeIn, question11, question12, question13, startQuestions, startNo}
 
 -- ---- the checks
@@ -38,7 +38,7 @@ module _ (input : List ℕ) where
       unfolding startNo startQuestions question11
       past-line = firstNo-pass (question11 input) _ (le-leb (length input) byteLimit short) ∙ firstNo-pass (question12 input) _ line
 
-      pub start-numbers : (k : ℕ) → numbersNo (shapeIn input) ≡ suc k → startNo input ≡ suc k
+      pub start-numbers : (k : ℕ) → numbersNo (shapeIn input .rows) (shapeIn input .columns) (shapeIn input .top) (shapeIn input .capacity) ≡ suc k → startNo input ≡ suc k
       unfolding numbersNo
       start-numbers k e = past-line ∙ first-no-stays (numberQuestions (shapeIn input)) _ (λ z. omega arith) ∙ e
 
@@ -50,7 +50,7 @@ module _ (input : List ℕ) where
       unfolding question13
       start-length h long = past-numbers h ∙ firstNo-stop (question13 (shapeIn input)) [] (lt-leb (layoutLength (shapeIn input)) byteLimit long)
 
-pub open-refuses : (s : Shape) (k : ℕ) → numbersNo s ≡ suc k → (b : List ℕ) → opened s b ≡ refusal (suc k) b
+pub open-refuses : (s : Shape) (k : ℕ) → numbersNo (s .rows) (s .columns) (s .top) (s .capacity) ≡ suc k → (b : List ℕ) → opened s b ≡ refusal (suc k) b
 unfolding numbersNo opened openQuestions answered
 open-refuses s k e b = rw (first-no-stays (numberQuestions s) (question6 (layoutLength s) (b ∷ []) ∷ []) (λ z. omega arith) ∙ e) refl
 

@@ -1,7 +1,7 @@
 -- Programs that print what planbook prints, and the one function on slices that the program calls.
 --
 --   Printing            ==  programs from the bytes of the input to those of the output
---   Prints p            ==  p prints what planbook prints, on every input
+--   Prints p            ==  p prints what planbook prints, on every input of bytes
 --   outputLimit         ==  room for all that is printed: a line of 19 bytes for each byte of an input, and the register
 --   over x s            ==  the slice s with x written over its first bytes
 --   Transcribed         ==  how many bytes of the output slice count, the register's slice and the output slice afterwards
@@ -9,7 +9,7 @@
 --   hasRoom register out   ==  the register's slice has 65,536 bytes or more, and the output slice 1,310,720 or more
 --   transcribed input register out  ==  what the function does on all arguments: where a slice is too small it returns 0 and writes nothing
 --   Transcribing        ==  programs for that function
---   MeetsTranscribe f   ==  f does so, on all arguments
+--   MeetsTranscribe f   ==  f does so, on all slices of bytes
 --   printing f register out  ==  the program that calls f with these slices and writes the bytes that count
 use mathlib.Core.Path.{_≡_}
 use mathlib.Core.List.{List, _++_}
@@ -17,13 +17,14 @@ use mathlib.Core.Bool.{Bool, true, false, _&&_}
 use Prim.Native.Nat.{ℕ}
 use lib.ListN.{length, take, drop}
 use lib.Dec.{leb}
+use Rattle.grids.specs.Lent.{Bytes}
 use Rattle.protocol.specs.Transcript.{byteLimit, printedRegister, transcript}
 
 abbrev pub Printing : Type 0
 Printing = (input : List ℕ) → List ℕ
 
 unfoldable pub Prints : Printing → Type 0
-Prints p = (input : List ℕ) → p input ≡ transcript input
+Prints p = (input : List ℕ) → Bytes input → p input ≡ transcript input
 
 abbrev pub outputLimit : ℕ
 outputLimit = 1310720
@@ -53,7 +54,7 @@ abbrev pub Transcribing : Type 0
 Transcribing = (input register out : List ℕ) → Transcribed
 
 unfoldable pub MeetsTranscribe : Transcribing → Type 0
-MeetsTranscribe f = (input register out : List ℕ) → f input register out ≡ transcribed input register out
+MeetsTranscribe f = (input register out : List ℕ) → Bytes input → Bytes register → Bytes out → f input register out ≡ transcribed input register out
 
 unfoldable pub printing : Transcribing → List ℕ → List ℕ → Printing
 printing f register out input = take (f input register out .count) (f input register out .out)

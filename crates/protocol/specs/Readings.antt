@@ -14,7 +14,7 @@ use Prim.Native.Nat.{ℕ, zero, suc, _*_}
 use lib.Dec.{eqb}
 use Rattle.bounds.specs.Prune.{Pruned, pruned}
 use Rattle.layout.specs.Layout.{Shape}
-use Rattle.machine.specs.Calls.{Outcome, placed}
+use Rattle.calls.specs.Calls.{Outcome, placed}
 use Rattle.machine.specs.CallLists.{Call, enter, strike, countIn, Implementation, called}
 use Rattle.protocol.specs.Input.{commandIn, clientIn, cellsIn, isLaid}
 use Rattle.protocol.specs.Commands.{lows, highs}

@@ -18,9 +18,8 @@ use Prim.Native.Nat.{ℕ, zero, suc}
 use lib.ListN.{length}
 use lib.Dec.{leb}
 use Rattle.grids.specs.Order.{equal}
-use Rattle.grids.specs.Questions.{Question, firstNo, question1, question2, question3}
+use Rattle.grids.specs.Questions.{Question, firstNo, question1, question2, question3, question4}
 use Rattle.layout.specs.Layout.{Shape, Entry, layoutLength, decodeShape}
-use Rattle.machine.specs.Calls.{question4}
 use Rattle.machine.specs.Machine.{shown}
 use Rattle.protocol.specs.Input.{firstLine, furtherLines, shapeLine}
 use Rattle.protocol.specs.Commands.{report, answer}

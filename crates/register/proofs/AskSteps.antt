@@ -6,7 +6,7 @@
 --   head-limits, head-size, head-valid  ==  its numbers are within the limits, and the register has them
 --   gridAsks terminal b g  ==  the questions before 15
 --   client-asked      ==  their first no, then question 15
---   writes-terminal, writes-least  ==  what a terminal's represent writes, and what represent writes
+--   represented-writes, writes-terminal, writes-least  ==  what a terminal's represent writes, and what represent writes
 --   asked-no          ==  question 5 gets a no
 --   asked-5           ==  the first no is then 5
 --   represent-asked   ==  of a register's numbers, and a slice of the right length, represent asks questions 6 and 7
@@ -25,6 +25,8 @@ use lib.ListN.{length, take, drop}
 use lib.Seq.{take-at}
 use borrow.Author.Tests.{eq-eqb, not-false}
 use borrow.Rule.Slice.PartMut.{midOf, same-len-mid}
+use Rattle.refusals.specs.declared.Asked.{Asked}
+use Rattle.refusals.specs.Numbers.{askedNumber}
 use Rattle.grids.specs.Least.{least}
 use Rattle.grids.specs.Questions.{Question, firstNo, Limits, question6, question7, question14, afterFirst}
 use Rattle.grids.proofs.TerminalLaws.{after-yes, after-no, after-stop, terminal-no}
@@ -32,27 +34,29 @@ use Rattle.grids.proofs.QuestionLaws.{firstNo-pass, firstNo-stop, limits-pass, 
 use Rattle.permutations.specs.Lists.{every}
 use Rattle.permutations.proofs.BoolLaws.{yes-or-no}
 use Rattle.permutations.proofs.ListLaws.{part-length}
-use Rattle.canonical.specs.Represent.{representQuestions, Represented, terminalRepresentQuestions, TerminalRepresented}
-use Rattle.layout.specs.Layout.{Shape, layoutLength, decodeShape, decode, laidOut}
+use Rattle.canonical.specs.Represent.{RepresentAnswer, RepresentedBy, representQuestions, Represented, terminalRepresentQuestions, TerminalRepresented}
+use Rattle.canonical.proofs.CallLaws.{represented-number, represented-done}
+use Rattle.layout.specs.Layout.{headLength, Shape, layoutLength, decodeShape, decode, laidOut}
 use Rattle.layout.proofs.LineLaws.{laid-lines}
 use Rattle.lines.specs.declared.head.Head.{Head}
 use Rattle.lines.specs.Head.{States}
-use Rattle.machine.specs.Calls.{Outcome, answered, question5, gridQuestions, clientQuestions, leastIn, placed}
-use Rattle.machine.specs.Valid.{Valid, asked, terminalAsked, enteredLeast}
-use Rattle.machine.proofs.LeastSteps.{answered-refusal, entered-asked, terminal-entered-asked}
-use Rattle.machine.proofs.ValidLaws.{valid-sizes}
-use Rattle.register.specs.declared.asking.Asked.{Asked}
+use Rattle.calls.specs.Entries.{gridQuestions, clientQuestions, leastIn}
+use Rattle.calls.specs.Calls.{Outcome, answered, question5, placed}
+use Rattle.calls.specs.Valid.{Valid, asked, terminalAsked, enteredLeast}
+use Rattle.calls.proofs.LeastSteps.{answered-refusal, entered-asked, terminal-entered-asked}
+use Rattle.calls.proofs.ValidLaws.{valid-sizes}
+use Rattle.register.specs.declared.asking.Asking.{Asking}
 use Rattle.register.specs.Asked.{leastQuestions, WritesLeast, clientNo, askedBy, enteredBy, Asks}
 use Rattle.register.proofs.ClientSteps.{client-passes, client-first}
 
 pub laid-yes : {t : Bool} (b : List ℕ) → t ≡ laidOut b → not t ≡ false → laidOut b ≡ true
 laid-yes {t} b e y = sym e ∙ not-false t y
 
-pub laid-head : (b : List ℕ) → laidOut b ≡ true → 31 ≤ length b
+pub laid-head : (b : List ℕ) → laidOut b ≡ true → headLength ≤ length b
 unfolding layoutLength
 laid-head b laid = omega (arith, laid-lines b .0 laid .0 .sized)
 
-pub asked-no : {k c : ℕ} {b g least : List ℕ} {r : Asked} → k ≡ 5 → length least ≡ 128 → r .number ≡ 5 → Asks k c b g least r
+pub asked-no : {k c : ℕ} {b g least : List ℕ} {r : Asking} → k ≡ 5 → length least ≡ 128 → askedNumber (r .asked) ≡ 5 → Asks k c b g least r
 asked-no e l n = record {
   number-is = n ∙ sym e;
   kept = l;
@@ -79,12 +83,16 @@ client-asked true b c g = client-first (gridAsks true b g) c (omega arith, (omeg
 client-asked false b c g = client-first (gridAsks false b g) c (omega arith, (omega arith, (omega arith, tt)))
 
 -- what represent, or a terminal's represent, writes
-module _ (t : Bool) (m n top : ℕ) (g out : List ℕ) {number : ℕ} {rows columns out′ : List ℕ} where
-  pub writes-terminal : t ≡ true → TerminalRepresented m n top g out number rows columns out′ → WritesLeast (firstNo (leastQuestions t m n top g out)) m n g number out′
-  writes-terminal e r = rw e (record { number-is = r .number-is; written = r .written })
+represented-writes : (width k m n : ℕ) (g out : List ℕ) (r : RepresentAnswer) → RepresentedBy width k m n g out r → WritesLeast k m n g (r .number) (r .out)
+represented-writes width k m n g out r h =
+    let e = represented-number width k m n g out r h in record { number-is = e; written = λ z. represented-done width k m n g out r (sym e ∙ z) h .written }
 
-  pub writes-least : t ≡ false → Represented m n top g out number rows columns out′ → WritesLeast (firstNo (leastQuestions t m n top g out)) m n g number out′
-  writes-least e r = rw e (record { number-is = r .number-is; written = r .written })
+module _ (t : Bool) (m n top : ℕ) (g out : List ℕ) (r : RepresentAnswer) where
+  pub writes-terminal : t ≡ true → TerminalRepresented m n top g out r → WritesLeast (firstNo (leastQuestions t m n top g out)) m n g (r .number) (r .out)
+  writes-terminal e h = rw e (represented-writes 5 _ m n g out r h)
+
+  pub writes-least : t ≡ false → Represented m n top g out r → WritesLeast (firstNo (leastQuestions t m n top g out)) m n g (r .number) (r .out)
+  writes-least e h = rw e (represented-writes 8 _ m n g out r h)
 
 pub represent-asked : (m n top : ℕ) (g out : List ℕ) → Limits m n top → length out ≡ m * n → firstNo (representQuestions m n top g out) ≡ firstNo (question6 (m * n) (g ∷ []) ∷ question7 top (g ∷ []) ∷ [])
 unfolding representQuestions question6 every
@@ -133,9 +141,9 @@ module _ {b : List ℕ} {h : Head} (laid : laidOut b ≡ true) (st : States b h)
   least-first true g out l = terminal-represent-first g out l
   least-first false g out l = represent-first g out l
 
-  pub asked-yes : (t : Bool) (c : ℕ) (g out ys : List ℕ) {number k : ℕ} → length out ≡ 128 → length ys ≡ length (midOf 0 (h .rows * h .columns - 0) out) →
-      WritesLeast (firstNo (leastQuestions t (h .rows) (h .columns) (h .top) g (midOf 0 (h .rows * h .columns - 0) out))) (h .rows) (h .columns) g number ys → k ≡ clientNo number c →
-      Asks (askedBy t b c g) c b g (ys ++ drop (h .rows * h .columns - 0) out) (record { number = k; size = h .rows * h .columns; capacity = h .capacity; count = h .count })
+  pub asked-yes : (t : Bool) (c : ℕ) (g out ys : List ℕ) {number : ℕ} {k : Asked} → length out ≡ 128 → length ys ≡ length (midOf 0 (h .rows * h .columns - 0) out) →
+      WritesLeast (firstNo (leastQuestions t (h .rows) (h .columns) (h .top) g (midOf 0 (h .rows * h .columns - 0) out))) (h .rows) (h .columns) g number ys → askedNumber k ≡ clientNo number c →
+      Asks (askedBy t b c g) c b g (ys ++ drop (h .rows * h .columns - 0) out) (record { asked = k; size = h .rows * h .columns; capacity = h .capacity; count = h .count })
   unfolding decode
   asked-yes t c g out ys {number} l e r d =
       let z = part-length out (h .rows * h .columns) (omega (arith, l, head-size)) in
@@ -154,22 +162,22 @@ entered-by true b c g = terminal-entered-asked b c g
 entered-by false b c g = entered-asked b c g
 
 -- a call that asks these first, and then goes by the least grid
-module _ {j c : ℕ} {b g out : List ℕ} {r : Asked} (k : Asks j c b g out r) where
+module _ {j c : ℕ} {b g out : List ℕ} {r : Asking} (k : Asks j c b g out r) where
   whole : r .size - 0 ≡ r .size
   whole = omega arith
 
-  pub asked-fits : r .number ≡ 0 → r .size ≤ length out
+  pub asked-fits : askedNumber (r .asked) ≡ 0 → r .size ≤ length out
   asked-fits z = omega (arith, k .kept, valid-sizes (k .valid z) .cells-fit)
 
-  pub asked-valid : r .number ≡ 0 → Valid (length (take (r .size - 0) out)) (r .count) b
+  pub asked-valid : askedNumber (r .asked) ≡ 0 → Valid (length (take (r .size - 0) out)) (r .count) b
   asked-valid z = rw (part-length out (r .size) (asked-fits z)) (k .valid z)
 
   module _ (f : List ℕ → Outcome) {x : Outcome} (e : x ≡ answered j b (f (leastIn (decode b .shape) g))) where
-    pub call-refused : (r .number ≡ 0 → ⊥) → {number place : ℕ} → number ≡ r .number → place ≡ 0 → placed number place b ≡ x
+    pub call-refused : (askedNumber (r .asked) ≡ 0 → ⊥) → {number place : ℕ} → number ≡ askedNumber (r .asked) → place ≡ 0 → placed number place b ≡ x
     call-refused n {number} {place} p q =
         ap₂ (λ (i j : ℕ). placed i j b) (p ∙ k .number-is) q ∙ sym (e ∙ answered-refusal j b _ (λ z. n (k .number-is ∙ z)))
 
-    pub call-least : r .number ≡ 0 → {o : Outcome} → o ≡ f (take (r .size - 0) out) → o ≡ x
+    pub call-least : askedNumber (r .asked) ≡ 0 → {o : Outcome} → o ≡ f (take (r .size - 0) out) → o ≡ x
     unfolding answered
     call-least z d = d ∙ ap f (ap (λ (i : ℕ). take i out) whole ∙ k .least-is z) ∙ sym (e ∙ ap (λ (i : ℕ). answered i b (f (leastIn (decode b .shape) g))) (sym (k .number-is) ∙ z) ∙ yes)
       where

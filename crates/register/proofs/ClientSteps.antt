@@ -14,7 +14,7 @@ use Rattle.grids.specs.Questions.{Question, firstNo}
 use Rattle.grids.proofs.QuestionLaws.{Numbered, first-no-zero, first-no-stays, first-no-next, firstNo-pass, firstNo-stop, range-yes, yes-range}
 use Rattle.grids.proofs.QuestionSteps.{range-no}
 use Rattle.layout.specs.Layout.{clients}
-use Rattle.machine.specs.Calls.{question15}
+use Rattle.calls.specs.Entries.{question15}
 use Rattle.register.specs.Asked.{clientNo}
 
 module _ (k c : ℕ) where

@@ -16,9 +16,9 @@ use Rattle.bounds.specs.Prune.{boundsQuestions}
 use Rattle.layout.specs.Layout.{Entry, gridsOf, decodeShape, decode, laidOut}
 use Rattle.lines.specs.declared.head.Head.{Head}
 use Rattle.lines.specs.Head.{States}
-use Rattle.machine.specs.Valid.{Valid}
-use Rattle.machine.proofs.ValidLaws.{valid-count, valid-sizes}
-use Rattle.machine.proofs.CountSteps.{count-sized, count-bounds}
+use Rattle.calls.specs.Valid.{Valid}
+use Rattle.calls.proofs.ValidLaws.{valid-count, valid-sizes}
+use Rattle.calls.proofs.CountSteps.{count-sized, count-bounds}
 use Rattle.register.proofs.AskSteps.{head-valid}
 
 pub count-ready : {b : List ℕ} {h : Head} (laid : laidOut b ≡ true) (st : States b h) (low high : List ℕ) {k : ℕ} → k ≡ firstNo (boundsQuestions (h .rows * h .columns) (h .top) low high) → k ≡ 0 →

@@ -8,7 +8,7 @@ use mathlib.Core.Path.{_≡_, refl, sym, ap, _∙_}
 use mathlib.Core.List.{List, [], _++_}
 use mathlib.Core.Bool.{Bool, true, false, _&&_}
 use mathlib.Core.Logic.{_⊎_, inl, inr}
-use Prim.Native.Nat.{ℕ, _+_, _-_, _*_, _/_, _≤_, _<_}
+use Prim.Native.Nat.{ℕ, _+_, _-_, _/_, _≤_, _<_}
 use native.Mathlib.Omega.{arith}
 use lib.ListN.{length, getD, take, drop}
 use lib.Dec.{ltb}
@@ -20,27 +20,27 @@ use Rattle.grids.specs.Order.{_≼_, _≺_, equal}
 use Rattle.grids.specs.Comparisons.{isEqual, compared}
 use Rattle.grids.proofs.OrderLaws.{equal-eq, eq-equal}
 use Rattle.grids.proofs.ComparisonLaws.{equal-yes, equal-no}
-use Rattle.layout.specs.Layout.{gridsOf, lineLength, decode, Ascends, cellsOf}
+use Rattle.layout.specs.Layout.{gridsOf, lineLength, lineStart, decode, Ascends, cellsOf}
 use Rattle.layout.specs.Lines.{lineAt, EntryLine}
 use Rattle.layout.proofs.LineLaws.{length-cells}
-use Rattle.machine.specs.Places.{Between}
-use Rattle.machine.specs.Valid.{Valid}
-use Rattle.machine.proofs.PlaceLaws.{between-low, between-high}
-use Rattle.machine.proofs.ValidLaws.{valid-line, valid-sizes, entry-part}
+use Rattle.calls.specs.Places.{Between}
+use Rattle.calls.specs.Valid.{Valid}
+use Rattle.calls.proofs.PlaceLaws.{between-low, between-high}
+use Rattle.calls.proofs.ValidLaws.{valid-line, valid-sizes, entry-part}
 use Rattle.register.specs.declared.places.Span.{Span}
 use Rattle.register.specs.Spans.{Halved}
 
-module _ {size n : ℕ} {b : List ℕ} (k : Valid size n b) (e w : ℕ) (h : e < n) (q : w ≡ lineLength size) where
-  pub entry-line : (z : List ℕ) → 128 ≤ length z → (length (take (size - 0) z) ≤ 128) × EntryLine (length (take (size - 0) z)) 15 (take (31 + e * w + w - (31 + e * w)) (drop (31 + e * w) b))
-  entry-line z l = let s = valid-sizes k .cells-fit in rw (part-length z size (omega arith), entry-part k e w q) (s, valid-line k e h .0)
+module _ {size n : ℕ} {b : List ℕ} (k : Valid size n b) (e : ℕ) {a w : ℕ} (h : e < n) (s : a ≡ lineStart size e) (q : w ≡ lineLength size) where
+  pub entry-line : (z : List ℕ) → 128 ≤ length z → (length (take (size - 0) z) ≤ 128) × EntryLine (length (take (size - 0) z)) 15 (take (a + w - a) (drop a b))
+  entry-line z l = let f = valid-sizes k .cells-fit in rw (part-length z size (omega arith), entry-part k e s q) (f, valid-line k e h .0)
 
-  pub entry-length : (x : List ℕ) {j : ℕ} → j ≡ size → x ≡ cellsOf j (take (31 + e * w + w - (31 + e * w)) (drop (31 + e * w) b)) → length x ≡ size
+  pub entry-length : (x : List ℕ) {j : ℕ} → j ≡ size → x ≡ cellsOf j (take (a + w - a) (drop a b)) → length x ≡ size
   entry-length x {j} i p = ap length p ∙ length-cells j _ ∙ i
 
-  pub entry-compared : (x x′ g : List ℕ) {j : ℕ} {c : Comparison} → j ≡ size → x ≡ cellsOf j (take (31 + e * w + w - (31 + e * w)) (drop (31 + e * w) b)) →
+  pub entry-compared : (x x′ g : List ℕ) {j : ℕ} {c : Comparison} → j ≡ size → x ≡ cellsOf j (take (a + w - a) (drop a b)) →
       c ≡ compared (take (size - 0) (x ++ x′)) g → c ≡ compared (getD (gridsOf (decode b .entries)) e []) g
   entry-compared x x′ g {j} i p d =
-      let y : x ≡ cellsOf size (lineAt size b e) = rw (i, entry-part k e w q) at p in
+      let y : x ≡ cellsOf size (lineAt size b e) = rw (i, entry-part k e s q) at p in
       d ∙ ap (λ (l : List ℕ). compared l g) (part-is x x′ size (entry-length x i p) ∙ y ∙ valid-line k e h .1)
 
 pub past-entry : (e n : ℕ) (t : Bool) → n ≤ e → false ≡ (ltb e n && t)

@@ -11,13 +11,15 @@ use mathlib.Core.List.{List, [], _∷_}
 use mathlib.Core.Bool.{Bool, true, false}
 use Prim.Native.Nat.{ℕ, zero, suc, _≤_}
 use lib.ListN.{length, take}
+use Rattle.refusals.specs.Numbers.{askedNumber}
 use Rattle.grids.specs.Least.{least}
 use Rattle.grids.specs.Questions.{Question, firstNo}
 use Rattle.canonical.specs.Represent.{representQuestions, terminalRepresentQuestions}
 use Rattle.layout.specs.Layout.{clients, decodeShape, decode}
-use Rattle.machine.specs.Calls.{Outcome, leastIn, question15, entered, terminalEntered}
-use Rattle.machine.specs.Valid.{Valid, asked, terminalAsked}
-use Rattle.register.specs.declared.asking.Asked.{Asked}
+use Rattle.calls.specs.Entries.{leastIn, question15}
+use Rattle.calls.specs.Calls.{Outcome, entered, terminalEntered}
+use Rattle.calls.specs.Valid.{Valid, asked, terminalAsked}
+use Rattle.register.specs.declared.asking.Asking.{Asking}
 
 abbrev pub leastQuestions : Bool → ℕ → ℕ → ℕ → List ℕ → List ℕ → List Question
 leastQuestions true m n top g out = terminalRepresentQuestions m n top g out
@@ -39,10 +41,10 @@ abbrev pub enteredBy : Bool → List ℕ → ℕ → List ℕ → Outcome
 enteredBy true b c g = terminalEntered b c g
 enteredBy false b c g = entered b c g
 
-pub record Asks (k c : ℕ) (b g least : List ℕ) (r : Asked) : Type 0 where
-  pub number-is : r .number ≡ k
+pub record Asks (k c : ℕ) (b g least : List ℕ) (r : Asking) : Type 0 where
+  pub number-is : askedNumber (r .asked) ≡ k
   pub kept : length least ≡ 128
-  pub valid : r .number ≡ 0 → Valid (r .size) (r .count) b
-  pub client-is : r .number ≡ 0 → (1 ≤ c) × (c ≤ clients)
-  pub capacity-is : r .number ≡ 0 → r .capacity ≡ decodeShape b .capacity
-  pub least-is : r .number ≡ 0 → take (r .size) least ≡ leastIn (decode b .shape) g
+  pub valid : askedNumber (r .asked) ≡ 0 → Valid (r .size) (r .count) b
+  pub client-is : askedNumber (r .asked) ≡ 0 → (1 ≤ c) × (c ≤ clients)
+  pub capacity-is : askedNumber (r .asked) ≡ 0 → r .capacity ≡ decodeShape b .capacity
+  pub least-is : askedNumber (r .asked) ≡ 0 → take (r .size) least ≡ leastIn (decode b .shape) g

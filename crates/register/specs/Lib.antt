@@ -1,3 +1,4 @@
 pub mod Asked
 pub mod Sought
 pub mod Spans
+pub mod Answers

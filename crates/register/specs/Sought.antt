@@ -9,8 +9,8 @@ use lib.ListN.{length, getD}
 use lib.Dec.{ltb}
 use Rattle.grids.specs.Order.{equal}
 use Rattle.layout.specs.Layout.{clients, gridsOf, decode}
-use Rattle.machine.specs.Places.{Lower}
-use Rattle.machine.specs.Valid.{Valid}
+use Rattle.calls.specs.Places.{Lower}
+use Rattle.calls.specs.Valid.{Valid}
 
 pub record Sought (t : Bool) (n p c : ℕ) (b g : List ℕ) : Type 0 where
   pub valid : Valid (length g) n b

@@ -1,13 +1,12 @@
-// A grid that stands at its place, and what a client holds of it. Its line begins where a register of as many lines as the place
-// would end.
+// A grid that stands at its place, and what a client holds of it.
 use lines::entries;
+use lines::head;
 use lines::holdings;
-use lines::numbers;
 ghost use mathlib.Core.Path.{_≡_};
 ghost use mathlib.Core.Bool.{true};
 ghost use Rattle.layout.specs.Layout.{decode};
-ghost use Rattle.machine.specs.Calls.{heldBy};
-ghost use Rattle.machine.specs.Valid.{goneAt, heldAs};
+ghost use Rattle.calls.specs.Entries.{heldBy};
+ghost use Rattle.calls.specs.Valid.{goneAt, heldAs};
 ghost use Rattle.register.specs.Sought.{Sought};
 
 // What the client holds of it.
@@ -16,7 +15,7 @@ pub fn holding(register: &[u8], count: usize, place: usize, client: usize, least
     ensures { λ r. ⌜ r ≡ heldBy client (now (least .entry)) (decode (now (register .entry)) .entries) ⌝ }
 {
     let size = least.len();
-    let start = entries::register_length(size, place);
+    let start = entries::line_start(size, place);
     holdings::read_holding(&register[start..], size, client)
 }
 
@@ -26,10 +25,10 @@ fn take_out(register: &mut [u8], count: usize, place: usize, client: usize, leas
     ensures { λ _. ⌜ now (register .exit) ≡ goneAt (now (register .entry)) place ⌝ }
 {
     let size = least.len();
-    let start = entries::register_length(size, place);
+    let start = entries::line_start(size, place);
     let moved = (count - (place + 1)) * entries::line_length(size);
     entries::remove_line(&mut register[start..], moved, size);
-    numbers::write_number(&mut register[24..30], count - 1);
+    head::write_count(register, count - 1);
 }
 
 // The client holds so many of it from now on. Where nobody holds it then, its line is taken out.
@@ -45,7 +44,7 @@ pub fn hold(
     ensures { λ _. ⌜ now (register .exit) ≡ heldAs (now (register .entry)) client (now (least .entry)) number ⌝ }
 {
     let size = least.len();
-    let start = entries::register_length(size, place);
+    let start = entries::line_start(size, place);
     if holdings::still_held(&register[start..], size, client, number) {
         holdings::write_holding(&mut register[start..], size, client, number);
         return;

@@ -1,46 +1,31 @@
 // The call open.
-use crate::answers;
-use crate::answers::Placed;
+use crate::answers::Opening;
 use grids::questions;
 use lines::entries;
 use lines::head;
 use lines::head::Head;
+use refusals::Asked;
+use refusals::Refusal;
 ghost use mathlib.Core.Path.{_≡_};
 ghost use mathlib.Core.List.{[]};
 ghost use lib.ListN.{length};
 ghost use Rattle.layout.specs.Layout.{layout, layoutLength, InLimits};
-ghost use Rattle.machine.specs.Calls.{opened, placed, shape};
-ghost use Rattle.machine.specs.Valid.{numbersNo, openNo};
+ghost use Rattle.calls.specs.Calls.{opened, placed, shape};
+ghost use Rattle.calls.specs.Valid.{openNo};
+ghost use Rattle.refusals.specs.Numbers.{askedNumber};
+ghost use Rattle.register.specs.Answers.{openingNumber};
 
-// Questions 1 to 4: the number of the first that gets a no, or 0.
-pub fn numbers_no(m: usize, n: usize, top: usize, capacity: usize) -> u32
-    ensures { λ r. ⌜ r ≡ numbersNo (shape m n top capacity) ⌝ }
+// Questions 1, 2, 3, 4 and 6 of open.
+fn ask_open(m: usize, n: usize, top: usize, capacity: usize, length: usize) -> Asked
+    ensures { λ r. ⌜ askedNumber r ≡ openNo (shape m n top capacity) length ⌝ }
 {
-    let number = questions::limits_no(m, n, top);
-    if number != 0 {
-        return number;
+    if let Asked::No(refusal) = questions::ask_numbers(m, n, top, capacity) {
+        return Asked::No(refusal);
     }
-    if capacity < 1 {
-        return 4;
+    if length != entries::line_start(m * n, capacity) {
+        return Asked::No(Refusal::Length);
     }
-    if 500 < capacity {
-        return 4;
-    }
-    0
-}
-
-// Questions 1, 2, 3, 4 and 6 of open: the number of the first that gets a no, or 0.
-fn open_no(m: usize, n: usize, top: usize, capacity: usize, length: usize) -> u32
-    ensures { λ r. ⌜ r ≡ openNo (shape m n top capacity) length ⌝ }
-{
-    let number = numbers_no(m, n, top, capacity);
-    if number != 0 {
-        return number;
-    }
-    if length != entries::register_length(m * n, capacity) {
-        return 6;
-    }
-    0
+    Asked::Yes
 }
 
 // Writes a register without entries over all of a slice of its length.
@@ -50,8 +35,9 @@ fn write_empty(m: usize, n: usize, top: usize, capacity: usize, register: &mut [
 {
     let size = m * n;
     let width = entries::line_length(size);
+    let mut start = head::LENGTH;
     head::write_head(
-        &mut register[0..31],
+        &mut register[0..start],
         Head {
             rows: m,
             columns: n,
@@ -60,7 +46,6 @@ fn write_empty(m: usize, n: usize, top: usize, capacity: usize, register: &mut [
             count: 0,
         },
     );
-    let mut start = 31;
     let mut e = 0;
     while e < capacity {
         entries::write_blank(&mut register[start..], size);
@@ -69,14 +54,19 @@ fn write_empty(m: usize, n: usize, top: usize, capacity: usize, register: &mut [
     }
 }
 
-// Opens a register without entries. Where a question gets a no: its number, and the slice as it was.
-pub fn open_register(m: usize, n: usize, top: usize, capacity: usize, register: &mut [u8]) -> Placed
-    ensures { λ r. ⌜ placed (r .number) (r .place) (now (register .exit)) ≡ opened (shape m n top capacity) (now (register .entry)) ⌝ }
+// Opens a register without entries. Where a question gets a no, the slice is as it was.
+pub fn open_register(
+    m: usize,
+    n: usize,
+    top: usize,
+    capacity: usize,
+    register: &mut [u8],
+) -> Opening
+    ensures { λ r. ⌜ placed (openingNumber r) 0 (now (register .exit)) ≡ opened (shape m n top capacity) (now (register .entry)) ⌝ }
 {
-    let number = open_no(m, n, top, capacity, register.len());
-    if number != 0 {
-        return answers::refused(number);
+    if let Asked::No(refusal) = ask_open(m, n, top, capacity, register.len()) {
+        return Opening::Refused(refusal);
     }
     write_empty(m, n, top, capacity, register);
-    answers::refused(0)
+    Opening::Opened
 }

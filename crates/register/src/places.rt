@@ -11,8 +11,8 @@ ghost use lib.Dec.{ltb};
 ghost use Rattle.grids.specs.Order.{equal};
 ghost use Rattle.grids.specs.Comparisons.{compared};
 ghost use Rattle.layout.specs.Layout.{gridsOf, decode};
-ghost use Rattle.machine.specs.Places.{Lower, Between};
-ghost use Rattle.machine.specs.Valid.{Valid};
+ghost use Rattle.calls.specs.Places.{Lower, Between};
+ghost use Rattle.calls.specs.Valid.{Valid};
 ghost use Rattle.register.specs.Spans.{Halved};
 
 // What comparing the grid of a line's entry with a grid finds.
@@ -22,7 +22,7 @@ fn compare_entry(register: &[u8], e: usize, count: usize, grid: &[u8]) -> Compar
 {
     let size = grid.len();
     let width = entries::line_length(size);
-    let start = 31 + e * width;
+    let start = entries::line_start(size, e);
     let end = start + width;
     let mut cells = [0u8; 128];
     entries::read_line(&register[start..end], &mut cells[0..size]);

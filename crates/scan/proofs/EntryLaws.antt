@@ -14,8 +14,7 @@ use native.Mathlib.Omega.{arith}
 use native.Mathlib.Nat.{not-suc-le-zero}
 use native.Mathlib.Decide.{decLt}
 use lib.ListN.{getD}
-use Rattle.layout.specs.Layout.{lineLength}
-use Rattle.layout.specs.Lines.{lineStart}
+use Rattle.layout.specs.Layout.{headLength, lineLength, lineStart}
 use Rattle.layout.proofs.LineLaws.{start-zero, next-start}
 use Rattle.lines.proofs.EqualityLaws.{fails}
 use Rattle.scan.specs.Cells.{CellBytes, CellsLaid, Same}
@@ -83,13 +82,13 @@ module _ (size top : ℕ) (b : List ℕ) (p q : ℕ) (t : Bool) (laid : (t ≡ t
 pub lines-none : (size top n : ℕ) (b : List ℕ) → n ≡ 0 → (true ≡ true) ↔ LinesLaid size top n b
 lines-none size top n b e = (λ y. record { lines = λ i c. absurd (omega arith); ascend = λ i c. absurd (omega arith) }, λ w. refl)
 
-pub lines-one : (size top at : ℕ) (b : List ℕ) → at ≡ 31 → LineLaid size top b at → LinesLaid size top (0 + 1) b
+pub lines-one : (size top at : ℕ) (b : List ℕ) → at ≡ headLength → LineLaid size top b at → LinesLaid size top (0 + 1) b
 lines-one size top at b z h = record {
   lines = λ e c. let d : e ≡ 0 = omega arith in rw (d, start-zero size, ← z) h;
   ascend = λ e c. absurd (omega arith);
 }
 
-pub lines-first-not : (size top n at : ℕ) (b : List ℕ) → 0 < n → at ≡ 31 → (r : Bool) → (r ≡ true) ↔ LineLaid size top b at → r ≡ false → (false ≡ true) ↔ LinesLaid size top n b
+pub lines-first-not : (size top n at : ℕ) (b : List ℕ) → 0 < n → at ≡ headLength → (r : Bool) → (r ≡ true) ↔ LineLaid size top b at → r ≡ false → (false ≡ true) ↔ LinesLaid size top n b
 lines-first-not size top n at b h z r w f = fails (λ l. true≢false (sym (w .1 (rw (start-zero size, ← z) at (l .lines 0 h))) ∙ f))
 
 module _ (size top e at next : ℕ) (b : List ℕ) (here : at ≡ lineStart size e) (there : next ≡ at + lineLength size) where

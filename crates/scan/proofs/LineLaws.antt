@@ -2,7 +2,7 @@
 --
 --   holdings-inside         ==  a line has more bytes than its cells and holdings
 --   laid-entry, entry-laid  ==  the bytes of a line are laid out exactly where it is the line of an entry
---   start-fits, start-within  ==  where lines begin
+--   start-within            ==  a line ends where a later one begins, or before
 --   lines-entries           ==  the same of all lines of entries
 use mathlib.Core.Path.{_≡_, refl, sym, ap, ap₂, _∙_}
 use mathlib.Core.List.{List, [], _∷_, _++_, flatten}
@@ -22,8 +22,8 @@ use Rattle.permutations.proofs.ListLaws.{tabulate-is, tabulate-ext, mem-at, at-
 use Rattle.grids.specs.Grids.{capped}
 use Rattle.grids.proofs.QuestionLaws.{capped-at, at-capped}
 use Rattle.layout.specs.Decimal.{field, value}
-use Rattle.layout.specs.Layout.{clients, mostHeld, fields, headLength, entryWidth, lineLength, entryLine, numberAt, cellsOf, holdingsOf, someHeld, isHoldings}
-use Rattle.layout.specs.Lines.{lineStart, lineAt, EntryLine, EntriesLaid}
+use Rattle.layout.specs.Layout.{clients, mostHeld, fields, cellWidth, entryWidth, lineLength, lineStart, entryLine, numberAt, cellsOf, holdingsOf, someHeld, isHoldings}
+use Rattle.layout.specs.Lines.{lineAt, EntryLine, EntriesLaid}
 use Rattle.layout.proofs.LayoutLaws.{length-fields, field-at}
 use Rattle.layout.proofs.LineLaws.{drop-take, next-start, length-line, cells-inside, length-cells, cell-at, length-holdings, holding-at}
 use Rattle.layout.proofs.RegisterLaws.{holdings-decides}
@@ -61,7 +61,7 @@ cells-before size n l h = tabulate-ext 0 size _ _ (λ k c. ap value (ap (take 3)
 
 -- ---- one line
 
-pub holdings-inside : (size : ℕ) → 3 * size + 24 < lineLength size
+pub holdings-inside : (size : ℕ) → 3 * size + cellWidth * clients < lineLength size
 unfolding lineLength entryWidth
 holdings-inside size = omega arith
 
@@ -210,12 +210,7 @@ module _ (size top : ℕ) (b : List ℕ) (at : ℕ) (l : List ℕ) (t : top ≤ 
 
 -- ---- all lines
 
-pub start-fits : (size n m : ℕ) → headLength + n * lineLength size ≤ m → lineStart size n ≤ m
-unfolding lineStart
-start-fits size n m h = h
-
 pub start-within : (size e n : ℕ) → e < n → lineStart size e + lineLength size ≤ lineStart size n
-unfolding lineStart
 start-within size e n h = omega (arith, add-mul e 1 (lineLength size), mul-le-mul-right (lineLength size) h)
 
 module _ (size top n : ℕ) (b : List ℕ) (t : top ≤ 15) (fits : lineStart size n ≤ length b) where

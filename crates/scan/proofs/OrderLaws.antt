@@ -1,6 +1,5 @@
 -- Laws of two lines of a register.
 --
---   same-no, same-yes       ==  a further pair of bytes differs, or does not
 --   same-none, same-next    ==  no byte, and a byte more
 --   agree-none, agree-more  ==  no byte agrees to begin with, and n more do
 --   agree-less              ==  fewer agree too
@@ -10,14 +9,14 @@
 --   before-here, before-never  ==  the ways out of the comparison
 use mathlib.Core.Path.{_≡_, refl, sym, ap, _∙_}
 use mathlib.Core.List.{List}
-use mathlib.Core.Bool.{Bool, true, false, true≢false, _&&_, and-true, and-false}
+use mathlib.Core.Bool.{true, false, true≢false, _&&_}
 use mathlib.Core.Logic.{_↔_}
 use Prim.Native.Nat.{ℕ, zero, suc, _+_, _-_, _*_, _≤_, _<_}
 use native.Mathlib.Omega.{arith}
 use native.Mathlib.Nat.{not-suc-le-zero}
 use native.Mathlib.Decide.{decLt}
 use native.Mathlib.Numerals.{add-one}
-use borrow.Author.Tests.{eq-eqb, ne-eqb, eqb-true, lt-ltb, ltb-true}
+use borrow.Author.Tests.{eqb-true, lt-ltb, ltb-true}
 use lib.ListN.{getD, length, take, drop}
 use lib.Seq.{drop-drop}
 use lib.Dec.{eqb, ltb}
@@ -34,17 +33,11 @@ use Rattle.scan.proofs.CellLaws.{three}
 
 -- ---- bytes
 
-pub same-no : (same : Bool) (x y : ℕ) → (x ≡ y → ⊥) → false ≡ (same && eqb x y)
-same-no same x y n = rw (ne-eqb x y n) (sym (and-false same))
-
-pub same-yes : (same : Bool) (x y : ℕ) → x ≡ y → same ≡ (same && eqb x y)
-same-yes same x y e = rw (eq-eqb x y e) (sym (and-true same))
-
 pub same-none : (b : List ℕ) (p q : ℕ) → true ≡ sameFrom b p q 0
 unfolding sameFrom
 same-none b p q = refl
 
-pub same-next : (b : List ℕ) (p q n : ℕ) → sameFrom b p q (n + 1) ≡ (sameFrom b p q n && eqb (getD b (p + n) 0) (getD b (q + n) 0))
+pub same-next : (b : List ℕ) (p q n : ℕ) → sameFrom b p q (n + 1) ≡ (eqb (getD b (p + n) 0) (getD b (q + n) 0) && sameFrom b p q n)
 unfolding sameFrom
 same-next b p q n = rw add-one refl
 
@@ -52,14 +45,14 @@ same-all : (b : List ℕ) (p q n : ℕ) → sameFrom b p q n ≡ true → (j : �
 same-all b p q zero e j l = absurd (not-suc-le-zero l)
 same-all b p q (suc n) e j l = go (λ f h. same-all b p q n f j h) (decLt j n)
   where
-    both : (sameFrom b p q n ≡ true) × (eqb (getD b (p + n) 0) (getD b (q + n) 0) ≡ true)
-    both = and-yes (sameFrom b p q n) (eqb (getD b (p + n) 0) (getD b (q + n) 0)) (sym (same-next b p q n) ∙ ap (sameFrom b p q) (omega arith) ∙ e)
+    both : (eqb (getD b (p + n) 0) (getD b (q + n) 0) ≡ true) × (sameFrom b p q n ≡ true)
+    both = and-yes (eqb (getD b (p + n) 0) (getD b (q + n) 0)) (sameFrom b p q n) (sym (same-next b p q n) ∙ ap (sameFrom b p q) (omega arith) ∙ e)
 
     go : (sameFrom b p q n ≡ true → j < n → getD b (p + j) 0 ≡ getD b (q + j) 0) → Dec (j < n) → getD b (p + j) 0 ≡ getD b (q + j) 0
-    go r (yes h) = r (both .0) h
+    go r (yes h) = r (both .1) h
     go r (no h) =
         let z : j ≡ n = omega (arith, l) in
-        rw z (eqb-true (getD b (p + n) 0) (getD b (q + n) 0) (both .1))
+        rw z (eqb-true (getD b (p + n) 0) (getD b (q + n) 0) (both .0))
 
 pub agree-none : (b : List ℕ) (p q : ℕ) → Same b p q 0
 unfolding Same

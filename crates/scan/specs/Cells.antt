@@ -30,4 +30,4 @@ Same b p q n = (j : ℕ) → j < n → getD b (p + j) 0 ≡ getD b (q + j) 0
 
 unfoldable pub sameFrom : List ℕ → ℕ → ℕ → ℕ → Bool
 sameFrom b p q zero = true
-sameFrom b p q (suc n) = sameFrom b p q n && eqb (getD b (p + n) 0) (getD b (q + n) 0)
+sameFrom b p q (suc n) = eqb (getD b (p + n) 0) (getD b (q + n) 0) && sameFrom b p q n

@@ -9,8 +9,7 @@ use mathlib.Core.List.{List}
 use Prim.Native.Nat.{ℕ, _+_, _-_, _*_, _<_}
 use lib.ListN.{getD, drop}
 use Rattle.grids.specs.Order.{_≺_}
-use Rattle.layout.specs.Layout.{lineLength, cellsOf}
-use Rattle.layout.specs.Lines.{lineStart}
+use Rattle.layout.specs.Layout.{lineLength, lineStart, cellsOf}
 use Rattle.scan.specs.Cells.{CellsLaid}
 use Rattle.scan.specs.Holdings.{HoldingsLaid}
 

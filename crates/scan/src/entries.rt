@@ -4,13 +4,14 @@ use crate::laid;
 use crate::order;
 use crate::tables;
 use lines::entries::line_length;
+use lines::head;
 ghost use mathlib.Core.Path.{_≡_};
 ghost use mathlib.Core.Bool.{true};
 ghost use mathlib.Core.Logic.{_↔_};
-ghost use Prim.Native.Nat.{_+_, _*_, _≤_, _<_};
+ghost use Prim.Native.Nat.{_+_, _≤_, _<_};
 ghost use lib.ListN.{length};
-ghost use Rattle.layout.specs.Layout.{headLength, lineLength};
-ghost use Rattle.layout.specs.Lines.{lineStart, EntriesLaid};
+ghost use Rattle.layout.specs.Layout.{lineLength, lineStart};
+ghost use Rattle.layout.specs.Lines.{EntriesLaid};
 ghost use Rattle.scan.specs.Cells.{CellsLaid};
 ghost use Rattle.scan.specs.Tables.{Tables};
 ghost use Rattle.scan.specs.Lines.{LineLaid, Follows, LinesLaid};
@@ -83,7 +84,7 @@ fn lines_laid(
     if count == 0 {
         return true;
     }
-    let mut at = 31;
+    let mut at = head::LENGTH;
     if !line_laid(register, at, 0, size, top, base, teen, span) {
         return false;
     }
@@ -102,7 +103,7 @@ fn lines_laid(
 
 // Whether the first lines are lines of entries, each of which comes before the next.
 pub fn entries_laid(register: &[u8], size: usize, top: u8, count: usize) -> bool
-    requires { ⌜ (size ≤ 128) × (top ≤ 15) × (headLength + count * lineLength size ≤ length (now register)) ⌝ }
+    requires { ⌜ (size ≤ 128) × (top ≤ 15) × (lineStart size count ≤ length (now register)) ⌝ }
     ensures { λ r. ⌜ ((r ≡ true) ↔ EntriesLaid size top count (now (register .entry))) ⌝ }
 {
     let mut base = [0u8; 384];

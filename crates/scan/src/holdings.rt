@@ -1,10 +1,12 @@
 // Whether the holdings of a line are laid out. No test on the way ends the loop, so that it has no jump inside.
 use lines::bytes::above;
+use lines::entries::CLIENTS;
 ghost use mathlib.Core.Path.{_≡_};
 ghost use mathlib.Core.Bool.{true, _&&_};
 ghost use mathlib.Core.Logic.{_↔_};
-ghost use Prim.Native.Nat.{_+_, _≤_};
+ghost use Prim.Native.Nat.{_+_, _*_, _≤_};
 ghost use lib.ListN.{length};
+ghost use Rattle.layout.specs.Layout.{clients, cellWidth};
 ghost use Rattle.scan.specs.Holdings.{isDigit, isFirst, isHolding, isNone, HoldingsLaid};
 
 // Whether a byte is a digit.
@@ -39,13 +41,13 @@ fn stays_none(none: bool, b: u8, c: u8) -> bool
 
 // Whether the bytes from a place on are the fields of a holding for each client, not all of 0.
 pub fn holdings_laid(register: &[u8], at: usize) -> bool
-    requires { ⌜ at + 24 ≤ length (now register) ⌝ }
+    requires { ⌜ at + cellWidth * clients ≤ length (now register) ⌝ }
     ensures { λ r. ⌜ ((r ≡ true) ↔ HoldingsLaid (now (register .entry)) at) ⌝ }
 {
     let mut laid = true;
     let mut none = true;
     let mut k = 0;
-    while k < 8 {
+    while k < CLIENTS {
         let a = register[at + 3 * k];
         let b = register[at + 3 * k + 1];
         let c = register[at + 3 * k + 2];

@@ -2,26 +2,16 @@
 // their first bytes.
 use grids::cells;
 use lines::bytes::stated;
+use lines::equality::stays_equal;
 ghost use mathlib.Core.Path.{_≡_};
-ghost use mathlib.Core.Bool.{true, _&&_};
+ghost use mathlib.Core.Bool.{true};
 ghost use mathlib.Core.Logic.{_↔_};
 ghost use Prim.Native.Nat.{_+_, _*_, _≤_};
 ghost use lib.ListN.{length, take, drop};
-ghost use lib.Dec.{eqb};
 ghost use Rattle.layout.specs.Decimal.{field};
 ghost use Rattle.layout.specs.Layout.{numberAt};
 ghost use Rattle.scan.specs.Cells.{CellsLaid, Same, sameFrom};
 ghost use Rattle.scan.specs.Lines.{Precedes};
-
-// Whether all was the same so far, and two bytes are.
-fn stays_same(same: bool, x: u8, y: u8) -> bool
-    ensures { λ r. ⌜ r ≡ (same && eqb x y) ⌝ }
-{
-    if x != y {
-        return false;
-    }
-    same
-}
 
 // Whether 16 bytes are the same: no way out of the loop, so that they are compared at once.
 fn same_from(register: &[u8], p: usize, q: usize) -> bool
@@ -31,7 +21,7 @@ fn same_from(register: &[u8], p: usize, q: usize) -> bool
     let mut same = true;
     let mut n = 0;
     while n < 16 {
-        same = stays_same(same, register[p + n], register[q + n]);
+        same = stays_equal(same, register[p + n], register[q + n]);
         n += 1;
     }
     same

@@ -14,10 +14,10 @@ use lib.ListN.{length, take, drop, length-append, length-drop, drop-of-length-le
 use lib.Seq.{take-at, drop-at, drop-drop}
 use borrow.Rule.Slice.PartMut.{midOf, putMid}
 use Rattle.layout.specs.Layout.{Shape, Entry}
-use Rattle.machine.specs.Calls.{Outcome}
+use Rattle.calls.specs.Calls.{Outcome}
 use Rattle.machine.specs.Machine.{shown, outcome}
 use Rattle.machine.proofs.MachineLaws.{Good, empty-good}
-use Rattle.machine.proofs.ValidMoves.{tail-part, put-tail}
+use Rattle.calls.proofs.ValidMoves.{tail-part, put-tail}
 use Rattle.lines.proofs.FillLaws.{Filled, fill-none}
 use Rattle.register.proofs.OpenSteps.{limits-size}
 use Rattle.protocol.specs.Input.{lines, furtherLines}

@@ -14,13 +14,13 @@ use lib.ListN.{length, take}
 use Rattle.bounds.specs.Prune.{Pruned, pruned}
 use Rattle.bounds.specs.Demand2.{Prunes}
 use Rattle.machine.specs.CallLists.{registerCalls, called}
-use Rattle.machine.specs.Calls.{entered, struck, counted, placed}
+use Rattle.calls.specs.Calls.{entered, struck, counted, placed}
 use Rattle.protocol.specs.Input.{leadLength, cellCount, clientIn, cellsIn}
 use Rattle.protocol.specs.Commands.{lows, highs}
 use Rattle.protocol.specs.Readings.{prunedCells, readCommand, readBy, commandOf, answeredBy}
 use Rattle.protocol.proofs.CommandLaws.{laid-length}
 use Rattle.protocol.proofs.ReadingLaws.{by-command, by-none, prune-says, prune-calls, command-of}
-use Rattle.transcript.specs.Commands.{clientBy, ReadsCommand, Parts, PrunesParted}
+use Rattle.transcript.specs.Commands.{ReadsCommand, Parts, PrunesParted}
 use Rattle.transcript.specs.Answers.{Answers}
 
 module _ (m n top : ℕ) {k : ℕ} (client : ℕ) (b c : List ℕ) where
@@ -66,20 +66,16 @@ pub lead-room : {size : ℕ} {line cells : List ℕ} {k : ℕ} → ReadsCommand 
 lead-room {size} {line} r h = rw (r .command-is h) (omega (arith, laid-length size line (r .laid h)))
 
 module _ (m n top : ℕ) {line cells : List ℕ} {k : ℕ} (r : ReadsCommand (m * n) line cells k) (b : List ℕ) where
-  pub answer-malformed : k ≡ 0 → Answers m n top line b b (record { command = 0; number = 12; place = 0 })
+  pub answer-malformed : k ≡ 0 → {number : ℕ} → number ≡ 12 → Answers m n top line b b (record { command = 0; number = number; place = 0 })
   unfolding commandOf answeredBy
-  answer-malformed e = let q = by-none m n top line (r .malformed e) in record { command-is = sym (rw q refl); answers = sym (rw q refl) }
+  answer-malformed e d = let q = by-none m n top line (r .malformed e) in record { command-is = sym (rw q refl); answers = rw d (sym (rw q refl)) }
 
-  pub answer-made : (k ≡ 0 → ⊥) → {j : ℕ} → j ≡ cellCount (m * n) k → {client : ℕ} → client ≡ clientBy k line → {b′ : List ℕ} {number place : ℕ} →
+  pub answer-made : (k ≡ 0 → ⊥) → {j : ℕ} → j ≡ cellCount (m * n) k → {client : ℕ} → client ≡ clientIn line → {b′ : List ℕ} {number place : ℕ} →
       placed number place b′ ≡ answeredBy registerCalls b (readCommand m n top k client (take (j - 0) cells)) → Answers m n top line b b′ (record { command = k; number = number; place = place })
-  unfolding clientBy clientIn
   answer-made h {j} e {client} f d = record { command-is = sym (ap commandOf read ∙ command-of m n top k client (take (j - 0) cells)); answers = d ∙ sym (ap (answeredBy registerCalls b) read) }
     where
       cells-are : take (j - 0) cells ≡ cellsIn (m * n) line
       cells-are = let z : j - 0 ≡ cellCount (m * n) k = omega arith in rw z (r .cells-are h)
 
-      client-is : client ≡ clientIn line
-      client-is = f ∙ rw (r .command-is h) refl
-
       read : readBy m n top line ≡ readCommand m n top k client (take (j - 0) cells)
-      read = by-command m n top line (r .laid h) ∙ rw (← (r .command-is h), ← client-is, ← cells-are) refl
+      read = by-command m n top line (r .laid h) ∙ rw (← (r .command-is h), ← f, ← cells-are) refl

@@ -27,7 +27,7 @@ use Rattle.layout.proofs.LineLaws.{drop-take, length-cells}
 use Rattle.protocol.specs.Input.{leads, leadLength, commandLine, cellCount, commandIn, clientIn, cellsIn, isLaid}
 use Rattle.protocol.proofs.CommandLaws.{CommandLaid, length-leads, client-fits, laid-exactly, laid-command, laid-length}
 use Rattle.transcript.specs.Fields.{ReadsCells}
-use Rattle.transcript.specs.Commands.{clientBy, ReadsCommand}
+use Rattle.transcript.specs.Commands.{ReadsCommand}
 use Rattle.transcript.proofs.LeadLaws.{lead-least, no-client}
 
 pub laid-some : (size : ℕ) (l : List ℕ) → isLaid size l ≡ true → 7 ≤ length l
@@ -41,7 +41,7 @@ lentCells w n l = take (w + 3 * n - w) (drop w l)
 
 pub record LineParts (k w n : ℕ) (l : List ℕ) : Type 0 where
   pub feed : getD l (w + 3 * n) 0 ≡ 10
-  pub lead : take w l ≡ fields 6 (leads k (clientBy k l))
+  pub lead : take w l ≡ fields 6 (leads k (clientIn l))
   pub bytes : lentCells w n l ≡ fields 3 (cellsOf n (lentCells w n l))
   pub at-most : capped 255 (cellsOf n (lentCells w n l)) ≡ true
 
@@ -60,33 +60,29 @@ module _ (size : ℕ) (l : List ℕ) {k w n : ℕ} (command : k ≡ commandIn l)
   unfolding cellsIn
   cells-are = lent-cells w n l ∙ rw (many, wide, command) refl
 
-  client-is : clientBy k l ≡ clientIn l
-  unfolding clientBy clientIn
-  client-is = rw command refl
-
-  length-lead : length (fields 6 (leads k (clientBy k l))) ≡ w
-  length-lead = length-leads k (clientBy k l) ∙ sym wide
+  length-lead : length (fields 6 (leads k (clientIn l))) ≡ w
+  length-lead = length-leads k (clientIn l) ∙ sym wide
 
   -- the parts of a line that is laid
   module _ (e : isLaid size l ≡ true) where
-    line : CommandLaid size k (clientBy k l) (cellsOf n (lentCells w n l)) l
+    line : CommandLaid size k (clientIn l) (cellsOf n (lentCells w n l)) l
     line =
         let h = laid-exactly size l .0 e in
         let q = laid-command (h .3) in
-        rw (cells-are, q .2, client-is, q .1, command, q .0) (h .3)
+        rw (cells-are, q .2, q .1, command, q .0) (h .3)
 
     sized : length (fields 3 (cellsOf n (lentCells w n l))) ≡ 3 * n
     sized = length-fields 3 (cellsOf n (lentCells w n l)) ∙ omega (arith, length-cells n (lentCells w n l))
 
     rest : drop w l ≡ fields 3 (cellsOf n (lentCells w n l)) ++ (10 ∷ [])
     unfolding commandLine
-    rest = ap (drop w) (line .bytes) ∙ drop-at (fields 6 (leads k (clientBy k l))) _ w length-lead
+    rest = ap (drop w) (line .bytes) ∙ drop-at (fields 6 (leads k (clientIn l))) _ w length-lead
 
     pub laid-parts : LineParts k w n l
     unfolding commandLine
     laid-parts = record {
       feed = sym (getD-drop w l (3 * n) 0) ∙ ap (λ (x : List ℕ). getD x (3 * n) 0) rest ∙ getD-at (fields 3 (cellsOf n (lentCells w n l))) 10 [] 0 (3 * n) sized;
-      lead = ap (take w) (line .bytes) ∙ take-at (fields 6 (leads k (clientBy k l))) _ w length-lead;
+      lead = ap (take w) (line .bytes) ∙ take-at (fields 6 (leads k (clientIn l))) _ w length-lead;
       bytes = ap (take (w + 3 * n - w)) rest ∙ take-at (fields 3 (cellsOf n (lentCells w n l))) (10 ∷ []) (w + 3 * n - w) (sized ∙ omega arith);
       at-most = line .small;
     }
@@ -97,11 +93,11 @@ module _ (size : ℕ) (l : List ℕ) {k w n : ℕ} (command : k ≡ commandIn l)
     parts-laid p =
         laid-exactly size l .1 (
           k,
-          clientBy k l,
+          clientIn l,
           cellsOf n (lentCells w n l),
           record {
             command = range;
-            client-small = rw client-is (client-fits l (cellsOf n (lentCells w n l)) (rw (client-is, command) at bytes));
+            client-small = client-fits l (cellsOf n (lentCells w n l)) (rw command at bytes);
             no-client = none;
             sized = length-cells n (lentCells w n l) ∙ many;
             small = p .at-most;
@@ -115,13 +111,13 @@ module _ (size : ℕ) (l : List ℕ) {k w n : ℕ} (command : k ≡ commandIn l)
             rw (drop-drop (w + 3 * n - w) w l, z, drop-cons l (w + 3 * n) 0 (omega arith), p .feed)
             (ap (λ (x : List ℕ). 10 ∷ x) (drop-of-length-le l {i = suc (w + 3 * n)} (omega arith)))
 
-        bytes : l ≡ fields 6 (leads k (clientBy k l)) ++ (fields 3 (cellsOf n (lentCells w n l)) ++ (10 ∷ []))
+        bytes : l ≡ fields 6 (leads k (clientIn l)) ++ (fields 3 (cellsOf n (lentCells w n l)) ++ (10 ∷ []))
         bytes =
             sym (take-append-drop w l)
             ∙ ap₂ _++_ (p .lead) (sym (take-append-drop (w + 3 * n - w) (drop w l)) ∙ ap₂ _++_ (p .bytes) last)
 
-        none : k ≡ 3 → clientBy k l ≡ 0
-        none q = no-client k l q
+        none : k ≡ 3 → clientIn l ≡ 0
+        none q = no-client k l command q
 
   -- ---- the ways out
 
@@ -129,7 +125,7 @@ module _ (size : ℕ) (l : List ℕ) {k w n : ℕ} (command : k ≡ commandIn l)
   laid-whole e = laid-length size l e ∙ rw (many, wide, command) refl
 
   -- the leads are those of a line
-  pub lead-no : {t : Bool} → (t ≡ true) ↔ (take (leadLength k) l ≡ fields 6 (leads k (clientBy k l))) → t ≡ false → isLaid size l ≡ true → ⊥
+  pub lead-no : {t : Bool} → (t ≡ true) ↔ (take (leadLength k) l ≡ fields 6 (leads k (clientIn l))) → t ≡ false → isLaid size l ≡ true → ⊥
   lead-no told f e = true≢false (sym (told .1 (rw (← wide) (laid-parts e .lead))) ∙ f)
 
   -- the cells are read into the first bytes of a slice z, and put back as ys
@@ -143,7 +139,7 @@ module _ (size : ℕ) (l : List ℕ) {k w n : ℕ} (command : k ≡ commandIn l)
     pub kept-length : length (ys ++ drop (n - 0) z) ≡ length z
     kept-length = same-len-mid 0 (n - 0) z ys (r .kept)
 
-    pub command-read : (1 ≤ k) × (k ≤ 3) → length l ≡ w + 3 * n + 1 → getD l (w + 3 * n) 0 ≡ 10 → take (leadLength k) l ≡ fields 6 (leads k (clientBy k l)) → t ≡ true → length z ≡ 256 → ReadsCommand size l (ys ++ drop (n - 0) z) k
+    pub command-read : (1 ≤ k) × (k ≤ 3) → length l ≡ w + 3 * n + 1 → getD l (w + 3 * n) 0 ≡ 10 → take (leadLength k) l ≡ fields 6 (leads k (clientIn l)) → t ≡ true → length z ≡ 256 → ReadsCommand size l (ys ++ drop (n - 0) z) k
     command-read range whole feed f y v = record {
       malformed = λ e. absurd (omega arith);
       laid = λ e. parts-laid range whole (record { feed = feed; lead = rw wide f; bytes = d .0; at-most = d .1 });

@@ -19,8 +19,7 @@ use Rattle.layout.specs.Decimal.{field}
 use Rattle.layout.specs.Layout.{fields, numberAt}
 use Rattle.layout.proofs.DecimalLaws.{length-field}
 use Rattle.layout.proofs.LineLaws.{drop-take}
-use Rattle.protocol.specs.Input.{leads, leadLength}
-use Rattle.transcript.specs.Commands.{clientBy}
+use Rattle.protocol.specs.Input.{leads, leadLength, commandIn, clientIn}
 
 module _ (k : ℕ) where
   pub lead-three : k ≡ 3 → leadLength k ≡ 6
@@ -39,28 +38,29 @@ module _ (k : ℕ) where
       go true e = rw (e, leadLength) (omega arith)
       go false e = rw (e, leadLength) (omega arith)
 
-  pub no-client : (l : List ℕ) → k ≡ 3 → clientBy k l ≡ 0
-  unfolding clientBy
-  no-client l e = rw (eq-eqb k 3 e, clientBy) refl
+  module _ (l : List ℕ) (named : k ≡ commandIn l) where
+    pub no-client : k ≡ 3 → clientIn l ≡ 0
+    unfolding clientIn
+    no-client e = rw (eq-eqb (commandIn l) 3 (sym named ∙ e), clientIn) refl
 
-  pub some-client : (l : List ℕ) → (k ≡ 3 → ⊥) → clientBy k l ≡ numberAt 6 6 l
-  unfolding clientBy
-  some-client l n = rw (ne-eqb k 3 n, clientBy) refl
+    pub some-client : (k ≡ 3 → ⊥) → clientIn l ≡ numberAt 6 6 l
+    unfolding clientIn
+    some-client n = rw (ne-eqb (commandIn l) 3 (λ e. n (named ∙ e)), clientIn) refl
 
 -- ---- whether they are laid as they should be
 
 module _ (k : ℕ) (l : List ℕ) (room : leadLength k ≤ length l) where
   abbrev Laid : Type 0
-  Laid = take (leadLength k) l ≡ fields 6 (leads k (clientBy k l))
+  Laid = take (leadLength k) l ≡ fields 6 (leads k (clientIn l))
 
   -- the leads of command 3 and of another, as their fields
-  three-fields : k ≡ 3 → fields 6 (leads k (clientBy k l)) ≡ field 6 k
+  three-fields : k ≡ 3 → fields 6 (leads k (clientIn l)) ≡ field 6 k
   unfolding fields flatten leads
   three-fields e = rw (eq-eqb k 3 e, leads) (append-nil (field 6 k))
 
-  two-fields : (k ≡ 3 → ⊥) → fields 6 (leads k (clientBy k l)) ≡ field 6 k ++ field 6 (clientBy k l)
+  two-fields : (k ≡ 3 → ⊥) → fields 6 (leads k (clientIn l)) ≡ field 6 k ++ field 6 (clientIn l)
   unfolding fields flatten leads
-  two-fields n = rw (ne-eqb k 3 n, leads) (ap (λ (x : List ℕ). field 6 k ++ x) (append-nil (field 6 (clientBy k l))))
+  two-fields n = rw (ne-eqb k 3 n, leads) (ap (λ (x : List ℕ). field 6 k ++ x) (append-nil (field 6 (clientIn l))))
 
   -- the first two fields of a line
   front : (k ≡ 3 → ⊥) → take 12 l ≡ take 6 l ++ take 6 (drop 6 l)
@@ -79,7 +79,7 @@ module _ (k : ℕ) (l : List ℕ) (room : leadLength k ≤ length l) where
       go (yes e) = ap (λ (w : ℕ). take w l) (sym (lead-three k e)) ∙ p ∙ three-fields e
       go (no n) =
           let q = ap (λ (w : ℕ). take w l) (sym (lead-other k n)) ∙ p ∙ two-fields n in
-          sym (take-take 6 12 l (omega arith)) ∙ ap (take 6) q ∙ take-at (field 6 k) (field 6 (clientBy k l)) 6 (length-field 6 k)
+          sym (take-take 6 12 l (omega arith)) ∙ ap (take 6) q ∙ take-at (field 6 k) (field 6 (clientIn l)) 6 (length-field 6 k)
 
   pub lead-no-first : {t : Bool} → (t ≡ true) ↔ (take 6 l ≡ field (length (take 6 l)) k) → t ≡ false → (false ≡ true) ↔ Laid
   lead-no-first told f = (λ e. absurd (true≢false (sym e)), λ p. absurd (true≢false (sym (told .1 (lead-first p)) ∙ f)))
@@ -88,13 +88,13 @@ module _ (k : ℕ) (l : List ℕ) (room : leadLength k ≤ length l) where
     pub lead-alone : k ≡ 3 → (true ≡ true) ↔ Laid
     lead-alone e = (λ u. ap (λ (w : ℕ). take w l) (lead-three k e) ∙ first-of (told .0 y) ∙ sym (three-fields e), λ p. refl)
 
-    pub lead-both : (k ≡ 3 → ⊥) → {u : Bool} {c : ℕ} → c ≡ clientBy k l → (u ≡ true) ↔ (take 6 (drop 6 l) ≡ field (length (take 6 (drop 6 l))) c) → (u ≡ true) ↔ Laid
+    pub lead-both : (k ≡ 3 → ⊥) → {u : Bool} {c : ℕ} → c ≡ clientIn l → (u ≡ true) ↔ (take 6 (drop 6 l) ≡ field (length (take 6 (drop 6 l))) c) → (u ≡ true) ↔ Laid
     lead-both n {u} {c} d tells = (to, back)
       where
         second-six : length (take 6 (drop 6 l)) ≡ 6
         second-six = length-take-le 6 (drop 6 l) (omega (arith, length-drop 6 l, lead-other k n))
 
-        field-is : field (length (take 6 (drop 6 l))) c ≡ field 6 (clientBy k l)
+        field-is : field (length (take 6 (drop 6 l))) c ≡ field 6 (clientIn l)
         field-is = ap₂ field second-six d
 
         to : u ≡ true → Laid
@@ -103,4 +103,4 @@ module _ (k : ℕ) (l : List ℕ) (room : leadLength k ≤ length l) where
         back : Laid → u ≡ true
         back p =
             let q = ap (λ (w : ℕ). take w l) (sym (lead-other k n)) ∙ p ∙ two-fields n in
-            tells .1 (sym (drop-take 6 12 l) ∙ ap (drop 6) q ∙ drop-at (field 6 k) (field 6 (clientBy k l)) 6 (length-field 6 k) ∙ sym field-is)
+            tells .1 (sym (drop-take 6 12 l) ∙ ap (drop 6) q ∙ drop-at (field 6 k) (field 6 (clientIn l)) 6 (length-field 6 k) ∙ sym field-is)

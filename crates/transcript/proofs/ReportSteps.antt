@@ -7,7 +7,7 @@ use mathlib.Core.List.{List, [], _∷_, _++_}
 use Prim.Native.Nat.{ℕ, _≤_}
 use lib.ListN.{length, drop, set}
 use lib.Seq.{length-front, length-take-le}
-use Rattle.lines.specs.Head.{withField}
+use Rattle.layout.specs.Lines.{withField}
 use Rattle.lines.proofs.HeadLaws.{fields-written}
 use Rattle.protocol.specs.Commands.{report}
 use Rattle.protocol.proofs.ReportLaws.{length-report}

@@ -19,10 +19,10 @@ use borrow.Author.Tests.{le-leb, lt-leb}
 use borrow.Rule.Slice.PartMut.{midOf, putMid}
 use Rattle.permutations.proofs.ListLaws.{part-length}
 use Rattle.layout.specs.Layout.{Shape, layoutLength, InLimits}
-use Rattle.machine.specs.Calls.{Outcome, opened, placed, shape}
+use Rattle.calls.specs.Calls.{Outcome, opened, placed, shape}
 use Rattle.machine.specs.Machine.{shown}
 use Rattle.machine.proofs.Demand3Laws.{open-answers}
-use Rattle.machine.proofs.ValidMoves.{tail-part, put-tail}
+use Rattle.calls.proofs.ValidMoves.{tail-part, put-tail}
 use Rattle.protocol.specs.Input.{furtherLines}
 use Rattle.protocol.specs.Commands.{report}
 use Rattle.protocol.specs.Transcript.{byteLimit, shapeIn, startNo, reports, printedRegister, transcript}
@@ -33,7 +33,7 @@ use Rattle.protocol.proofs.RunLaws.{start-refused, register-shown, length-regis
 use Rattle.protocol.proofs.SliceLaws.{has-room}
 use Rattle.transcript.specs.declared.starts.Start.{Start}
 use Rattle.transcript.specs.Answers.{Runs, Answered}
-use Rattle.transcript.specs.Starts.{Starts}
+use Rattle.transcript.specs.Starts.{checkNumber, Starts}
 use Rattle.transcript.specs.Runs.{Ready, Ran}
 
 -- ---- the run after the checks
@@ -121,20 +121,20 @@ module _ (input register out : List ℕ) where
         done (sym (ap length (p .0) ∙ z)) (rw (p .1) refl) (d ∙ rw (p .0, z) refl)
 
     module _ {start : Start} (s : Starts input start) where
-      pub start-ended : (start .number ≡ 0 → ⊥) → {out′ : List ℕ} → out′ ≡ report 0 (start .number) 0 ++ drop 19 out → transcribing 19 register out′ ≡ transcribed input register out
-      start-ended n {out′} e = go (start .number) refl
+      pub start-ended : {number : ℕ} → number ≡ checkNumber (start .found) → (number ≡ 0 → ⊥) → {out′ : List ℕ} → out′ ≡ report 0 number 0 ++ drop 19 out → transcribing 19 register out′ ≡ transcribed input register out
+      start-ended {number} q n {out′} e = go number refl
         where
-          go : (j : ℕ) → start .number ≡ j → transcribing 19 register out′ ≡ transcribed input register out
+          go : (j : ℕ) → number ≡ j → transcribing 19 register out′ ≡ transcribed input register out
           go zero z = absurd (n z)
-          go (suc j) z = ended j (sym (s .number-is) ∙ z) (rw z at e)
+          go (suc j) z = ended j (sym (q ∙ s .number-is) ∙ z) (rw z at e)
 
-      start-zero : start .number ≡ 0 → startNo input ≡ 0
+      start-zero : checkNumber (start .found) ≡ 0 → startNo input ≡ 0
       start-zero z = sym (s .number-is) ∙ z
 
-      pub start-fits : start .number ≡ 0 → start .length ≤ length register
+      pub start-fits : checkNumber (start .found) ≡ 0 → start .length ≤ length register
       start-fits z = omega (arith, s .length-is z, start-pass input .0 (start-zero z) .register-short)
 
-      pub start-ready : start .number ≡ 0 → Ready input start (take (start .length - 0) register) out
+      pub start-ready : checkNumber (start .found) ≡ 0 → Ready input start (take (start .length - 0) register) out
       start-ready z = record {
         passes = start-zero z;
         shape-is = s .shape-is z;
@@ -142,7 +142,7 @@ module _ (input register out : List ℕ) where
         room = h;
       }
 
-      pub run-done : start .number ≡ 0 → {r : ℕ} {ys out′ : List ℕ} → Ran input ys out out′ r → transcribing r (ys ++ drop (start .length - 0) register) out′ ≡ transcribed input register out
+      pub run-done : checkNumber (start .found) ≡ 0 → {r : ℕ} {ys out′ : List ℕ} → Ran input ys out out′ r → transcribing r (ys ++ drop (start .length - 0) register) out′ ≡ transcribed input register out
       unfolding over
       run-done z {ys = ys} d =
           let e : start .length - 0 ≡ length (printedRegister input) = omega (arith, s .length-is z, length-register input (start-zero z)) in

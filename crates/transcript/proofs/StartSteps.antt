@@ -26,32 +26,33 @@ use borrow.Author.Tests.{not-true, not-false}
 use Rattle.permutations.specs.Lists.{All}
 use Rattle.permutations.proofs.BoolLaws.{refuted}
 use Rattle.permutations.proofs.ListLaws.{all-append}
+use Rattle.grids.specs.Asked.{numbersNo}
 use Rattle.grids.proofs.OrderLaws.{equal-eq, eq-equal}
 use Rattle.layout.specs.Decimal.{lead, field}
-use Rattle.layout.specs.Layout.{Shape, headLength, lineLength, fields, layoutLength, numberAt, decodeShape, InLimits}
+use Rattle.layout.specs.Layout.{Shape, fields, numberWidth, rowsPlace, columnsPlace, topPlace, capacityPlace, lineStart, layoutLength, numberAt, decodeShape, InLimits}
 use Rattle.layout.proofs.LineLaws.{drop-take}
-use Rattle.lines.specs.Head.{withField}
+use Rattle.layout.specs.Lines.{withField}
 use Rattle.lines.proofs.HeadLaws.{fields-whole}
-use Rattle.machine.specs.Calls.{shape}
-use Rattle.machine.specs.Valid.{numbersNo}
-use Rattle.register.proofs.OpenSteps.{numbers-limits, length-is}
+use Rattle.calls.specs.Calls.{shape}
+use Rattle.register.proofs.OpenSteps.{numbers-within, length-is}
 use Rattle.protocol.specs.Input.{onto, lines, firstLine, furtherLines, shapeLine}
 use Rattle.protocol.specs.Transcript.{shapeIn, question12, startNo}
 use Rattle.protocol.proofs.LineLaws.{lines-other, lines-joined}
 use Rattle.protocol.proofs.ShapeLaws.{length-shape, shape-length}
 use Rattle.protocol.proofs.StartLaws.{over-limit, start-line, start-numbers, start-length, start-pass}
+use Rattle.transcript.specs.declared.starts.Check.the-variants.{Passed}
 use Rattle.transcript.specs.declared.starts.Start.{Start}
-use Rattle.transcript.specs.Starts.{Starts}
+use Rattle.transcript.specs.Starts.{checkNumber, Starts}
 
 -- ---- line 1 is written
 
-pub shape-written : (l : List ℕ) {o p q r : List ℕ} (s : Shape) → length l ≡ 25 → o ≡ withField 0 (s .rows) l → p ≡ withField 6 (s .columns) o → q ≡ withField 12 (s .top) p →
-    r ≡ withField 18 (s .capacity) q → set r 24 10 ≡ shapeLine s
+pub shape-written : (l : List ℕ) {o p q r : List ℕ} (s : Shape) → length l ≡ 25 → o ≡ withField rowsPlace (s .rows) l → p ≡ withField columnsPlace (s .columns) o → q ≡ withField topPlace (s .top) p →
+    r ≡ withField capacityPlace (s .capacity) q → set r (capacityPlace + numberWidth) 10 ≡ shapeLine s
 unfolding shapeLine
 shape-written l s z a b c d = rw (d, c, b, a) (fields-whole l (s .rows ∷ s .columns ∷ s .top ∷ s .capacity ∷ []) z)
 
-pub line-decides : (input l : List ℕ) {o p q r : List ℕ} {m n top capacity : ℕ} {t : Bool} → length l ≡ 25 → m ≡ numberAt 6 0 input → n ≡ numberAt 6 6 input → top ≡ numberAt 6 12 input → capacity ≡ numberAt 6 18 input →
-    o ≡ withField 0 m l → p ≡ withField 6 n o → q ≡ withField 12 top p → r ≡ withField 18 capacity q → (t ≡ true) ↔ (take (length (set r 24 10)) input ≡ set r 24 10) →
+pub line-decides : (input l : List ℕ) {o p q r : List ℕ} {m n top capacity : ℕ} {t : Bool} → length l ≡ 25 → m ≡ numberAt numberWidth rowsPlace input → n ≡ numberAt numberWidth columnsPlace input → top ≡ numberAt numberWidth topPlace input → capacity ≡ numberAt numberWidth capacityPlace input →
+    o ≡ withField rowsPlace m l → p ≡ withField columnsPlace n o → q ≡ withField topPlace top p → r ≡ withField capacityPlace capacity q → (t ≡ true) ↔ (take (length (set r (capacityPlace + numberWidth) 10)) input ≡ set r (capacityPlace + numberWidth) 10) →
     (t ≡ true) ↔ (take 25 input ≡ shapeLine (decodeShape input))
 unfolding decodeShape
 line-decides input l z e f g h a b c d k =
@@ -155,34 +156,34 @@ rest-lines input e =
 
 -- ---- the ways out
 
-refused : (input : List ℕ) {k : ℕ} → startNo input ≡ k → (k ≡ 0 → ⊥) → {r : Start} → r .number ≡ k → Starts input r
+refused : (input : List ℕ) {k : ℕ} → startNo input ≡ k → (k ≡ 0 → ⊥) → {r : Start} → checkNumber (r .found) ≡ k → Starts input r
 refused input e n p = record { number-is = p ∙ sym e; shape-is = λ z. absurd (n (sym p ∙ z)); length-is = λ z. absurd (n (sym p ∙ z)) }
 
 module _ (input : List ℕ) where
-  pub long-refused : 65536 < length input → {r : Start} → r .number ≡ 11 → Starts input r
+  pub long-refused : 65536 < length input → {r : Start} → checkNumber (r .found) ≡ 11 → Starts input r
   long-refused h p = refused input (over-limit input h) (λ z. omega arith) p
 
   module _ (short : length input ≤ 65536) where
-    unlaid : (take 25 input ≡ shapeLine (decodeShape input) → ⊥) → {r : Start} → r .number ≡ 12 → Starts input r
+    unlaid : (take 25 input ≡ shapeLine (decodeShape input) → ⊥) → {r : Start} → checkNumber (r .found) ≡ 12 → Starts input r
     unlaid n p = refused input (start-line input short (refuted (question12 input .answer) (shape-told input) n)) (λ z. omega arith) p
 
-    pub short-refused : length input < 25 → {r : Start} → r .number ≡ 12 → Starts input r
+    pub short-refused : length input < 25 → {r : Start} → checkNumber (r .found) ≡ 12 → Starts input r
     short-refused h p = unlaid (λ e. omega (arith, shape-whole input (decodeShape input) e)) p
 
-    pub line-refused : {t : Bool} → (t ≡ true) ↔ (take 25 input ≡ shapeLine (decodeShape input)) → not t ≡ true → {r : Start} → r .number ≡ 12 → Starts input r
+    pub line-refused : {t : Bool} → (t ≡ true) ↔ (take 25 input ≡ shapeLine (decodeShape input)) → not t ≡ true → {r : Start} → checkNumber (r .found) ≡ 12 → Starts input r
     line-refused {t} d n p = unlaid (λ e. true≢false (sym (d .1 e) ∙ not-true t n)) p
 
 pub record LineRead (input : List ℕ) (m n top capacity : ℕ) : Type 0 where
   pub short : length input ≤ 65536
   pub laid : take 25 input ≡ shapeLine (decodeShape input)
-  pub rows-read : m ≡ numberAt 6 0 input
-  pub columns-read : n ≡ numberAt 6 6 input
-  pub top-read : top ≡ numberAt 6 12 input
-  pub capacity-read : capacity ≡ numberAt 6 18 input
+  pub rows-read : m ≡ numberAt numberWidth rowsPlace input
+  pub columns-read : n ≡ numberAt numberWidth columnsPlace input
+  pub top-read : top ≡ numberAt numberWidth topPlace input
+  pub capacity-read : capacity ≡ numberAt numberWidth capacityPlace input
 
 module _ {input : List ℕ} {m n top capacity : ℕ} where
-  pub line-read : {t : Bool} → length input ≤ 65536 → (t ≡ true) ↔ (take 25 input ≡ shapeLine (decodeShape input)) → not t ≡ false → m ≡ numberAt 6 0 input → n ≡ numberAt 6 6 input → top ≡ numberAt 6 12 input →
-      capacity ≡ numberAt 6 18 input → LineRead input m n top capacity
+  pub line-read : {t : Bool} → length input ≤ 65536 → (t ≡ true) ↔ (take 25 input ≡ shapeLine (decodeShape input)) → not t ≡ false → m ≡ numberAt numberWidth rowsPlace input → n ≡ numberAt numberWidth columnsPlace input → top ≡ numberAt numberWidth topPlace input →
+      capacity ≡ numberAt numberWidth capacityPlace input → LineRead input m n top capacity
   line-read {t} s d l a b c e = record { short = s; laid = d .0 (not-false t l); rows-read = a; columns-read = b; top-read = c; capacity-read = e }
 
   module _ (o : LineRead input m n top capacity) where
@@ -193,27 +194,26 @@ module _ {input : List ℕ} {m n top capacity : ℕ} where
     line-yes : question12 input .answer ≡ true
     line-yes = shape-told input .1 (o .laid)
 
-    module _ {k : ℕ} (e : k ≡ numbersNo (shape m n top capacity)) where
-      pub numbers-refused : (k ≡ 0 → ⊥) → {r : Start} → r .number ≡ k → Starts input r
-      numbers-refused h p = refused input (go k (sym (rw states at e)) h) h p
-        where
-          go : (k : ℕ) → numbersNo (shapeIn input) ≡ k → (k ≡ 0 → ⊥) → startNo input ≡ k
-          go zero d n = absurd (n refl)
-          go (suc k) d n = start-numbers input (o .short) line-yes k d
+    pub numbers-refused : {k : ℕ} → k ≡ numbersNo m n top capacity → (k ≡ 0 → ⊥) → {r : Start} → checkNumber (r .found) ≡ k → Starts input r
+    numbers-refused {k} e h p = refused input (go k (sym (e ∙ ap (λ (s : Shape). numbersNo (s .rows) (s .columns) (s .top) (s .capacity)) states)) h) h p
+      where
+        go : (k : ℕ) → numbersNo (shapeIn input .rows) (shapeIn input .columns) (shapeIn input .top) (shapeIn input .capacity) ≡ k → (k ≡ 0 → ⊥) → startNo input ≡ k
+        go zero d n = absurd (n refl)
+        go (suc k) d n = start-numbers input (o .short) line-yes k d
 
-      module _ (z : k ≡ 0) {x : ℕ} (q : x ≡ headLength + capacity * lineLength (m * n)) where
-        within : InLimits (shapeIn input)
-        within = rw states at (numbers-limits (shape m n top capacity) e z)
+    module _ (z : 0 ≡ numbersNo m n top capacity) {x : ℕ} (q : x ≡ lineStart (m * n) capacity) where
+      within : InLimits (shapeIn input)
+      within = rw states at (numbers-within (shape m n top capacity) z)
 
-        sized : x ≡ layoutLength (shapeIn input)
-        sized = rw (← states) (length-is (shape m n top capacity) q)
+      sized : x ≡ layoutLength (shapeIn input)
+      sized = rw (← states) (length-is (shape m n top capacity) q)
 
-        pub length-refused : 65536 < x → {r : Start} → r .number ≡ 13 → Starts input r
-        length-refused h p = refused input (start-length input (o .short) line-yes within (omega (arith, sized))) (λ d. omega arith) p
+      pub length-refused : 65536 < x → {r : Start} → checkNumber (r .found) ≡ 13 → Starts input r
+      length-refused h p = refused input (start-length input (o .short) line-yes within (omega (arith, sized))) (λ d. omega arith) p
 
-        pub start-made : x ≤ 65536 → Starts input (record { number = 0; rows = m; columns = n; top = top; capacity = capacity; length = x })
-        start-made h = record {
-          number-is = sym (start-pass input .1 (record { input-short = o .short; line-laid = line-yes; limits = within; register-short = omega (arith, sized) }));
-          shape-is = λ d. states;
-          length-is = λ d. sized;
-        }
+      pub start-made : x ≤ 65536 → Starts input (record { found = Passed; rows = m; columns = n; top = top; capacity = capacity; length = x })
+      start-made h = record {
+        number-is = sym (start-pass input .1 (record { input-short = o .short; line-laid = line-yes; limits = within; register-short = omega (arith, sized) }));
+        shape-is = λ d. states;
+        length-is = λ d. sized;
+      }

@@ -9,7 +9,7 @@ use Prim.Native.Nat.{ℕ, _≤_}
 use lib.ListN.{length, drop}
 use Rattle.machine.specs.CallLists.{registerCalls}
 use Rattle.machine.specs.Machine.{shown}
-use Rattle.machine.specs.Calls.{placed}
+use Rattle.calls.specs.Calls.{placed}
 use Rattle.protocol.specs.Input.{furtherLines}
 use Rattle.protocol.specs.Readings.{readBy, commandOf, answeredBy}
 use Rattle.protocol.specs.Transcript.{shapeIn, startNo, reports, setAfter}

@@ -1,6 +1,5 @@
 -- Command lines as the code reads them. Between functions: no answer of a call is defined here.
 --
---   clientBy k l           ==  the client that a line of the command k states; 0 for command 3
 --   ReadsCommand size line cells r  ==  r is the command of a line that is laid as it should be, and its cells are in front; 0 for another line
 --   Parts c size low high  ==  the bounds that the cells c hold in turn
 --   PrunesParted m n top c number low high  ==  what prune answers and leaves of these bounds
@@ -9,14 +8,9 @@ use mathlib.Core.List.{List}
 use mathlib.Core.Bool.{true, false}
 use Prim.Native.Nat.{ℕ, _≤_}
 use lib.ListN.{length, take}
-use lib.Dec.{eqb}
-use Rattle.layout.specs.Layout.{numberAt}
 use Rattle.protocol.specs.Input.{cellCount, commandIn, cellsIn, isLaid}
 use Rattle.protocol.specs.Commands.{lows, highs}
 use Rattle.protocol.specs.Readings.{prunedCells}
-
-unfoldable pub clientBy : ℕ → List ℕ → ℕ
-clientBy k l = elim (eqb k 3) [ true ↦ 0 | false ↦ numberAt 6 6 l ]
 
 pub record ReadsCommand (size : ℕ) (line cells : List ℕ) (r : ℕ) : Type 0 where
   pub malformed : r ≡ 0 → isLaid size line ≡ false

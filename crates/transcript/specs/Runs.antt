@@ -6,7 +6,7 @@ use mathlib.Core.Path.{_≡_}
 use mathlib.Core.List.{List}
 use Prim.Native.Nat.{ℕ, _≤_}
 use lib.ListN.{length}
-use Rattle.machine.specs.Calls.{shape}
+use Rattle.calls.specs.Calls.{shape}
 use Rattle.layout.specs.Layout.{layoutLength}
 use Rattle.protocol.specs.Transcript.{shapeIn, startNo, printedRegister, transcript}
 use Rattle.protocol.specs.Programs.{outputLimit, over}

@@ -3,11 +3,13 @@ use crate::commands;
 use crate::input::line_end;
 use crate::reports;
 use crate::reports::Report;
+use crate::starts;
+use crate::starts::Check;
 ghost use Prim.Native.Nat.{_*_, _≤_};
 ghost use Rattle.transcript.specs.Answers.{Answers, Answered, Runs};
 
-// Answers a command line on a register of m rows, n columns and this top. Returns what is printed for it: 0, 12 and 0 where the
-// line is not laid as it should be.
+// Answers a command line on a register of m rows, n columns and this top. Returns what is printed for it; where the line is
+// not laid as it should be, command 0 and place 0.
 fn answer_line(line: &[u8], m: usize, n: usize, top: usize, register: &mut [u8]) -> Report
     requires { ⌜ m * n ≤ 128 ⌝ }
     ensures { λ r. ⌜ Answers m n top (now (line .entry)) (now (register .entry)) (now (register .exit)) r ⌝ }
@@ -18,7 +20,7 @@ fn answer_line(line: &[u8], m: usize, n: usize, top: usize, register: &mut [u8])
     if command == 0 {
         return Report {
             command: 0,
-            number: 12,
+            number: Check::Malformed.number(),
             place: 0,
         };
     }
@@ -45,7 +47,7 @@ pub fn answer_lines(
     requires { ⌜ Runs (now input) m n top (now register) (now out) ⌝ }
     ensures { λ r. ⌜ Answered (now (input .entry)) (now (register .exit)) (now (out .entry)) (now (out .exit)) r ⌝ }
 {
-    let mut at = 25;
+    let mut at = starts::LENGTH;
     let mut printed = 0;
     while at < input.len() {
         let end = line_end(input, at);

@@ -13,10 +13,10 @@ ghost use Prim.Native.Nat.{_*_, _≤_};
 ghost use lib.ListN.{length, take};
 ghost use Rattle.layout.specs.Layout.{fields};
 ghost use Rattle.machine.specs.CallLists.{registerCalls};
-ghost use Rattle.machine.specs.Calls.{placed};
-ghost use Rattle.protocol.specs.Input.{cellCount, leads, leadLength};
+ghost use Rattle.calls.specs.Calls.{placed};
+ghost use Rattle.protocol.specs.Input.{cellCount, leads, leadLength, commandIn, clientIn};
 ghost use Rattle.protocol.specs.Readings.{readCommand, answeredBy};
-ghost use Rattle.transcript.specs.Commands.{clientBy, ReadsCommand, Parts, PrunesParted};
+ghost use Rattle.transcript.specs.Commands.{ReadsCommand, Parts, PrunesParted};
 
 // How many cells a command has, of grids with so many.
 pub fn cell_count(size: usize, command: usize) -> usize
@@ -39,10 +39,10 @@ fn lead_length(command: usize) -> usize
     12
 }
 
-// The client that a line of a command states; 0 for command 3, which names none.
+// The client that a line states, whose command is known; 0 for command 3, which names none.
 pub fn read_client(line: &[u8], command: usize) -> usize
-    requires { ⌜ leadLength command ≤ length (now line) ⌝ }
-    ensures { λ r. ⌜ r ≡ clientBy command (now (line .entry)) ⌝ }
+    requires { ⌜ (command ≡ commandIn (now line)) × (leadLength command ≤ length (now line)) ⌝ }
+    ensures { λ r. ⌜ r ≡ clientIn (now (line .entry)) ⌝ }
 {
     if command == 3 {
         return 0;
@@ -50,10 +50,10 @@ pub fn read_client(line: &[u8], command: usize) -> usize
     numbers::six_wide(line, 6)
 }
 
-// Whether what stands before the cells of a line of a command is laid as it should be.
+// Whether what stands before the cells of a line is laid as it should be.
 fn lead_laid(line: &[u8], command: usize) -> bool
-    requires { ⌜ leadLength command ≤ length (now line) ⌝ }
-    ensures { λ r. ⌜ ((r ≡ true) ↔ (take (leadLength command) (now (line .entry)) ≡ fields 6 (leads command (clientBy command (now (line .entry)))))) ⌝ }
+    requires { ⌜ (command ≡ commandIn (now line)) × (leadLength command ≤ length (now line)) ⌝ }
+    ensures { λ r. ⌜ ((r ≡ true) ↔ (take (leadLength command) (now (line .entry)) ≡ fields 6 (leads command (clientIn (now (line .entry)))))) ⌝ }
 {
     if !fields::is_field(&line[0..6], command) {
         return false;
@@ -124,7 +124,7 @@ fn prune_parted(
     ensures { λ r. ⌜ PrunesParted m n top (now (cells .entry)) r (now (low .exit)) (now (high .exit)) ⌝ }
 {
     part(cells, low, high);
-    prune::prune(m, n, top, low, high).number
+    prune::prune(m, n, top, low, high).counted().number
 }
 
 // Command 3: prunes the bounds that cells hold in turn, and where prune's number is 0 counts the entries within what it leaves; the
@@ -140,7 +140,7 @@ fn count_pruned(register: &[u8], m: usize, n: usize, top: usize, cells: &[u8]) -
     if number != 0 {
         return Placed { number, place: 0 };
     }
-    let found = counts::count(register, &low[0..size], &high[0..size]);
+    let found = counts::count(register, &low[0..size], &high[0..size]).counted();
     Placed {
         number: found.number,
         place: found.count,
@@ -161,10 +161,10 @@ pub fn make_call(
     ensures { λ r. ⌜ placed (r .number) (r .place) (now (register .exit)) ≡ answeredBy registerCalls (now (register .entry)) (readCommand m n top command client (now (cells .entry))) ⌝ }
 {
     if command == 1 {
-        return entering::enter(register, client, cells);
+        return entering::enter(register, client, cells).placed();
     }
     if command == 2 {
-        return striking::strike(register, client, cells);
+        return striking::strike(register, client, cells).placed();
     }
     count_pruned(register, m, n, top, cells)
 }

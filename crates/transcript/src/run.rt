@@ -40,12 +40,14 @@ pub fn transcribe(input: &[u8], register: &mut [u8], out: &mut [u8]) -> usize
         return 0;
     }
     let start = starts::check_input(input);
-    if start.number != 0 {
+    let found = start.found;
+    let number = found.number();
+    if number != 0 {
         reports::write_report(
             out,
             Report {
                 command: 0,
-                number: start.number,
+                number,
                 place: 0,
             },
         );

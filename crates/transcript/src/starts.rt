@@ -1,9 +1,11 @@
 // What is asked before any command.
+use grids::questions;
 use lines::entries;
 use lines::equality;
 use lines::head;
 use lines::numbers;
-use register::opening;
+use refusals::Asked;
+use refusals::Refusal;
 ghost use mathlib.Core.Path.{_≡_};
 ghost use mathlib.Core.Bool.{true};
 ghost use mathlib.Core.Logic.{_↔_};
@@ -11,11 +13,42 @@ ghost use Prim.Native.Nat.{_≤_};
 ghost use lib.ListN.{length, take};
 ghost use Rattle.layout.specs.Layout.{decodeShape};
 ghost use Rattle.protocol.specs.Input.{shapeLine};
-ghost use Rattle.transcript.specs.Starts.{Starts};
+ghost use Rattle.transcript.specs.Starts.{checkNumber, Starts};
 
-// The first no of the checks, or 0; and if it is 0 what line 1 states, and how many bytes the register has.
+// Line 1 of the input has the first four numbers of a register's line 1, at the same places. Where its line feed stands, and how many
+// bytes it has.
+const FEED: usize = head::CAPACITY + head::WIDTH;
+
+pub const LENGTH: usize = FEED + 1;
+
+// What the checks find: each gets a yes; or the input is too long, a line is not laid as it should be, open would be refused, or the
+// register is too long.
+pub enum Check {
+    Passed,
+    LongInput,
+    Malformed,
+    Refused(Refusal),
+    LongRegister,
+}
+
+impl Check {
+    // The number that is printed, or 0.
+    pub fn number(self) -> u32
+        ensures { λ r. ⌜ r ≡ checkNumber self ⌝ }
+    {
+        match self {
+            Check::Passed => 0,
+            Check::LongInput => 11,
+            Check::Malformed => 12,
+            Check::Refused(refusal) => refusal.number(),
+            Check::LongRegister => 13,
+        }
+    }
+}
+
+// What the checks find; and if each gets a yes what line 1 states, and how many bytes the register has.
 pub struct Start {
-    pub number: u32,
+    pub found: Check,
     pub rows: usize,
     pub columns: usize,
     pub top: usize,
@@ -23,12 +56,12 @@ pub struct Start {
     pub length: usize,
 }
 
-// A number alone.
-fn refusal(number: u32) -> Start
-    ensures { λ r. ⌜ r .number ≡ number ⌝ }
+// A no alone.
+fn ended(found: Check) -> Start
+    ensures { λ r. ⌜ r .found ≡ found ⌝ }
 {
     Start {
-        number,
+        found,
         rows: 0,
         columns: 0,
         top: 0,
@@ -42,12 +75,20 @@ fn line_laid(input: &[u8]) -> bool
     requires { ⌜ 25 ≤ length (now input) ⌝ }
     ensures { λ r. ⌜ ((r ≡ true) ↔ (take 25 (now (input .entry)) ≡ shapeLine (decodeShape (now (input .entry))))) ⌝ }
 {
-    let mut line = [0u8; 25];
-    head::write_field(&mut line, 0, numbers::six_wide(input, 0));
-    head::write_field(&mut line, 6, numbers::six_wide(input, 6));
-    head::write_field(&mut line, 12, numbers::six_wide(input, 12));
-    head::write_field(&mut line, 18, numbers::six_wide(input, 18));
-    line[24] = 10;
+    let mut line = [0u8; LENGTH];
+    head::write_field(&mut line, head::ROWS, numbers::six_wide(input, head::ROWS));
+    head::write_field(
+        &mut line,
+        head::COLUMNS,
+        numbers::six_wide(input, head::COLUMNS),
+    );
+    head::write_field(&mut line, head::TOP, numbers::six_wide(input, head::TOP));
+    head::write_field(
+        &mut line,
+        head::CAPACITY,
+        numbers::six_wide(input, head::CAPACITY),
+    );
+    line[FEED] = 10;
     equality::begins_with(input, &line)
 }
 
@@ -56,28 +97,27 @@ pub fn check_input(input: &[u8]) -> Start
     ensures { λ r. ⌜ Starts (now (input .entry)) r ⌝ }
 {
     if 65536 < input.len() {
-        return refusal(11);
+        return ended(Check::LongInput);
     }
-    if input.len() < 25 {
-        return refusal(12);
+    if input.len() < LENGTH {
+        return ended(Check::Malformed);
     }
     if !line_laid(input) {
-        return refusal(12);
+        return ended(Check::Malformed);
     }
-    let rows = numbers::six_wide(input, 0);
-    let columns = numbers::six_wide(input, 6);
-    let top = numbers::six_wide(input, 12);
-    let capacity = numbers::six_wide(input, 18);
-    let number = opening::numbers_no(rows, columns, top, capacity);
-    if number != 0 {
-        return refusal(number);
+    let rows = numbers::six_wide(input, head::ROWS);
+    let columns = numbers::six_wide(input, head::COLUMNS);
+    let top = numbers::six_wide(input, head::TOP);
+    let capacity = numbers::six_wide(input, head::CAPACITY);
+    if let Asked::No(refusal) = questions::ask_numbers(rows, columns, top, capacity) {
+        return ended(Check::Refused(refusal));
     }
-    let length = entries::register_length(rows * columns, capacity);
+    let length = entries::line_start(rows * columns, capacity);
     if 65536 < length {
-        return refusal(13);
+        return ended(Check::LongRegister);
     }
     Start {
-        number: 0,
+        found: Check::Passed,
         rows,
         columns,
         top,

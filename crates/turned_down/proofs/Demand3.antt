@@ -1,221 +1,302 @@
--- Faulty programs for the register do not meet demand 3. Between them, and with those of Holdings, they need every sentence of it.
+-- Faulty programs for the register do not meet demand 3: a fault is refuted on every register reached by calls, by what the machine does there.
 --
---   The names are those of the faults.
-use mathlib.Core.Path.{_≡_, refl, sym, ap, subst, _∙_}
-use mathlib.Core.List.{List, [], _∷_}
-use mathlib.Core.Bool.{true, true≢false, not}
-use Prim.Native.Nat.{ℕ, suc, _≤_}
+--   count-as-defined    ==  there a count answers what its definition does
+--   some-selected       ==  a list with an element that passes a test has some that do
+--   appends, misplaces  ==  AppendsEntries and Misplaces, of enter and of a terminal's enter
+--   The other names are those of the faults.
+use mathlib.Core.Path.{_≡_, refl, sym, ap, _∙_}
+use mathlib.Core.List.{List, [], _∷_, List·Memᴰ, List·Memᴰ·not-nil}
+use mathlib.Core.Bool.{Bool, true, true≢false, not}
+use Prim.Native.Nat.{ℕ, suc, _-_}
 use native.Mathlib.Omega.{arith}
-use lib.ListN.{length, drop}
-use lib.Dec.{eqb}
-use Rattle.permutations.specs.Lists.{every}
-use Rattle.permutations.proofs.BoolLaws.{and-yes}
-use Rattle.layout.specs.Layout.{count}
-use Rattle.machine.specs.Calls.{Outcome, leastIn, heldBy}
-use Rattle.machine.specs.CallLists.{enter, strike, countIn, called, run, left, accepted}
+use lib.ListN.{length, length-map}
+use Rattle.permutations.specs.Lists.{select, every, All}
+use Rattle.permutations.proofs.SelectLaws.{in-select, select-split}
+use Rattle.grids.specs.Order.{less}
+use Rattle.grids.proofs.LentLaws.{small-word, tested-bytes}
+use Rattle.layout.specs.Layout.{Shape, Entry, gridsOf, gridSize, count, entryAt, decodeShape, decode}
+use Rattle.layout.specs.Lines.{lineAt}
+use Rattle.calls.specs.Entries.{leastIn, placeIn}
+use Rattle.calls.specs.Calls.{Outcome, placed, entriesIn, counted, accepted}
+use Rattle.calls.proofs.EntryLaws.{holds-in}
+use Rattle.calls.proofs.RefusalLaws.{count-numbers}
+use Rattle.machine.specs.CallLists.{enter, countIn, Implementation, registerCalls, LentCall, called}
 use Rattle.machine.specs.Machine.{shown, outcome}
-use Rattle.machine.specs.Demand3.{holdingOf, Demand3}
-use Rattle.machine.proofs.SortedLaws.{Entries}
-use Rattle.machine.proofs.MachineLaws.{afterwards}
-use Rattle.machine.proofs.LiveLists.{counts-live, sent-live, pruned-live}
-use Rattle.machine.proofs.FollowLaws.{Follows, after-open, follows-open, follows-call, follows-next, lists-after}
-use Rattle.turned_down.specs.RegisterFaults.{StoresFirst, FullUnlooked, NotHeldUnlooked, InventsCount, InventsCounts, LeavesOutHighs, AnswersNone, CountsArrangements, lastEntry, LeavesLastLine, AppendsEntries, PlacesFromZero, InsertsLate, OpensNothing, EntersNothing, OpensAnySlice, RefusesOwnBytes}
-use Rattle.turned_down.specs.TurnedDown.{fault, Turned}
+use Rattle.machine.specs.Demand3.{Demand3}
+use Rattle.machine.proofs.MachineLaws.{empty-good}
+use Rattle.machine.proofs.CallListLaws.{tested-call, limits-lent-shape}
+use Rattle.machine.proofs.Demand3Laws.{shown-count}
+use Rattle.machine.proofs.NewEntryLaws.{new-set, new-stands}
+use Rattle.machine.proofs.ReachedLaws.{shown-length, shown-blank, counted-entries, counted-most, never-answers, stands-call, own-call}
+use Rattle.turned_down.specs.RegisterFaults.{Reached, StoresFirst, FullUnlooked, NotHeldUnlooked, InventsCount, InventsCounts, LeavesOutHighs, AnswersNone, CountsArrangements, LeavesLastLine, AppendsEntries, PlacesFromZero, Misplaces, OpensNothing, EntersNothing, OpensAnySlice, RefusesOwnBytes, bookFaults}
+use Rattle.turned_down.specs.Faults.{fault, Turned}
 use Rattle.turned_down.proofs.Differences.{unequal}
-use Rattle.turned_down.proofs.RegisterCases.{cell, zero, one, zero-entry, one-entry, column, column-entry, column-low, computed, limits, column-limits, slice, opening, held-after, first-enter, second-enter, held-enter, lower-enter, first-strike, none-count, zero-count, number-is, place-is, bytes-are, plain, entering}
-use Rattle.turned_down.proofs.LateEntry.{enteredLate, late-line}
+use Rattle.turned_down.proofs.RegisterCases.{cell, zero, one, zero-entry, one-entry, with, column, column-entry, column-low, computed, limits, column-limits, plain, entering, striking-by, counting, any-reached, any-client, any-bounds, slice, slice-bytes, opening, first-enter, late, left-line, standing}
+use Rattle.turned_down.proofs.ClientCalls.{Kind, Entering, seen, seen-new, seen-raised}
+use Rattle.turned_down.proofs.ClientCalls as kinds
 
-pub stores-first : Turned (fault Demand3 StoresFirst)
-unfolding StoresFirst left called
+-- ---- plans that are not stored, and refusals unlooked
+
+stores-first : Turned (fault Demand3 StoresFirst)
+unfolding called accepted
 stores-first = record {
-  example = plain 0 1;
-  done = λ b c g h. refl;
-  refused = λ i f d.
-      let b = shown cell [] in
-      let calls = enter 1 zero ∷ [] in
-      let more = enter 1 zero ∷ enter 1 one ∷ [] in
-      let o = ap (λ (x : Outcome). x .bytes) (opening i d) in
-      let held : 1 ≤ count (i .enters b 1 zero .bytes) = rw (bytes-are _ _ (first-enter i d)) (omega (arith, computed .zero-counted)) in
-      let acknowledged : left i b calls ≡ left i b more = sym (f (i .enters b 1 zero .bytes) 1 one held) in
-      let same = after-open i d cell limits calls .bytes-holdings slice (ap (λ (x : Outcome). x .number) (opening i d)) more .0 (acknowledged ∙ ap (λ (x : List ℕ). left i x more) (sym o)) one refl 1 (omega arith) (omega arith) in
-      let before = held-after i d calls one refl 1 (omega arith) ∙ computed .one-absent in
-      let after = ap (λ (x : List ℕ). holdingOf i cell x more 1 one) o ∙ held-after i d more one refl 1 (omega arith) ∙ computed .one-lives in
-      omega arith;
+  example = entering (λ b c g. placed 0 1 b);
+  done = record {
+    on = any-client (entering (λ b c g. placed 0 1 b)) cell limits (with (zero-entry ∷ [])) (computed .zero-slice) refl 1 one refl;
+    some = omega (arith, computed .zero-counted);
+    new = refl;
+    kept = refl;
+  };
+  refused = λ i f d. kinds.unstored kinds.entering i d (f .on) (ap accepted (f .new)) (f .kept);
 }
 
-pub full-unlooked : Turned (fault Demand3 FullUnlooked)
-unfolding FullUnlooked accepted
+full-unlooked : Turned (fault Demand3 FullUnlooked)
+unfolding called accepted
 full-unlooked = record {
-  example = plain 9 0;
-  done = λ b c g h. refl;
-  refused = λ i f d.
-      true≢false (sym (ap accepted (number-is _ _ (held-enter i d))) ∙ f (shown cell (one-entry ∷ zero-entry ∷ [])) 2 zero (computed .both-counted ∙ sym (computed .both-full)));
+  example = entering (λ b c g. placed 9 0 b);
+  done = record {
+    on = any-client (entering (λ b c g. placed 9 0 b)) cell limits (with (one-entry ∷ zero-entry ∷ [])) (computed .both-slice) refl 2 zero refl;
+    full = computed .both-counted ∙ sym (computed .both-full);
+    asked = computed .full-asked;
+    refused = refl;
+  };
+  refused = λ i f d. kinds.turned-away kinds.entering i d (f .on) (f .asked) 9 (f .refused) refl;
 }
 
-pub not-held-unlooked : Turned (fault Demand3 NotHeldUnlooked)
-unfolding NotHeldUnlooked
+not-held-unlooked : Turned (fault Demand3 NotHeldUnlooked)
+unfolding called accepted
 not-held-unlooked = record {
-  example = plain 10 0;
-  done = λ b c g z. omega arith;
-  refused = λ i f d. f (shown cell (zero-entry ∷ [])) 1 zero (number-is _ _ (first-strike i d));
+  example = striking-by (λ b c g. placed 10 0 b);
+  done = record {
+    on = any-client (striking-by (λ b c g. placed 10 0 b)) cell limits (with (zero-entry ∷ [])) (computed .zero-slice) refl 1 zero refl;
+    asked = computed .held-asked;
+    refused = refl;
+  };
+  refused = λ i f d. kinds.turned-away kinds.striking i d (f .on) (f .asked) 10 (f .refused) refl;
 }
 
-pub invents-count : Turned (fault Demand3 InventsCount)
-unfolding InventsCount left called
+-- ---- counts
+
+invents-count : Turned (fault Demand3 InventsCount)
+unfolding called
 invents-count = record {
-  example = entering (λ b c g. record { number = 0; place = 1; bytes = [] });
-  done = λ b c g b′ c′ g′ z z′. refl;
+  example = entering (λ b c g. placed 0 1 b);
+  done = record {
+    on = any-client (entering (λ b c g. placed 0 1 b)) cell limits (with []) (computed .none-slice) refl 1 zero refl;
+    new = refl;
+    other = λ e. omega (arith, e, computed .none-counted);
+  };
   refused = λ i f d.
-      let b = shown cell [] in
-      let one-call = enter 1 zero ∷ [] in
-      let two-calls = enter 1 zero ∷ enter 1 one ∷ [] in
-      let first = counts-live i cell b one-call (after-open i d cell limits one-call) _ (lists-after i d cell limits one-call) ∙ computed .first-lives in
-      let both = counts-live i cell b two-calls (after-open i d cell limits two-calls) _ (lists-after i d cell limits two-calls) ∙ computed .both-live in
-      let z : i .enters (i .enters b 1 zero .bytes) 1 one .number ≡ 0 = rw (bytes-are _ _ (first-enter i d)) (number-is _ _ (second-enter i d)) in
-      let same = f b 1 zero (i .enters b 1 zero .bytes) 1 one (number-is _ _ (first-enter i d)) z in
-      omega arith;
+      let w = seen kinds.entering i d (f .on) in
+      let s = f .on .from .shape in
+      let set = new-set s (w .set) (f .on .client) (f .on .grid) (w .after) (seen-new kinds.entering i d (f .on) kinds.enters (f .new)) (seen-raised kinds.entering i d (f .on) kinds.enters (f .new)) in
+      f .other (ap count (w .bytes-are) ∙ shown-count s (w .after .next) (w .after-good) ∙ ap length set ∙ ap suc (sym (w .counts)));
 }
 
-pub invents-counts : Turned (fault Demand3 InventsCounts)
-unfolding InventsCounts left called accepted
+-- what a count answers on a register reached by calls
+count-as-defined : (i : Implementation) → Demand3 i → (r : Reached i) (low high : List ℕ) → LentCall (countIn low high) → i .counts (r .register) low high ≡ counted (r .register) low high
+unfolding called registerCalls
+count-as-defined i d r low high lent = own-call i (r .shape) (r .register) (standing i d r) (countIn low high) lent
+
+invents-counts : Turned (fault Demand3 InventsCounts)
+unfolding LentCall
 invents-counts = record {
-  example = plain 0 3;
-  done = λ b b′ low high z z′. refl;
+  example = counting (λ b low high. placed 0 3 b);
+  done = record {
+    on = any-bounds (counting (λ b low high. placed 0 3 b)) cell limits (with []) (computed .none-slice) refl zero one refl;
+    counted = refl;
+    other = λ e. omega (arith, e, computed .none-sent);
+  };
   refused = λ i f d.
-      let b = shown cell [] in
-      let calls = enter 1 zero ∷ [] in
-      let later : i .counts (i .enters b 1 zero .bytes) zero one .number ≡ 0 = rw (bytes-are _ _ (first-enter i d)) (number-is _ _ (zero-count i d)) in
-      let none = sent-live i cell b [] (after-open i d cell limits []) _ (lists-after i d cell limits []) zero one (ap accepted (number-is _ _ (none-count i d))) ∙ computed .none-inside in
-      let first = sent-live i cell b calls (after-open i d cell limits calls) _ (lists-after i d cell limits calls) zero one (ap accepted later) ∙ computed .first-inside in
-      let same = f b (i .enters b 1 zero .bytes) zero one (number-is _ _ (none-count i d)) later in
-      omega arith;
+      let o = count-as-defined i d (f .on .from) (f .on .low) (f .on .high) (f .on .low-bytes, f .on .high-bytes) in
+      f .other (ap (λ (x : Outcome). x .place) o ∙ counted-entries (f .on .from .register) (f .on .low) (f .on .high) (sym (ap (λ (x : Outcome). x .number) o) ∙ f .counted));
 }
 
-pub leaves-out-highs : Turned (fault Demand3 LeavesOutHighs)
-unfolding LeavesOutHighs left called
+some-selected : {A : Type 0} (t : A → Bool) (x : A) (l : List A) → List·Memᴰ x l → t x ≡ true → length (select t l) ≡ 0 → ⊥
+some-selected {A} t x l m e = empty (select t l) (in-select t x l m e)
+  where
+    empty : (k : List A) → List·Memᴰ x k → length k ≡ 0 → ⊥
+    empty [] n z = List·Memᴰ·not-nil n
+    empty (y ∷ k) n z = omega arith
+
+leaves-out-highs : Turned (fault Demand3 LeavesOutHighs)
+unfolding entriesIn decode LentCall
 leaves-out-highs = record {
-  example = plain 0 0;
-  done = λ b bounds. refl;
+  example = counting (λ b low high. placed 0 0 b);
+  done = record {
+    from = any-reached (counting (λ b low high. placed 0 0 b)) cell limits (with (zero-entry ∷ [])) (computed .zero-slice) refl;
+    bounds = zero;
+    bounds-bytes = tested-bytes zero refl;
+    entry = zero;
+    stands = computed .zero-stands;
+    lies = computed .zero-lies;
+    counted = refl;
+    none = refl;
+  };
   refused = λ i f d.
-      let b = shown cell [] in
-      let calls = enter 1 zero ∷ [] in
-      let first = pruned-live i cell b calls (after-open i d cell limits calls) _ (lists-after i d cell limits calls) zero zero (computed .zero-prunes) ∙ computed .zero-inside in
-      let one-counted : i .counts (i .enters b 1 zero .bytes) zero zero .place ≡ 1 = rw (computed .zero-low, computed .zero-high) at first in
-      let none = f (i .enters b 1 zero .bytes) zero in
-      omega arith;
+      let b = f .from .register in
+      let o = count-as-defined i d (f .from) (f .bounds) (f .bounds) (f .bounds-bytes, f .bounds-bytes) in
+      let all = counted-entries b (f .bounds) (f .bounds) (sym (ap (λ (x : Outcome). x .number) o) ∙ f .counted) in
+      some-selected _ (f .entry) _ (holds-in (f .entry) _ (f .stands)) (f .lies) (sym all ∙ sym (ap (λ (x : Outcome). x .place) o) ∙ f .none);
 }
 
-pub answers-none : Turned (fault Demand3 AnswersNone)
-unfolding AnswersNone run called every
+answers-none : Turned (fault Demand3 AnswersNone)
+unfolding LentCall
 answers-none = record {
-  example = plain 102 0;
-  done = λ b low high z. refl;
+  example = counting (λ b low high. placed 102 0 b);
+  done = record {
+    on = any-bounds (counting (λ b low high. placed 102 0 b)) column column-limits (shown column []) (computed .column-none-slice) refl column-low column-low refl;
+    none = computed .column-prunes;
+    answers = refl;
+  };
   refused = λ i f d.
-      let b = shown column [] in
-      let never = and-yes (not (eqb (i .counts b column-low column-low .number) 102)) true (after-open i d column column-limits (countIn column-low column-low ∷ []) .never-none) .0 in
-      true≢false (sym never ∙ ap (λ (k : ℕ). not (eqb k 102)) (f b column-low column-low (computed .none-prunes)));
+      let b = f .on .from .register in
+      let o = count-as-defined i d (f .on .from) (f .on .low) (f .on .high) (f .on .low-bytes, f .on .high-bytes) in
+      omega (arith, ap (λ (x : Outcome). x .number) o, f .answers, count-numbers b (f .on .low) (f .on .high));
 }
 
-pub counts-arrangements : Turned (fault Demand3 CountsArrangements)
-unfolding CountsArrangements called outcome
+counts-arrangements : Turned (fault Demand3 CountsArrangements)
+unfolding LentCall
 counts-arrangements = record {
-  example = plain 0 1;
-  done = λ b g r h e. omega arith;
+  example = counting (λ b low high. placed 0 1 b);
+  done = record {
+    on = any-bounds (counting (λ b low high. placed 0 1 b)) column column-limits (shown column (column-entry ∷ [])) (computed .column-slice) refl column-low column-low refl;
+    none = computed .column-no-entry;
+    entry = 0 ∷ 1 ∷ [];
+    stands = computed .column-stands;
+    arrangement = column-low;
+    one-class = computed .column-class;
+    lies = computed .column-lies;
+    counted = omega arith;
+  };
   refused = λ i f d.
-      let l : Entries = column-entry ∷ [] in
-      let next = follows-next i column [] (follows-open i d column column-limits) (enter 1 (0 ∷ 1 ∷ [])) in
-      let after : Follows i column l = subst (Follows i column) (computed .column-entered) next in
-      let none = ap (λ (x : Outcome). x .place) (follows-call i column l after (countIn column-low column-low)) in
-      let some = f (shown column l) column-low (0 ∷ 1 ∷ []) (computed .column-holds) (computed .column-class) in
-      omega (arith, computed .column-none);
+      let b = f .on .from .register in
+      let o = count-as-defined i d (f .on .from) (f .on .low) (f .on .high) (f .on .low-bytes, f .on .high-bytes) in
+      omega (arith, ap (λ (x : Outcome). x .place) o, f .counted, f .none, counted-most b (f .on .low) (f .on .high));
 }
 
-pub leaves-last-line : Turned (fault Demand3 LeavesLastLine)
-unfolding LeavesLastLine left called afterwards
+-- ---- lines and places
+
+leaves-last-line : Turned (fault Demand3 LeavesLastLine)
+unfolding called lineAt
 leaves-last-line = record {
-  example = plain 0 1;
-  done = λ b c g z. refl;
+  example = striking-by (λ b c g. placed 0 1 left-line);
+  done = record {
+    on = any-client (striking-by (λ b c g. placed 0 1 left-line)) cell limits (with (zero-entry ∷ [])) (computed .zero-slice) refl 1 zero refl;
+    taken = refl;
+    line = 0;
+    behind = omega (arith, computed .left-counted);
+    within = omega (arith, computed .left-room);
+    unblank = unequal _ _ (computed .left-unblank);
+  };
   refused = λ i f d.
-      let calls = enter 1 zero ∷ strike 1 zero ∷ [] in
-      let o = ap (λ (x : Outcome). x .bytes) (opening i d) in
-      let equal-bytes = after-open i d cell limits calls .bytes-holdings slice (ap (λ (x : Outcome). x .number) (opening i d)) [] .1
-      (λ a z k first last. held-after i d calls a z k first ∙ ap (heldBy k (leastIn cell a)) (computed .gone) ∙ sym (held-after i d [] a z k first) ∙ ap (λ (x : List ℕ). holdingOf i cell x [] k a) (sym o)) in
-      let b = shown cell (zero-entry ∷ []) in
-      let kept = f b 1 zero (number-is _ _ (first-strike i d)) in
-      let struck : i .strikes b 1 zero .bytes ≡ shown cell [] =
-      ap (λ (x : List ℕ). i .strikes x 1 zero .bytes) (sym (bytes-are _ _ (first-enter i d))) ∙ equal-bytes ∙ ap (λ (x : Outcome). x .bytes) (opening i d) in
-      unequal _ _ (computed .line-left) (ap (drop (lastEntry b)) (sym struck) ∙ kept);
+      let w = seen kinds.striking i d (f .on) in
+      let s = f .on .from .shape in
+      let count-is = ap count (w .bytes-are) ∙ shown-count s (w .after .next) (w .after-good) in
+      let blank = shown-blank s (w .after .next) (w .after-good) (f .line) (omega (arith, f .behind, count-is)) (omega (arith, f .within, ap (λ (x : Shape). x .capacity) (w .shape-is))) in
+      f .unblank (rw (w .shape-is, w .bytes-are) blank);
 }
 
-pub appends-entries : Turned (fault Demand3 AppendsEntries)
-unfolding AppendsEntries
-appends-entries = record {
-  example = entering (λ b c g. record { number = 0; place = suc (count b); bytes = b });
-  done = λ b c g z. refl;
+pub appends : (k : Kind) → Entering k → Turned (fault Demand3 (AppendsEntries (k .call)))
+unfolding placeIn
+appends k e = record {
+  example = k .make (λ b c g. placed 0 2 b);
+  done = record {
+    on = any-client (k .make (λ b c g. placed 0 2 b)) cell limits (with (one-entry ∷ [])) (computed .one-slice) (k .takes _ _ _) 1 zero refl;
+    new = ap (λ (o : Outcome). o .number) (k .makes (λ b c g. placed 0 2 b) (with (one-entry ∷ [])) 1 zero);
+    entry = one;
+    stands = computed .one-stands;
+    behind = computed .one-behind;
+    last = ap (λ (o : Outcome). o .place) (k .makes (λ b c g. placed 0 2 b) (with (one-entry ∷ [])) 1 zero) ∙ ap suc (sym (computed .one-counted));
+  };
   refused = λ i f d.
-      let last = f (shown cell (one-entry ∷ [])) 1 zero (number-is _ _ (lower-enter i d)) in
-      let first = place-is _ _ (lower-enter i d) in
-      omega (arith, computed .one-counted);
+      let w = seen k i d (f .on) in
+      let s = f .on .from .shape in
+      let r = leastIn s (f .on .grid) in
+      let n = seen-new k i d (f .on) e (f .new) in
+      let split = select-split (λ (x : List ℕ). less x r) (gridsOf (w .set)) in
+      let place = sym (n .place-is) ∙ sym (w .place-is) ∙ f .last in
+      let member = holds-in (f .entry) (gridsOf (w .set)) (sym (w .holds-before (f .entry)) ∙ f .stands) in
+      some-selected (λ (x : List ℕ). not (less x r)) (f .entry) (gridsOf (w .set)) member (ap not (ap (less (f .entry)) (sym (w .class-is)) ∙ f .behind))
+      (omega (arith, split, place, w .counts, length-map (w .set) (λ (x : Entry). x .grid)));
 }
 
-pub places-from-zero : Turned (fault Demand3 PlacesFromZero)
-unfolding PlacesFromZero
+pub misplaces : (k : Kind) → Entering k → Turned (fault Demand3 (Misplaces (k .call)))
+misplaces k e = record {
+  example = k .make (λ b c g. placed 0 1 late);
+  done = record {
+    on = any-client (k .make (λ b c g. placed 0 1 late)) cell limits (with (one-entry ∷ [])) (computed .one-slice) (k .takes _ _ _) 1 zero refl;
+    new = ap (λ (o : Outcome). o .number) (k .makes (λ b c g. placed 0 1 late) (with (one-entry ∷ [])) 1 zero);
+    elsewhere = λ z.
+        unequal _ _ (computed .late-line) (sym (ap (λ (o : Outcome). entryAt (gridSize (decodeShape (with (one-entry ∷ [])))) (o .bytes) (o .place - 1) .grid) (k .makes (λ b c g. placed 0 1 late) (with (one-entry ∷ [])) 1 zero)) ∙ z);
+  };
+  refused = λ i f d.
+      let w = seen k i d (f .on) in
+      let s = f .on .from .shape in
+      let n = seen-new k i d (f .on) e (f .new) in
+      let stands = new-stands s (w .set) (f .on .client) (f .on .grid) (w .after) n (seen-raised k i d (f .on) e (f .new)) (w .good) (w .after-good) in
+      f .elsewhere (rw (w .shape-is, w .bytes-are, w .place-is) stands);
+}
+
+places-from-zero : Turned (fault Demand3 PlacesFromZero)
+unfolding called placeIn
 places-from-zero = record {
-  example = plain 0 0;
-  done = λ b c g z h. refl;
+  example = entering (λ b c g. placed 0 0 b);
+  done = record {
+    on = any-client (entering (λ b c g. placed 0 0 b)) cell limits (with []) (computed .none-slice) refl 1 zero refl;
+    none = computed .none-counted;
+    new = refl;
+    first = refl;
+  };
   refused = λ i f d.
-      let none = f (shown cell []) 1 zero (number-is _ _ (first-enter i d)) (computed .none-counted) in
-      let first = place-is _ _ (first-enter i d) in
-      omega arith;
+      let w = seen kinds.entering i d (f .on) in
+      omega (arith, seen-new kinds.entering i d (f .on) kinds.enters (f .new) .place-is, w .place-is, f .first);
 }
 
-pub inserts-late : Turned (fault Demand3 InsertsLate)
-unfolding InsertsLate
-inserts-late = record {
-  example = entering enteredLate;
-  done = λ b c g z h p. late-line b c g z p;
-  refused = λ i f d.
-      let b = shown cell (one-entry ∷ []) in
-      let e = lower-enter i d in
-      let late = f b 1 zero (number-is _ _ e) (omega (arith, computed .one-counted)) (omega (arith, place-is _ _ e, computed .one-counted)) in
-      unequal _ _ (computed .line-early) (rw (bytes-are _ _ e, place-is _ _ e) at late);
-}
+-- ---- refusing all, or too little, or one's own register
 
-pub opens-nothing : Turned (fault Demand3 OpensNothing)
+opens-nothing : Turned (fault Demand3 OpensNothing)
 unfolding OpensNothing
 opens-nothing = record {
   example = plain 1 0;
-  done = λ s b z. omega arith;
-  refused = λ i f d. f cell slice (ap (λ (x : Outcome). x .number) (opening i d));
+  done = λ s b w l z. omega arith;
+  refused = λ i f d. f cell slice (limits-lent-shape cell limits) slice-bytes (ap (λ (x : Outcome). x .number) (opening i d));
 }
 
-pub enters-nothing : Turned (fault Demand3 EntersNothing)
+enters-nothing : Turned (fault Demand3 EntersNothing)
 unfolding EntersNothing accepted
 enters-nothing = record {
   example = plain 9 0;
-  done = λ b c g. refl;
-  refused = λ i f d. true≢false (sym (ap accepted (number-is _ _ (first-enter i d))) ∙ f (shown cell []) 1 zero);
+  done = λ b c g x y z. refl;
+  refused = λ i f d.
+      true≢false (sym (ap (λ (x : Outcome). accepted (x .number)) (first-enter i d)) ∙ f (with []) 1 zero (tested-bytes (with []) (computed .none-slice)) (small-word 1 (omega arith)) (tested-bytes zero refl));
 }
 
-pub opens-any-slice : Turned (fault Demand3 OpensAnySlice)
-unfolding OpensAnySlice
+opens-any-slice : Turned (fault Demand3 OpensAnySlice)
 opens-any-slice = record {
   example = plain 0 0;
-  done = λ s b h. (refl, refl);
+  done = record { shape = cell; slice = []; shape-limits = limits; slice-bytes = tested-bytes [] refl; other = λ e. omega (arith, e, computed .cell-length); opens = refl; kept = refl };
   refused = λ i f d.
-      let z = ap length (d .follows cell [] (f cell [] limits .0) [] .starts) in
-      omega (arith, f cell [] limits .1, computed .none-length);
+      let z = ap length (d .follows (f .shape) (f .slice) (f .shape-limits) (f .slice-bytes) (f .opens) [] tt .starts) in
+      f .other (sym (f .kept) ∙ z ∙ shown-length (f .shape) [] (empty-good (f .shape) (f .shape-limits)));
 }
 
-pub refuses-own-bytes : Turned (fault Demand3 RefusesOwnBytes)
-unfolding RefusesOwnBytes run called every
+refuses-own-bytes : Turned (fault Demand3 RefusesOwnBytes)
+unfolding called every outcome
 refuses-own-bytes = record {
-  example = plain 5 0;
-  done = λ b c g h. refl;
+  example = entering (λ b c g. placed 5 0 b);
+  done = record {
+    from = any-reached (entering (λ b c g. placed 5 0 b)) cell limits (with (zero-entry ∷ [])) (computed .zero-slice) refl;
+    call = enter 1 zero;
+    call-lent = tested-call _ refl;
+    refused = refl;
+  };
   refused = λ i f d.
-      let b = i .enters (shown cell []) 1 zero .bytes in
-      let laid = after-open i d cell limits (enter 1 zero ∷ enter 1 one ∷ []) .laid in
-      let second = and-yes (not (eqb (i .enters b 1 one .number) 5)) true (and-yes (not (eqb (i .enters (shown cell []) 1 zero .number) 5)) _ laid .1) .0 in
-      let held : 1 ≤ count b = rw (bytes-are _ _ (first-enter i d)) (omega (arith, computed .zero-counted)) in
-      true≢false (sym second ∙ ap (λ (k : ℕ). not (eqb k 5)) (f b 1 one held));
+      let r = f .from in
+      let t = standing i d r in
+      never-answers 5 refl (r .shape) (t .set) (f .call) (sym (ap (λ (x : Outcome). x .number) (stands-call i (r .shape) (r .register) t (f .call) (f .call-lent))) ∙ f .refused);
 }
+
+pub books-turned : All Turned bookFaults
+unfolding bookFaults
+books-turned = (stores-first, (full-unlooked, (not-held-unlooked, (invents-count, (invents-counts, (leaves-out-highs, (answers-none, (counts-arrangements, (leaves-last-line, (appends kinds.entering kinds.enters, (places-from-zero, (misplaces kinds.entering kinds.enters, (opens-nothing, (enters-nothing, (opens-any-slice, (refuses-own-bytes, tt))))))))))))))))

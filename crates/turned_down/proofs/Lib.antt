@@ -1,13 +1,11 @@
 pub mod Differences
 pub mod Plans
 pub mod Permutations
-pub mod BothWays
 pub mod Represent
 pub mod Same
 pub mod Prune
 pub mod RegisterCases
 pub mod ClientCalls
-pub mod LateEntry
 pub mod Demand3
 pub mod Demand1
 pub mod Count
@@ -16,5 +14,6 @@ pub mod Clients
 pub mod Changes
 pub mod Live
 pub mod Terminals
+pub mod TerminalEnters
 pub mod Planbook
 pub mod TurnedDown

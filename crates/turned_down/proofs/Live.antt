@@ -5,9 +5,9 @@
 --   eight               ==  the clients
 --   counted, lastOfAll, lastOfEach  ==  demand 3's way to tell from the answers whether the class is live, and the two by last calls
 --   Computed, computed  ==  what the definitions give: the class is live, and the last call is a strike
+--   judged              ==  the calls as defined, on a register of one cell, and the grid zero
 --   differs             ==  a way to tell that goes by the answers, and tells otherwise on some calls, is not demand 3's
---   goes-by-last, goes-by-own-last  ==  the faults
---   live-turned         ==  both
+--   live-turned         ==  both faults
 use mathlib.Core.Path.{_≡_, refl, sym, ap, _∙_}
 use mathlib.Core.List.{List, [], _∷_, flatMap}
 use mathlib.Core.Bool.{Bool, true, false, true≢false}
@@ -19,17 +19,19 @@ use Rattle.grids.specs.Order.{rank, leq, less, equal}
 use Rattle.grids.specs.Grids.{capped, gridOf, arrangement, oneClass}
 use Rattle.grids.specs.Least.{arrangements, lesser, leastOf, least}
 use Rattle.grids.specs.Questions.{firstNo, inRange, question6, question7}
+use Rattle.grids.proofs.LentLaws.{tested-bytes}
 use Rattle.layout.specs.Layout.{clients, holding, changed, someHeld}
-use Rattle.machine.specs.Calls.{Outcome, more, fewer, holds, holdingsIn, heldBy, placeIn, without, question15, gridQuestions, clientQuestions}
-use Rattle.machine.specs.CallLists.{Call, enter, strike, registerCalls, run, accepted}
+use Rattle.calls.specs.Entries.{more, fewer, holds, holdingsIn, heldBy, placeIn, without, question15, gridQuestions, clientQuestions, question10, question16, question9}
+use Rattle.calls.specs.Calls.{Outcome, accepted}
+use Rattle.machine.specs.CallLists.{Call, enter, strike, registerCalls, LentCall, run, left}
 use Rattle.machine.specs.Machine.{stepUnless, put, enterClass, strikeClass, step, outcome, outcomes}
 use Rattle.machine.specs.Demand3.{entersClass, strikesClass, acceptedOf, entersOf, strikesOf, live, Demand3}
-use Rattle.machine.proofs.CallListLaws.{meets-own}
+use Rattle.machine.proofs.CallListLaws.{meets-own, tested-calls}
 use Rattle.machine.proofs.Demand3Laws.{demand3}
 use Rattle.machine.proofs.FollowLaws.{follows-open}
-use Rattle.turned_down.specs.LiveFaults.{Living, SaysLive, lastOf, lastByAnyone, lastBySome, GoesByLast, GoesByOwnLast}
-use Rattle.turned_down.specs.TurnedDown.{fault, Turned, liveFaults}
-use Rattle.turned_down.proofs.RegisterCases.{cell, zero, limits, slice, opening}
+use Rattle.turned_down.specs.LiveFaults.{Living, Judged, tells, SaysLive, lastOf, lastByAnyone, lastBySome, GoesBy, liveFaults}
+use Rattle.turned_down.specs.Faults.{fault, Turned}
+use Rattle.turned_down.proofs.RegisterCases.{cell, zero, limits, slice, slice-bytes, opening}
 
 abbrev byTwo : List Call
 byTwo = enter 1 zero ∷ enter 2 zero ∷ strike 1 zero ∷ []
@@ -43,8 +45,8 @@ meets = demand3 registerCalls meets-own
 opens : registerCalls .opens cell slice .number ≡ 0
 opens = ap (λ (o : Outcome). o .number) (opening registerCalls meets)
 
-answers : (calls : List Call) → run registerCalls (registerCalls .opens cell slice .bytes) calls ≡ outcomes cell [] calls
-answers calls = ap (λ (o : Outcome). run registerCalls (o .bytes) calls) (opening registerCalls meets) ∙ follows-open registerCalls meets cell limits calls
+answers : (calls : List Call) → All LentCall calls → run registerCalls (registerCalls .opens cell slice .bytes) calls ≡ outcomes cell [] calls
+answers calls lent = ap (λ (o : Outcome). run registerCalls (o .bytes) calls) (opening registerCalls meets) ∙ follows-open registerCalls meets cell limits calls lent
 
 -- the three ways to tell, from the answers
 abbrev eight : List ℕ
@@ -66,32 +68,51 @@ record Computed : Type 0 where
   one-last : lastOfEach byOne (outcomes cell [] byOne) ≡ false
 
 computed : Computed
-unfolding tabulate numbers select every some occurrences flatMap isPermutation words permutations rank leq less equal capped gridOf arrangement oneClass arrangements lesser leastOf least firstNo inRange question6 question7 holding changed someHeld more fewer holds holdingsIn heldBy placeIn without question15 gridQuestions clientQuestions accepted stepUnless put enterClass strikeClass step outcome outcomes entersClass strikesClass acceptedOf lastOf
+unfolding tabulate numbers select every some occurrences flatMap isPermutation words permutations rank leq less equal capped gridOf arrangement oneClass arrangements lesser leastOf least firstNo inRange question6 question7 holding changed someHeld more fewer holds holdingsIn heldBy placeIn without question15 gridQuestions clientQuestions accepted stepUnless put enterClass strikeClass step outcome outcomes entersClass strikesClass acceptedOf lastOf question9 question16 question10
 computed = record { two-live = refl; two-last = refl; one-live = refl; one-last = refl }
 
--- where a way to tell goes by the answers alone, and differs from demand 3's on some calls
-differs : (f : Living) (t : List Call → List Outcome → Bool) (calls : List Call) → SaysLive f → f registerCalls cell (registerCalls .opens cell slice .bytes) calls zero ≡ t calls (run registerCalls (registerCalls .opens cell slice .bytes) calls) →
-    counted calls (outcomes cell [] calls) ≡ true → t calls (outcomes cell [] calls) ≡ false → ⊥
-unfolding SaysLive live entersOf strikesOf
-differs f t calls d by yes-live no-last =
-    true≢false (sym (ap (counted calls) (answers calls) ∙ yes-live) ∙ sym (d registerCalls meets cell slice opens calls zero refl) ∙ by ∙ ap (t calls) (answers calls) ∙ no-last)
-
-goes-by-last : Turned (fault SaysLive GoesByLast)
-unfolding GoesByLast lastByAnyone
-goes-by-last = record {
-  example = lastByAnyone;
-  done = λ i s b calls a. refl;
-  refused = λ f g d. differs f lastOfAll byTwo d (g registerCalls cell (registerCalls .opens cell slice .bytes) byTwo zero) (computed .two-live) (computed .two-last);
+-- the calls as defined, on a register of one cell, and the grid zero
+abbrev judged : (calls : List Call) → All LentCall calls → Judged
+judged calls lent = record {
+  implementation = registerCalls;
+  meets = meets;
+  from = record {
+    shape = cell;
+    slice = slice;
+    shape-limits = limits;
+    slice-bytes = slice-bytes;
+    opens = opens;
+    calls = calls;
+    calls-lent = lent;
+    register = left registerCalls (registerCalls .opens cell slice .bytes) calls;
+    reached = refl;
+  };
+  grid = zero;
+  grid-bytes = tested-bytes zero refl;
+  grid-sized = refl;
 }
 
-goes-by-own-last : Turned (fault SaysLive GoesByOwnLast)
-unfolding GoesByOwnLast lastBySome
-goes-by-own-last = record {
-  example = lastBySome;
-  done = λ i s b calls a. refl;
-  refused = λ f g d. differs f lastOfEach byOne d (g registerCalls cell (registerCalls .opens cell slice .bytes) byOne zero) (computed .one-live) (computed .one-last);
+-- a way to tell that goes by the answers, and tells otherwise on some calls
+differs : (g : Living) (t : List Call → List Outcome → Bool) (calls : List Call) (lent : All LentCall calls) →
+    tells g (judged calls lent) ≡ t calls (run registerCalls (registerCalls .opens cell slice .bytes) calls) → counted calls (outcomes cell [] calls) ≡ true → t calls (outcomes cell [] calls) ≡ false →
+    Turned (fault SaysLive (GoesBy g))
+unfolding SaysLive live entersOf strikesOf
+differs g t calls lent by yes-live no-last = record {
+  example = g;
+  done = record {
+    on = judged calls lent;
+    unlike = λ e. true≢false (sym (ap (counted calls) (answers calls lent) ∙ yes-live) ∙ sym e ∙ by ∙ ap (t calls) (answers calls lent) ∙ no-last);
+    tells-so = refl;
+  };
+  refused = λ f h d. h .unlike (sym (h .tells-so) ∙ d (h .on));
 }
 
 pub live-turned : All Turned liveFaults
-unfolding liveFaults
-live-turned = (goes-by-last, (goes-by-own-last, tt))
+unfolding liveFaults lastByAnyone lastBySome
+live-turned = (
+  differs lastByAnyone lastOfAll byTwo (tested-calls byTwo refl) refl (computed .two-live) (computed .two-last),
+  (
+    differs lastBySome lastOfEach byOne (tested-calls byOne refl) refl (computed .one-live) (computed .one-last),
+    tt,
+  ),
+)

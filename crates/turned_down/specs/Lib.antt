@@ -1,3 +1,4 @@
+pub mod Faults
 pub mod PermutationFaults
 pub mod RepresentFaults
 pub mod SameFaults
@@ -6,5 +7,6 @@ pub mod RegisterFaults
 pub mod HoldingFaults
 pub mod LiveFaults
 pub mod TerminalFaults
+pub mod TerminalEnterFaults
 pub mod PlanbookFaults
 pub mod TurnedDown

@@ -1,49 +1,74 @@
--- Faults of programs for planbook, and of the function on slices that the program calls. Each is said where it shows, so that the program may do as
--- it should elsewhere.
+-- Faults of programs for planbook, and of the function on slices that the program calls: there is an input, or there are slices, on which this happens.
 --
---   laidIn input l             ==  l is laid as a command line, by the numbers of the input's line 1
+--   Refused                    ==  an input that one of the first checks refuses
+--   Commanded                  ==  an input that they pass, with its first command line and the rest of its lines
+--   laidIn input l, laidFirst x  ==  l is laid as a command line, by the numbers of the input's line 1; the first one is
 --   cellsOn input l            ==  the cells that it states
 --   firstBy client input l     ==  what the machine does with its command, on the empty set, where it names this client
 --   firstStep input l          ==  the same, where it names the client that it states
+--   printedBy client input l   ==  what is then printed, if it is the only line
 --   prunedOn input l           ==  what prune answers and leaves of its bounds, where its command is 3
 --   GoesOnAfter13 p            ==  with 13 more is printed than one line
 --   PrintsRegisterAfter11 p    ==  after the line of 11 comes a register
---   EndsAtMalformed p          ==  a first command line that is not laid ends the run
---   PrintsUnderZero p          ==  the refusal of a first call is printed under command 0
---   MalformedReaches p         ==  a line that is not laid, the only one, leaves something else than the empty register
---   RefusesCellsAsMalformed p  ==  a first command line with a cell above top gets 12
---   AsksLengthFirst p          ==  the register's length is asked before questions 1 to 4
---   SilentWithoutCommands p    ==  where there is no command line nothing is printed
---   TakesUnended p             ==  a line that lacks only its line feed, the only one, does not get 12
---   CountsRefusedBounds p      ==  a first command 3 whose bounds prune answers with 102 is printed with 0 and some count, as if they were counted
---   ReadsNoClient p            ==  the only command line is taken for one of client 1
---   RefusesClientAsMalformed p ==  a first command line with a client that is not 1 to 8 gets 12
---   AsksClientFirst p          ==  such a line gets 15, whatever its cells are
---   TakesClientless p          ==  an enter or a strike without a client, the only line, does not get 12
+--   AsksLengthFirst p          ==  13 is printed where one of questions 1 to 4 gets a no
 --   MeasuresWithoutHoldings p  ==  a register that is too large by its holdings alone does not get 13
+--   SilentWithoutCommands p    ==  where there is no command line nothing is printed
+--   EndsAtMalformed p          ==  a first command line that is not laid ends the run
+--   MalformedReaches p         ==  a line that is not laid, the only one, leaves something else than the empty register
+--   TakesUnended p             ==  a first line that lacks only its line feed does not get 12
+--   TakesClientless p          ==  a first enter or strike without a client does not get 12
+--   PrintsUnderZero p          ==  the refusal of a first call is printed under command 0
+--   RefusesCellsAsMalformed p  ==  a first command line with a cell above top gets 12
+--   CountsRefusedBounds p      ==  a first command 3 whose bounds prune answers with 102 is printed with 0, as if they were counted
+--   CountsAtEnd p              ==  a first command 3 is printed with the number of classes that are live after all lines
+--   ReadsNoClient p            ==  the only command line is taken for one of client 1
+--   RefusesClientAsMalformed p ==  a first command line that 15 refuses gets 12
+--   AsksClientFirst p          ==  a first command line that 7 refuses gets 15, since its client is not 1 to 8
+--   Slices                     ==  what the function is lent
 --   CountsWithoutRoom f        ==  where a slice is too small some bytes count
 --   ClearsRest f               ==  the bytes behind what is printed are not kept
+--   planbookFaults             ==  these, each against a contract
 use mathlib.Core.Path.{_≡_}
 use mathlib.Core.List.{List, [], _∷_, _++_}
 use mathlib.Core.Bool.{Bool, true, false}
-use Prim.Native.Nat.{ℕ, _+_, _*_, _≤_, _<_}
+use Prim.Native.Nat.{ℕ, suc, _+_, _*_, _≤_, _<_}
 use lib.ListN.{length, take, drop}
 use Rattle.grids.specs.Grids.{capped}
+use Rattle.grids.specs.Lent.{Bytes}
 use Rattle.grids.specs.Questions.{inRange}
 use Rattle.bounds.specs.Prune.{Pruned}
 use Rattle.layout.specs.Decimal.{field}
-use Rattle.layout.specs.Layout.{gridSize, fields, headLength, layoutLength, laidOut}
-use Rattle.machine.specs.Calls.{question15}
-use Rattle.machine.specs.CallLists.{accepted}
+use Rattle.layout.specs.Layout.{gridsOf, gridSize, fields, headLength, numberAt, laidOut}
+use Rattle.calls.specs.Entries.{question15}
+use Rattle.calls.specs.Calls.{accepted}
 use Rattle.machine.specs.Machine.{Step, shown}
 use Rattle.protocol.specs.Input.{furtherLines, commandIn, clientIn, cellsIn, isLaid}
 use Rattle.protocol.specs.Commands.{commandStep, report}
 use Rattle.protocol.specs.Readings.{prunedCells}
-use Rattle.protocol.specs.Transcript.{byteLimit, shapeIn, question12, startNo, transcript}
-use Rattle.protocol.specs.Programs.{Printing, Transcribing, hasRoom}
+use Rattle.protocol.specs.Transcript.{byteLimit, shapeIn, startNo, setAfter, transcript}
+use Rattle.protocol.specs.Programs.{Printing, Transcribing, hasRoom, Prints, MeetsTranscribe}
+use Rattle.protocol.specs.Demand3.{lineCounts, PrintsDemand3}
+use Rattle.turned_down.specs.Faults.{Fault, fault}
+
+pub record Refused : Type 0 where
+  pub input : List ℕ
+  pub bytes : Bytes input
+  pub refusal : ℕ
+  pub first : startNo input ≡ suc refusal
+
+pub record Commanded : Type 0 where
+  pub input : List ℕ
+  pub bytes : Bytes input
+  pub starts : startNo input ≡ 0
+  pub line : List ℕ
+  pub rest : List (List ℕ)
+  pub lines : furtherLines input ≡ line ∷ rest
 
 abbrev pub laidIn : List ℕ → List ℕ → Bool
 laidIn input l = isLaid (gridSize (shapeIn input)) l
+
+abbrev pub laidFirst : Commanded → Bool
+laidFirst x = laidIn (x .input) (x .line)
 
 abbrev pub cellsOn : List ℕ → List ℕ → List ℕ
 cellsOn input l = cellsIn (gridSize (shapeIn input)) l
@@ -54,78 +79,168 @@ firstBy client input l = commandStep (shapeIn input) [] (commandIn l) client (ce
 abbrev pub firstStep : List ℕ → List ℕ → Step
 firstStep input l = firstBy (clientIn l) input l
 
+abbrev pub printedBy : ℕ → List ℕ → List ℕ → List ℕ
+printedBy client input l =
+    report (commandIn l) (firstBy client input l .number) (firstBy client input l .place) ++ shown (shapeIn input) (firstBy client input l .next)
+
 abbrev pub prunedOn : List ℕ → List ℕ → Pruned
 prunedOn input l = prunedCells (shapeIn input .rows) (shapeIn input .columns) (shapeIn input .top) (cellsOn input l)
 
-unfoldable pub GoesOnAfter13 : Printing → Type 0
-GoesOnAfter13 p = (input : List ℕ) → startNo input ≡ 13 → 19 < length (p input)
+-- ---- what is printed first
 
-unfoldable pub PrintsRegisterAfter11 : Printing → Type 0
-PrintsRegisterAfter11 p = (input : List ℕ) → startNo input ≡ 11 → (b : List ℕ) × (laidOut b ≡ true) × (p input ≡ report 0 11 0 ++ b)
+pub record GoesOnAfter13 (p : Printing) : Type 0 where
+  pub on : Refused
+  pub no : startNo (on .input) ≡ 13
+  pub longer : 19 < length (p (on .input))
 
-unfoldable pub EndsAtMalformed : Printing → Type 0
-EndsAtMalformed p =
-    (input l : List ℕ) (ls : List (List ℕ)) → startNo input ≡ 0 → furtherLines input ≡ l ∷ ls → laidIn input l ≡ false → p input ≡ report 0 12 0
+pub record PrintsRegisterAfter11 (p : Printing) : Type 0 where
+  pub on : Refused
+  pub no : startNo (on .input) ≡ 11
+  pub register : List ℕ
+  pub laid : laidOut register ≡ true
+  pub prints : p (on .input) ≡ report 0 11 0 ++ register
 
-unfoldable pub PrintsUnderZero : Printing → Type 0
-PrintsUnderZero p =
-    (input l : List ℕ) (ls : List (List ℕ)) → startNo input ≡ 0 → furtherLines input ≡ l ∷ ls → laidIn input l ≡ true →
-    accepted (firstStep input l .number) ≡ false → (firstStep input l .number ≡ 102 → ⊥) → take 6 (p input) ≡ field 6 0
+pub record AsksLengthFirst (p : Printing) : Type 0 where
+  pub on : Refused
+  pub no : startNo (on .input) ≤ 4
+  pub prints : p (on .input) ≡ report 0 13 0
 
-unfoldable pub MalformedReaches : Printing → Type 0
-MalformedReaches p =
-    (input l : List ℕ) → startNo input ≡ 0 → furtherLines input ≡ l ∷ [] → laidIn input l ≡ false → drop 19 (p input) ≡ shown (shapeIn input) [] → ⊥
+pub record MeasuresWithoutHoldings (p : Printing) : Type 0 where
+  pub on : Refused
+  pub no : startNo (on .input) ≡ 13
+  pub small : headLength + shapeIn (on .input) .capacity * (3 * gridSize (shapeIn (on .input)) + 1) ≤ byteLimit
+  pub prints : p (on .input) ≡ report 0 13 0 → ⊥
 
-unfoldable pub RefusesCellsAsMalformed : Printing → Type 0
-RefusesCellsAsMalformed p =
-    (input l : List ℕ) (ls : List (List ℕ)) → startNo input ≡ 0 → furtherLines input ≡ l ∷ ls → laidIn input l ≡ true →
-    capped (shapeIn input .top) (cellsOn input l) ≡ false → take 19 (p input) ≡ report 0 12 0
+pub record SilentWithoutCommands (p : Printing) : Type 0 where
+  pub input : List ℕ
+  pub bytes : Bytes input
+  pub starts : startNo input ≡ 0
+  pub lines : furtherLines input ≡ []
+  pub prints : p input ≡ []
 
-unfoldable pub AsksLengthFirst : Printing → Type 0
-AsksLengthFirst p =
-    (input : List ℕ) → length input ≤ byteLimit → question12 input .answer ≡ true → byteLimit < layoutLength (shapeIn input) → p input ≡ report 0 13 0
+-- ---- lines that are not laid
 
-unfoldable pub SilentWithoutCommands : Printing → Type 0
-SilentWithoutCommands p = (input : List ℕ) → startNo input ≡ 0 → furtherLines input ≡ [] → p input ≡ []
+pub record EndsAtMalformed (p : Printing) : Type 0 where
+  pub on : Commanded
+  pub unlaid : laidFirst on ≡ false
+  pub prints : p (on .input) ≡ report 0 12 0
 
-unfoldable pub TakesUnended : Printing → Type 0
-TakesUnended p =
-    (input l : List ℕ) → startNo input ≡ 0 → furtherLines input ≡ l ∷ [] → laidIn input l ≡ false → laidIn input (l ++ (10 ∷ [])) ≡ true →
-    take 19 (p input) ≡ report 0 12 0 → ⊥
+pub record MalformedReaches (p : Printing) : Type 0 where
+  pub on : Commanded
+  pub unlaid : laidFirst on ≡ false
+  pub only : on .rest ≡ []
+  pub reaches : drop 19 (p (on .input)) ≡ shown (shapeIn (on .input)) [] → ⊥
 
-unfoldable pub CountsRefusedBounds : Printing → Type 0
-CountsRefusedBounds p =
-    (input l : List ℕ) (ls : List (List ℕ)) → startNo input ≡ 0 → furtherLines input ≡ l ∷ ls → laidIn input l ≡ true → commandIn l ≡ 3 →
-    prunedOn input l .number ≡ 102 → (x : ℕ) × (take 19 (p input) ≡ report 3 0 x)
+pub record TakesUnended (p : Printing) : Type 0 where
+  pub on : Commanded
+  pub unlaid : laidFirst on ≡ false
+  pub laid : laidIn (on .input) (on .line ++ (10 ∷ [])) ≡ true
+  pub prints : take 19 (p (on .input)) ≡ report 0 12 0 → ⊥
 
-unfoldable pub ReadsNoClient : Printing → Type 0
-ReadsNoClient p =
-    (input l : List ℕ) → startNo input ≡ 0 → furtherLines input ≡ l ∷ [] → laidIn input l ≡ true →
-    p input ≡ report (commandIn l) (firstBy 1 input l .number) (firstBy 1 input l .place) ++ shown (shapeIn input) (firstBy 1 input l .next)
+pub record TakesClientless (p : Printing) : Type 0 where
+  pub on : Commanded
+  pub command : ℕ
+  pub names : inRange 1 2 command ≡ true
+  pub cells : List ℕ
+  pub sized : length cells ≡ gridSize (shapeIn (on .input))
+  pub line : on .line ≡ field 6 command ++ (fields 3 cells ++ (10 ∷ []))
+  pub prints : take 19 (p (on .input)) ≡ report 0 12 0 → ⊥
 
-unfoldable pub RefusesClientAsMalformed : Printing → Type 0
-RefusesClientAsMalformed p =
-    (input l : List ℕ) (ls : List (List ℕ)) → startNo input ≡ 0 → furtherLines input ≡ l ∷ ls → laidIn input l ≡ true → inRange 1 2 (commandIn l) ≡ true →
-    question15 (clientIn l) .answer ≡ false → take 19 (p input) ≡ report 0 12 0
+-- ---- lines that are laid
 
-unfoldable pub AsksClientFirst : Printing → Type 0
-AsksClientFirst p =
-    (input l : List ℕ) (ls : List (List ℕ)) → startNo input ≡ 0 → furtherLines input ≡ l ∷ ls → laidIn input l ≡ true → inRange 1 2 (commandIn l) ≡ true →
-    question15 (clientIn l) .answer ≡ false → take 6 (drop 6 (p input)) ≡ field 6 15
+pub record PrintsUnderZero (p : Printing) : Type 0 where
+  pub on : Commanded
+  pub laid : laidFirst on ≡ true
+  pub refused : accepted (firstStep (on .input) (on .line) .number) ≡ false
+  pub prints : numberAt 6 0 (take 19 (p (on .input))) ≡ 0
 
-unfoldable pub TakesClientless : Printing → Type 0
-TakesClientless p =
-    (input l : List ℕ) (k : ℕ) (c : List ℕ) → startNo input ≡ 0 → furtherLines input ≡ l ∷ [] → l ≡ field 6 k ++ (fields 3 c ++ (10 ∷ [])) → inRange 1 2 k ≡ true →
-    length c ≡ gridSize (shapeIn input) → take 19 (p input) ≡ report 0 12 0 → ⊥
+pub record RefusesCellsAsMalformed (p : Printing) : Type 0 where
+  pub on : Commanded
+  pub laid : laidFirst on ≡ true
+  pub above : capped (shapeIn (on .input) .top) (cellsOn (on .input) (on .line)) ≡ false
+  pub prints : take 19 (p (on .input)) ≡ report 0 12 0
 
-unfoldable pub MeasuresWithoutHoldings : Printing → Type 0
-MeasuresWithoutHoldings p =
-    (input : List ℕ) → headLength + shapeIn input .capacity * (3 * gridSize (shapeIn input) + 1) ≤ byteLimit → p input ≡ report 0 13 0 → ⊥
+pub record CountsRefusedBounds (p : Printing) : Type 0 where
+  pub on : Commanded
+  pub laid : laidFirst on ≡ true
+  pub command : commandIn (on .line) ≡ 3
+  pub empty : prunedOn (on .input) (on .line) .number ≡ 102
+  pub prints : numberAt 6 6 (take 19 (p (on .input))) ≡ 0
 
-unfoldable pub CountsWithoutRoom : Transcribing → Type 0
-CountsWithoutRoom f = (input register out : List ℕ) → hasRoom register out ≡ false → 0 < f input register out .count
+pub record CountsAtEnd (p : Printing) : Type 0 where
+  pub on : Commanded
+  pub laid : laidFirst on ≡ true
+  pub command : commandIn (on .line) ≡ 3
+  pub some : prunedOn (on .input) (on .line) .number ≡ 0
+  pub later : lineCounts (shapeIn (on .input)) (on .line) (gridsOf (setAfter (shapeIn (on .input)) [] (on .line ∷ on .rest))) ≡ 0 → ⊥
+  pub prints : numberAt 6 12 (take 19 (p (on .input))) ≡ lineCounts (shapeIn (on .input)) (on .line) (gridsOf (setAfter (shapeIn (on .input)) [] (on .line ∷ on .rest)))
 
-unfoldable pub ClearsRest : Transcribing → Type 0
-ClearsRest f =
-    (input register out : List ℕ) → hasRoom register out ≡ true → length (transcript input) < length out →
-    drop (length (transcript input)) (f input register out .out) ≡ drop (length (transcript input)) out → ⊥
+pub record ReadsNoClient (p : Printing) : Type 0 where
+  pub on : Commanded
+  pub laid : laidFirst on ≡ true
+  pub only : on .rest ≡ []
+  pub other : printedBy (clientIn (on .line)) (on .input) (on .line) ≡ printedBy 1 (on .input) (on .line) → ⊥
+  pub prints : p (on .input) ≡ printedBy 1 (on .input) (on .line)
+
+pub record RefusesClientAsMalformed (p : Printing) : Type 0 where
+  pub on : Commanded
+  pub laid : laidFirst on ≡ true
+  pub refused : firstStep (on .input) (on .line) .number ≡ 15
+  pub prints : take 19 (p (on .input)) ≡ report 0 12 0
+
+pub record AsksClientFirst (p : Printing) : Type 0 where
+  pub on : Commanded
+  pub laid : laidFirst on ≡ true
+  pub client : question15 (clientIn (on .line)) .answer ≡ false
+  pub refused : firstStep (on .input) (on .line) .number ≡ 7
+  pub prints : numberAt 6 6 (take 19 (p (on .input))) ≡ 15
+
+-- ---- the function on slices
+
+pub record Slices : Type 0 where
+  pub input : List ℕ
+  pub register : List ℕ
+  pub out : List ℕ
+  pub input-bytes : Bytes input
+  pub register-bytes : Bytes register
+  pub out-bytes : Bytes out
+
+pub record CountsWithoutRoom (f : Transcribing) : Type 0 where
+  pub on : Slices
+  pub small : hasRoom (on .register) (on .out) ≡ false
+  pub counts : 0 < f (on .input) (on .register) (on .out) .count
+
+pub record ClearsRest (f : Transcribing) : Type 0 where
+  pub on : Slices
+  pub room : hasRoom (on .register) (on .out) ≡ true
+  pub cleared : drop (length (transcript (on .input))) (f (on .input) (on .register) (on .out) .out) ≡ drop (length (transcript (on .input))) (on .out) → ⊥
+
+-- ---- as a list
+
+-- by what planbook prints: after 13 and 11, at a line that is not laid, for calls that are refused; the order of the checks, no command, no line feed
+unfoldable pub planbookFaults : List Fault
+planbookFaults =
+    fault Prints GoesOnAfter13
+    ∷ fault Prints PrintsRegisterAfter11
+    ∷ fault Prints EndsAtMalformed
+    ∷ fault Prints PrintsUnderZero
+    ∷ fault Prints MalformedReaches
+    ∷ fault Prints RefusesCellsAsMalformed
+    ∷ fault Prints AsksLengthFirst
+    ∷ fault Prints SilentWithoutCommands
+    ∷ fault Prints TakesUnended
+    -- bounds that prune answers with 102 counted; by demand 3 of planbook too
+    ∷ fault Prints CountsRefusedBounds
+    ∷ fault PrintsDemand3 CountsRefusedBounds
+    ∷ fault PrintsDemand3 CountsAtEnd
+    -- the client not read, by demand 3 of planbook too; a bad client with 12, or before the cells; a line without a client; 13 without the holdings
+    ∷ fault Prints ReadsNoClient
+    ∷ fault PrintsDemand3 ReadsNoClient
+    ∷ fault Prints RefusesClientAsMalformed
+    ∷ fault Prints AsksClientFirst
+    ∷ fault Prints TakesClientless
+    ∷ fault Prints MeasuresWithoutHoldings
+    -- by the contract of the function on slices that the program calls: a slice that is too small, the rest of the output slice
+    ∷ fault MeetsTranscribe CountsWithoutRoom
+    ∷ fault MeetsTranscribe ClearsRest
+    ∷ []

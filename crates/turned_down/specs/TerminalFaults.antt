@@ -1,34 +1,34 @@
--- Faults of programs for a terminal's represent, same and enter. Those of numbers are said of the number that a call answers to three numbers and
--- two slices, so that they are faults of represent and of same alike.
+-- Faults of programs for a terminal's represent and same. Each is that of some call, as it can be lent, something happens on it. Those of numbers and of row
+-- orders are said of the number and of the row order that a call answers to three numbers and two slices, so that they are faults of represent and of same alike.
 --
---   Answering             ==  such numbers
---   representing f, comparing f  ==  those of a program for represent, for same
+--   HandsBackMany f       ==  a grid of more than two rows, not the least of its class, is handed back as its own least
+--   Answering, Ordering   ==  such numbers, such row orders
+--   representing f, representRows f, comparing f, comparedRows f  ==  those of a program for represent, for same
 --   AsksColumnsFirst k    ==  question 14 is asked after question 2
---   Refuses5Rows k        ==  5 rows are refused by 14
+--   RefusesFewRows k      ==  at most 5 rows are refused by 14
 --   Refuses9Rows k        ==  rows above 8 are
---   Never14 k             ==  no rows are
---   Keeps8Positions f     ==  a refusal by represent returns a row order of 8 positions
---   AgreesWith14 f        ==  with 14 all cells are said to agree
---   EnterNever14 i        ==  a terminal's enter refuses no register by 14
---   EnterRefuses5Rows i   ==  a terminal's enter refuses a register of 5 rows by 14
---   EnterAsksLengthFirst i  ==  question 14 is asked after question 6
---   EnterWritesWith14 i   ==  with 14 the register's bytes are changed
---   StoresAsSent i        ==  a terminal's enter stores the grid in the order in which it was sent
---   TerminalAppends i     ==  its new entry goes behind the others
---   OnlyAcknowledges i    ==  it stores nothing
---   EntersTwice i         ==  it never answers 101, so that a class that is held is entered again
+--   Never14 k             ==  6 to 8 rows are not
+--   Keeps8Positions k p   ==  with 0 a row order of 8 positions is returned
+--   Keeps8Refusing k p    ==  with another number it is
+--   AgreesWith14 f        ==  with 14 some cell is said to agree
+--   BothSets A            ==  two programs: one for the order system, one for a terminal
+--   RepresentsUnlike p    ==  for up to 5 rows they represent a grid with one number, and write two grids
+--   ComparesUnlike p      ==  for up to 5 rows they answer one number to two grids, and say that unlike numbers of cells agree
+--   terminalFaults  ==  these, each against a contract
 use mathlib.Core.Path.{_≡_}
-use mathlib.Core.List.{List}
-use mathlib.Core.Bool.{true, false}
-use Prim.Native.Nat.{ℕ, suc, _-_, _*_, _≤_, _<_}
+use mathlib.Core.List.{List, [], _∷_}
+use Prim.Native.Nat.{ℕ, _≤_, _<_}
 use lib.ListN.{length}
-use lib.Dec.{eqb}
-use Rattle.permutations.specs.Permutations.{identity}
-use Rattle.canonical.specs.Programs.{Representing, Comparing}
-use Rattle.layout.specs.Layout.{gridSize, count, entryAt, decodeShape, laidOut}
-use Rattle.machine.specs.CallLists.{Implementation}
+use Rattle.canonical.specs.Programs.{Representing, Comparing, MeetsTerminalRepresent, MeetsTerminalSame, RepresentAlike, SameAlike}
+use Rattle.canonical.specs.Demand2.{TerminalRepresentLeast}
+use Rattle.turned_down.specs.RepresentFaults.{Sent, on, HandsBack}
+use Rattle.turned_down.specs.Faults.{Fault, fault}
 
--- ---- represent and same
+pub record HandsBackMany (f : Representing) : Type 0 where
+  pub back : HandsBack 5 f
+  pub many : 2 < back .fitting .sent .rows
+
+-- ---- numbers
 
 abbrev pub Answering : Type 0
 Answering = (m n top : ℕ) → (x y : List ℕ) → ℕ
@@ -39,49 +39,94 @@ representing f m n top g out = f m n top g out .number
 abbrev pub comparing : Comparing → Answering
 comparing f m n top a b = f m n top a b .number
 
-unfoldable pub AsksColumnsFirst : Answering → Type 0
-AsksColumnsFirst k = (m n top : ℕ) (x y : List ℕ) → 6 ≤ m → m ≤ 8 → 16 < n → k m n top x y ≡ 2
+pub record AsksColumnsFirst (k : Answering) : Type 0 where
+  pub sent : Sent
+  pub many : (6 ≤ sent .rows) × (sent .rows ≤ 8)
+  pub wide : 16 < sent .columns
+  pub columns-first : on k sent ≡ 2
 
-unfoldable pub Refuses5Rows : Answering → Type 0
-Refuses5Rows k = (n top : ℕ) (x y : List ℕ) → k 5 n top x y ≡ 14
+pub record RefusesFewRows (k : Answering) : Type 0 where
+  pub sent : Sent
+  pub few : sent .rows ≤ 5
+  pub refuses : on k sent ≡ 14
 
-unfoldable pub Refuses9Rows : Answering → Type 0
-Refuses9Rows k = (m n top : ℕ) (x y : List ℕ) → 8 < m → k m n top x y ≡ 14
+pub record Refuses9Rows (k : Answering) : Type 0 where
+  pub sent : Sent
+  pub above : 8 < sent .rows
+  pub refuses : on k sent ≡ 14
 
-unfoldable pub Never14 : Answering → Type 0
-Never14 k = (m n top : ℕ) (x y : List ℕ) → k m n top x y ≡ 14 → ⊥
+pub record Never14 (k : Answering) : Type 0 where
+  pub sent : Sent
+  pub many : (6 ≤ sent .rows) × (sent .rows ≤ 8)
+  pub unrefused : on k sent ≡ 14 → ⊥
 
-unfoldable pub Keeps8Positions : Representing → Type 0
-Keeps8Positions f = (m n top : ℕ) (g out : List ℕ) → (f m n top g out .number ≡ 0 → ⊥) → f m n top g out .rows ≡ identity 8
+-- ---- row orders, and the cells that agree
 
-unfoldable pub AgreesWith14 : Comparing → Type 0
-AgreesWith14 f = (m n top : ℕ) (a b : List ℕ) → f m n top a b .number ≡ 14 → f m n top a b .agreed ≡ m * n
+abbrev pub Ordering : Type 0
+Ordering = (m n top : ℕ) → (x y : List ℕ) → List ℕ
 
--- ---- enter
+abbrev pub representRows : Representing → Ordering
+representRows f m n top g out = f m n top g out .rows
 
-unfoldable pub EnterNever14 : Implementation → Type 0
-EnterNever14 i = (b : List ℕ) (c : ℕ) (g : List ℕ) → i .terminalEnters b c g .number ≡ 14 → ⊥
+abbrev pub comparedRows : Comparing → Ordering
+comparedRows f m n top a b = f m n top a b .rows
 
-unfoldable pub EnterRefuses5Rows : Implementation → Type 0
-EnterRefuses5Rows i = (b : List ℕ) (c : ℕ) (g : List ℕ) → laidOut b ≡ true → decodeShape b .rows ≡ 5 → i .terminalEnters b c g .number ≡ 14
+pub record Keeps8Positions (k : Answering) (p : Ordering) : Type 0 where
+  pub sent : Sent
+  pub zero : on k sent ≡ 0
+  pub eight : length (on p sent) ≡ 8
 
-unfoldable pub EnterAsksLengthFirst : Implementation → Type 0
-EnterAsksLengthFirst i =
-    (b : List ℕ) (c : ℕ) (g : List ℕ) → laidOut b ≡ true → eqb (length g) (gridSize (decodeShape b)) ≡ false → i .terminalEnters b c g .number ≡ 6
+pub record Keeps8Refusing (k : Answering) (p : Ordering) : Type 0 where
+  pub sent : Sent
+  pub not-zero : on k sent ≡ 0 → ⊥
+  pub eight : length (on p sent) ≡ 8
 
-unfoldable pub EnterWritesWith14 : Implementation → Type 0
-EnterWritesWith14 i = (b : List ℕ) (c : ℕ) (g : List ℕ) → i .terminalEnters b c g .number ≡ 14 → i .terminalEnters b c g .bytes ≡ b → ⊥
+pub record AgreesWith14 (f : Comparing) : Type 0 where
+  pub sent : Sent
+  pub with-14 : on f sent .number ≡ 14
+  pub agrees : on f sent .agreed ≡ 0 → ⊥
 
-unfoldable pub StoresAsSent : Implementation → Type 0
-StoresAsSent i =
-    (b : List ℕ) (c : ℕ) (g : List ℕ) → i .terminalEnters b c g .number ≡ 0 →
-    entryAt (gridSize (decodeShape b)) (i .terminalEnters b c g .bytes) (i .terminalEnters b c g .place - 1) .grid ≡ g
+-- ---- both sets
 
-unfoldable pub TerminalAppends : Implementation → Type 0
-TerminalAppends i = (b : List ℕ) (c : ℕ) (g : List ℕ) → i .terminalEnters b c g .number ≡ 0 → i .terminalEnters b c g .place ≡ suc (count b)
+pub record BothSets (A : Type 0) : Type 0 where
+  pub system : A
+  pub terminal : A
 
-unfoldable pub OnlyAcknowledges : Implementation → Type 0
-OnlyAcknowledges i = (b : List ℕ) (c : ℕ) (g : List ℕ) → i .terminalEnters b c g .bytes ≡ b
+pub record RepresentsUnlike (p : BothSets Representing) : Type 0 where
+  pub sent : Sent
+  pub few : sent .rows ≤ 5
+  pub one-number : on (p .terminal) sent .number ≡ on (p .system) sent .number
+  pub two-grids : on (p .terminal) sent .out ≡ on (p .system) sent .out → ⊥
 
-unfoldable pub EntersTwice : Implementation → Type 0
-EntersTwice i = (b : List ℕ) (c : ℕ) (g : List ℕ) → i .terminalEnters b c g .number ≡ 101 → ⊥
+pub record ComparesUnlike (p : BothSets Comparing) : Type 0 where
+  pub sent : Sent
+  pub few : sent .rows ≤ 5
+  pub one-number : on (p .terminal) sent .number ≡ on (p .system) sent .number
+  pub unlike : on (p .terminal) sent .agreed ≡ on (p .system) sent .agreed → ⊥
+
+-- ---- as a list
+
+-- by demand 2 at a terminal: the grid handed back as its own least, also where it has more than two rows
+unfoldable pub terminalFaults : List Fault
+terminalFaults =
+    fault TerminalRepresentLeast (HandsBack 5)
+    ∷ fault TerminalRepresentLeast HandsBackMany
+    -- by the questions of a terminal's represent and same: 14 asked after 2, for at most 5 rows, for rows above 8, never
+    ∷ fault MeetsTerminalRepresent (λ f. AsksColumnsFirst (representing f))
+    ∷ fault MeetsTerminalRepresent (λ f. RefusesFewRows (representing f))
+    ∷ fault MeetsTerminalRepresent (λ f. Refuses9Rows (representing f))
+    ∷ fault MeetsTerminalRepresent (λ f. Never14 (representing f))
+    ∷ fault MeetsTerminalSame (λ f. AsksColumnsFirst (comparing f))
+    ∷ fault MeetsTerminalSame (λ f. RefusesFewRows (comparing f))
+    ∷ fault MeetsTerminalSame (λ f. Refuses9Rows (comparing f))
+    ∷ fault MeetsTerminalSame (λ f. Never14 (comparing f))
+    -- its row orders, and the cells that agree
+    ∷ fault MeetsTerminalRepresent (λ f. Keeps8Positions (representing f) (representRows f))
+    ∷ fault MeetsTerminalRepresent (λ f. Keeps8Refusing (representing f) (representRows f))
+    ∷ fault MeetsTerminalSame (λ f. Keeps8Positions (comparing f) (comparedRows f))
+    ∷ fault MeetsTerminalSame (λ f. Keeps8Refusing (comparing f) (comparedRows f))
+    ∷ fault MeetsTerminalSame AgreesWith14
+    -- both sets answer alike for up to 5 rows: the number, and the grid that is written or the cells that agree
+    ∷ fault (λ (p : BothSets Representing). RepresentAlike (p .system) (p .terminal)) RepresentsUnlike
+    ∷ fault (λ (p : BothSets Comparing). SameAlike (p .system) (p .terminal)) ComparesUnlike
+    ∷ []

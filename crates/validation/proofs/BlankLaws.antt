@@ -2,22 +2,22 @@
 --
 --   BlankTo size from to b e at        ==  the lines from `from` up to e are blank, and line e begins at `at`
 --   part at line b, Says r l           ==  the bytes of a line; r says whether l is spaces and a line feed
---   start-inside, line-inside          ==  the first line begins, and a line ends, within the bytes
+--   start-inside, line-inside          ==  an earlier line begins, and a line ends, within the bytes
 --   part-some                          ==  a line has bytes
 --   blank-none, blank-next, blank-all  ==  of no line, of one more, and of all
 --   blank-no                           ==  a line that is not blank refutes them
-use mathlib.Core.Path.{_≡_, refl, sym, ap, _∙_}
+use mathlib.Core.Path.{_≡_, sym, ap, _∙_}
 use mathlib.Core.List.{List, [], _∷_, _++_}
 use mathlib.Core.Bool.{Bool, true, false, true≢false, not}
 use mathlib.Core.Logic.{_↔_}
-use Prim.Native.Nat.{ℕ, _+_, _-_, _*_, _≤_, _<_}
+use Prim.Native.Nat.{ℕ, _+_, _-_, _≤_, _<_}
 use native.Mathlib.Nat.{mul-le-mul-right}
 use native.Mathlib.Decide.{ℕ-discrete}
 use native.Mathlib.Omega.{arith}
 use lib.ListN.{length, take, drop, replicate}
 use borrow.Author.Tests.{not-true, not-false}
-use Rattle.layout.specs.Layout.{headLength, entryWidth, lineLength, blankLine}
-use Rattle.layout.specs.Lines.{lineStart, lineAt, BlanksLaid}
+use Rattle.layout.specs.Layout.{entryWidth, lineLength, lineStart, blankLine}
+use Rattle.layout.specs.Lines.{lineAt, BlanksLaid}
 use Rattle.layout.proofs.LineLaws.{next-start, length-line}
 
 pub record BlankTo (size from to : ℕ) (b : List ℕ) (e at : ℕ) : Type 0 where
@@ -34,22 +34,20 @@ part at line b = take (at + line - at) (drop at b)
 abbrev Says : Bool → List ℕ → Type 0
 Says r l = (r ≡ true) ↔ (l ≡ replicate (length l - 1) 32 ++ (10 ∷ []))
 
-pub start-inside : (size : ℕ) {line : ℕ} → line ≡ lineLength size → (from to n : ℕ) → from ≤ to → headLength + to * lineLength size ≤ n → headLength + from * line ≤ n
-start-inside size sized from to n h k = rw sized (omega (arith, mul-le-mul-right (lineLength size) h))
+pub start-inside : (size from to n : ℕ) → from ≤ to → lineStart size to ≤ n → lineStart size from ≤ n
+start-inside size from to n h k = omega (arith, mul-le-mul-right (lineLength size) h)
 
-next-inside : (size e to n : ℕ) → e < to → headLength + to * lineLength size ≤ n → lineStart size (e + 1) ≤ n
-unfolding lineStart
-next-inside size e to n h k = start-inside size refl (e + 1) to n (omega arith) k
+next-inside : (size e to n : ℕ) → e < to → lineStart size to ≤ n → lineStart size (e + 1) ≤ n
+next-inside size e to n h k = start-inside size (e + 1) to n (omega arith) k
 
-pub blank-none : {size from to at line : ℕ} (b : List ℕ) → from ≤ to → line ≡ lineLength size → at ≡ headLength + from * line → BlankTo size from to b from at
-unfolding lineStart
-blank-none {size} {from} {to} {at} {line} b h l p = record { low = omega arith; high = h; place = p ∙ ap (λ (x : ℕ). headLength + from * x) l; blank = λ i low high. absurd (omega arith) }
+pub blank-none : {size from to at : ℕ} (b : List ℕ) → from ≤ to → at ≡ lineStart size from → BlankTo size from to b from at
+blank-none b h p = record { low = omega arith; high = h; place = p; blank = λ i low high. absurd (omega arith) }
 
 module _ {size from to e at : ℕ} {b : List ℕ} (h : BlankTo size from to b e at) where
   pub blank-all : (e < to → ⊥) → BlanksLaid size from to b
   blank-all done = record { lines = λ i low high. h .blank i low (omega (arith, h .high)) }
 
-  module _ {line : ℕ} (sized : line ≡ lineLength size) (m : e < to) (fits : headLength + to * lineLength size ≤ length b) where
+  module _ {line : ℕ} (sized : line ≡ lineLength size) (m : e < to) (fits : lineStart size to ≤ length b) where
     pub line-inside : at + line ≤ length b
     line-inside = omega (arith, next-inside size e to (length b) m fits, next-start size e, h .place)
 

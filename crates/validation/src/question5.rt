@@ -3,6 +3,8 @@ use crate::blanks;
 use grids::questions;
 use lines::equality;
 use lines::head::Head;
+use lines::head::LENGTH;
+use refusals::Asked;
 ghost use mathlib.Core.Path.{_≡_};
 ghost use mathlib.Core.Bool.{true};
 ghost use mathlib.Core.Logic.{_↔_};
@@ -16,19 +18,10 @@ ghost use Rattle.validation.specs.Limits.{WithinLimits};
 fn within_limits(rows: usize, columns: usize, top: usize, capacity: usize, count: usize) -> bool
     ensures { λ r. ⌜ ((r ≡ true) ↔ WithinLimits rows columns top capacity count) ⌝ }
 {
-    if questions::limits_no(rows, columns, top) != 0 {
+    let Asked::Yes = questions::ask_numbers(rows, columns, top, capacity) else {
         return false;
-    }
-    if capacity < 1 {
-        return false;
-    }
-    if 500 < capacity {
-        return false;
-    }
-    if capacity < count {
-        return false;
-    }
-    true
+    };
+    count <= capacity
 }
 
 // Whether the first line is line 1 of these numbers.
@@ -36,7 +29,7 @@ fn head_laid(register: &[u8], head: Head) -> bool
     requires { ⌜ headLength ≤ length (now register) ⌝ }
     ensures { λ r. ⌜ ((r ≡ true) ↔ (take headLength (now (register .entry)) ≡ headLine (shapeOf head) (head .count))) ⌝ }
 {
-    let mut line = [0u8; 31];
+    let mut line = [0u8; LENGTH];
     lines::head::write_head(&mut line, head);
     equality::begins_with(register, &line)
 }
@@ -45,7 +38,7 @@ fn head_laid(register: &[u8], head: Head) -> bool
 pub fn is_laid_out(register: &[u8]) -> bool
     ensures { λ r. ⌜ r ≡ laidOut (now (register .entry)) ⌝ }
 {
-    if register.len() < 31 {
+    if register.len() < LENGTH {
         return false;
     }
     let head = lines::head::read_head(register);
@@ -56,7 +49,7 @@ pub fn is_laid_out(register: &[u8]) -> bool
         return false;
     }
     let size = head.rows * head.columns;
-    if register.len() != lines::entries::register_length(size, capacity) {
+    if register.len() != lines::entries::line_start(size, capacity) {
         return false;
     }
     if !head_laid(register, head) {

@@ -13,13 +13,14 @@ use Rattle.permutations.proofs.ListLaws.{every-all}
 use Rattle.grids.specs.Order.{rank, leq, less, equal}
 use Rattle.grids.specs.Grids.{capped, isGrid, gridOf, arrangement}
 use Rattle.grids.specs.Least.{arrangements, lesser, leastOf, least}
-use Rattle.grids.specs.Questions.{firstNo, inRange, question1, question2, question3, question6, question7, question14, afterFirst}
+use Rattle.grids.specs.Questions.{firstNo, inRange, question1, question2, question3, question4, question6, question7, question14, afterFirst}
 use Rattle.grids.proofs.OrderLaws.{equal-eq}
 use Rattle.bounds.specs.Bounds.{ranksWithin, inBounds}
 use Rattle.bounds.specs.Prune.{question8, boundsQuestions}
 use Rattle.layout.specs.Decimal.{lead, field, digit, valueFrom, value}
 use Rattle.layout.specs.Layout.{fields, entryWidth, lineLength, entryLine, blankLine, headLine, layout, layoutLength, numberAt, count, cellsOf, holdingsOf, holding, changed, entryAt, decodeShape, decode, inLimits, someHeld, isHoldings, isEntry, ascending, isRegister, laidOut}
-use Rattle.machine.specs.Calls.{Outcome, answered, question4, question5, gridQuestions, clientQuestions, more, fewer, holds, holdingsIn, heldBy, question9, question10, question15, question16, placeIn, insert, without, kept, openQuestions, opened, enterInto, strikeFrom, enterQuestions, strikeQuestions, countQuestions, enterRegister, strikeRegister, entered, struck, entriesIn, countRegister, counted, terminalEnterQuestions, terminalEnterRegister, terminalEntered}
+use Rattle.calls.specs.Entries.{gridQuestions, clientQuestions, more, fewer, holds, holdingsIn, heldBy, question9, question10, question15, question16, placeIn, insert, without}
+use Rattle.calls.specs.Calls.{Outcome, answered, question5, kept, openQuestions, opened, enterInto, strikeFrom, enterQuestions, strikeQuestions, countQuestions, enterRegister, strikeRegister, entered, struck, entriesIn, countRegister, counted, terminalEnterQuestions, terminalEnterRegister, terminalEntered}
 use Rattle.machine.specs.CallLists.{registerCalls, called, run, left}
 use Rattle.worked_cases.specs.Text.{bytes, text}
 use Rattle.worked_cases.specs.Books.{Opening, Opens, openings, Book, KeptBook, books, BooksKept}

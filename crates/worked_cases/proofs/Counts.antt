@@ -21,7 +21,7 @@ use Rattle.bounds.specs.Allperm.{allperm}
 use Rattle.bounds.specs.Prune.{question8, boundsQuestions, prunedYes, pruned}
 use Rattle.layout.specs.Decimal.{lead, field, digit, valueFrom, value}
 use Rattle.layout.specs.Layout.{fields, entryWidth, lineLength, entryLine, blankLine, headLine, layout, numberAt, count, cellsOf, holdingsOf, entryAt, decodeShape, decode, inLimits, someHeld, isHoldings, isEntry, ascending, isRegister, laidOut}
-use Rattle.machine.specs.Calls.{answered, question5, countQuestions, entriesIn, countRegister, counted}
+use Rattle.calls.specs.Calls.{answered, question5, countQuestions, entriesIn, countRegister, counted}
 use Rattle.machine.specs.Demand3.{prunedFor}
 use Rattle.worked_cases.specs.Text.{bytes, text}
 use Rattle.worked_cases.specs.Counts.{CountCase, CountsSo, countCases, CountsHold}

@@ -18,20 +18,21 @@ use Rattle.permutations.proofs.ListLaws.{every-all}
 use Rattle.grids.specs.Order.{rank, less, leq, equal}
 use Rattle.grids.specs.Grids.{capped, isGrid, gridOf, arrangement}
 use Rattle.grids.specs.Least.{arrangements, lesser, leastOf, least}
-use Rattle.grids.specs.Questions.{firstNo, inRange, question1, question2, question3, question6, question7, question14, afterFirst}
+use Rattle.grids.specs.Questions.{firstNo, inRange, question1, question2, question3, question4, question6, question7, question14, afterFirst}
 use Rattle.canonical.specs.Represent.{representQuestions, terminalRepresentQuestions}
 use Rattle.canonical.specs.Same.{sameQuestions, terminalSameQuestions}
 use Rattle.bounds.specs.Prune.{question8, boundsQuestions}
 use Rattle.layout.specs.Decimal.{lead, field, digit, valueFrom, value}
 use Rattle.layout.specs.Layout.{mostHeld, gridsOf, fields, entryWidth, lineLength, entryLine, blankLine, headLine, layout, layoutLength, numberAt, count, cellsOf, holdingsOf, holding, entryAt, decodeShape, decode, inLimits, someHeld, isHoldings, isEntry, ascending, isRegister, laidOut}
-use Rattle.machine.specs.Calls.{question4, question5, gridQuestions, clientQuestions, holds, holdingsIn, heldBy, question9, question10, question15, question16, openQuestions, enterQuestions, strikeQuestions, countQuestions, terminalEnterQuestions}
-use Rattle.machine.specs.CallLists.{questionsOf, accepted}
-use Rattle.machine.proofs.HoldingLaws.{none-by}
+use Rattle.calls.specs.Entries.{gridQuestions, clientQuestions, holds, holdingsIn, heldBy, question9, question10, question15, question16}
+use Rattle.calls.specs.Calls.{question5, openQuestions, enterQuestions, strikeQuestions, countQuestions, terminalEnterQuestions, accepted}
+use Rattle.machine.specs.CallLists.{questionsOf}
+use Rattle.calls.proofs.HoldingLaws.{none-by}
 use Rattle.worked_cases.specs.Text.{bytes, text}
-use Rattle.worked_cases.specs.Edges.{Edge, fresh, short, full, most, tall, tallShort, edges, EdgesHold, Accepted, AskedInOrder, NeverBoth}
+use Rattle.worked_cases.specs.Edges.{Edge, fresh, short, full, most, roomy, tall, tallShort, five, eight, edges, EdgesHold, Accepted, AskedInOrder, NeverBoth}
 
 pub edges-hold : EdgesHold
-unfolding EdgesHold edges fresh short full most tall tallShort bytes text flatten flatMap tabulate numbers select every some occurrences isPermutation words permutations rank less leq equal capped isGrid gridOf arrangement arrangements lesser leastOf least firstNo inRange question1 question2 question3 question6 question7 question14 afterFirst representQuestions terminalRepresentQuestions sameQuestions terminalSameQuestions question8 boundsQuestions lead field digit valueFrom value fields entryWidth lineLength entryLine blankLine headLine layout layoutLength numberAt count cellsOf holdingsOf holding entryAt decodeShape decode inLimits someHeld isHoldings isEntry ascending isRegister laidOut question4 question5 gridQuestions clientQuestions holds holdingsIn heldBy question9 question10 question15 question16 openQuestions enterQuestions strikeQuestions countQuestions terminalEnterQuestions questionsOf
+unfolding EdgesHold edges fresh short full most roomy tall tallShort five eight bytes text flatten flatMap tabulate numbers select every some occurrences isPermutation words permutations rank less leq equal capped isGrid gridOf arrangement arrangements lesser leastOf least firstNo inRange question1 question2 question3 question6 question7 question14 afterFirst representQuestions terminalRepresentQuestions sameQuestions terminalSameQuestions question8 boundsQuestions lead field digit valueFrom value fields entryWidth lineLength entryLine blankLine headLine layout layoutLength numberAt count cellsOf holdingsOf holding entryAt decodeShape decode inLimits someHeld isHoldings isEntry ascending isRegister laidOut question4 question5 gridQuestions clientQuestions holds holdingsIn heldBy question9 question10 question15 question16 openQuestions enterQuestions strikeQuestions countQuestions terminalEnterQuestions questionsOf
 edges-hold = every-all (λ (e : Edge). firstNo (e .asked) ≡ e .number) (λ (e : Edge). eqb (firstNo (e .asked)) (e .number)) (λ e t. eqb-true _ _ t) edges refl
 
 pub accepted-hold : Accepted

@@ -6,3 +6,4 @@ pub mod Outcomes
 pub mod Books
 pub mod Counts
 pub mod Transcripts
+pub mod Matrices

@@ -11,7 +11,7 @@ use borrow.Author.Tests.{eqb-true}
 use Rattle.permutations.proofs.BoolLaws.{and-yes}
 use Rattle.grids.specs.Order.{equal}
 use Rattle.grids.proofs.OrderLaws.{equal-eq}
-use Rattle.machine.specs.Calls.{Outcome}
+use Rattle.calls.specs.Calls.{Outcome}
 
 unfoldable pub outcomeSo : Outcome → ℕ → ℕ → List ℕ → Bool
 outcomeSo o number place b = eqb (o .number) number && (eqb (o .place) place && equal (o .bytes) b)

@@ -14,7 +14,7 @@ use Prim.Native.String.{String}
 use lib.ListN.{replicate}
 use Rattle.permutations.specs.Lists.{All}
 use Rattle.layout.specs.Layout.{Shape}
-use Rattle.machine.specs.Calls.{Outcome, opened}
+use Rattle.calls.specs.Calls.{Outcome, opened}
 use Rattle.machine.specs.CallLists.{Call, enter, strike, countIn, terminalEnter, registerCalls, run, left}
 use Rattle.worked_cases.specs.Text.{text}
 
@@ -331,6 +331,14 @@ books =
       numbers = 0 ∷ [];
       places = 1 ∷ [];
       leaves = "     1     1     1     2     0\n" ∷ "                           \n" ∷ "                           \n" ∷ [];
+    }
+    -- every client's own holding, each changed by another number
+    ∷ record {
+      before = "     1     1     0     1     1\n" ∷ "  0  1  2  3  4  5  6  7  8\n" ∷ [];
+      calls = enter 1 (0 ∷ []) ∷ strike 2 (0 ∷ []) ∷ enter 3 (0 ∷ []) ∷ enter 3 (0 ∷ []) ∷ strike 4 (0 ∷ []) ∷ strike 4 (0 ∷ []) ∷ enter 5 (0 ∷ []) ∷ enter 5 (0 ∷ []) ∷ enter 5 (0 ∷ []) ∷ strike 6 (0 ∷ []) ∷ strike 6 (0 ∷ []) ∷ strike 6 (0 ∷ []) ∷ enter 7 (0 ∷ []) ∷ enter 7 (0 ∷ []) ∷ enter 7 (0 ∷ []) ∷ enter 7 (0 ∷ []) ∷ strike 8 (0 ∷ []) ∷ strike 8 (0 ∷ []) ∷ strike 8 (0 ∷ []) ∷ strike 8 (0 ∷ []) ∷ [];
+      numbers = 101 ∷ 0 ∷ 101 ∷ 101 ∷ 0 ∷ 0 ∷ 101 ∷ 101 ∷ 101 ∷ 0 ∷ 0 ∷ 0 ∷ 101 ∷ 101 ∷ 101 ∷ 101 ∷ 0 ∷ 0 ∷ 0 ∷ 0 ∷ [];
+      places = 1 ∷ 1 ∷ 1 ∷ 1 ∷ 1 ∷ 1 ∷ 1 ∷ 1 ∷ 1 ∷ 1 ∷ 1 ∷ 1 ∷ 1 ∷ 1 ∷ 1 ∷ 1 ∷ 1 ∷ 1 ∷ 1 ∷ 1 ∷ [];
+      leaves = "     1     1     0     1     1\n" ∷ "  0  2  1  5  2  8  3 11  4\n" ∷ [];
     }
     -- a strike where another client holds the class
     ∷ record {

@@ -10,7 +10,7 @@ use Prim.Native.Nat.{ℕ}
 use Prim.Native.String.{String}
 use Rattle.permutations.specs.Lists.{All}
 use Rattle.layout.specs.Layout.{decodeShape}
-use Rattle.machine.specs.Calls.{counted}
+use Rattle.calls.specs.Calls.{counted}
 use Rattle.machine.specs.Demand3.{prunedFor}
 use Rattle.worked_cases.specs.Text.{text}
 
@@ -72,6 +72,17 @@ countCases =
       number = 102;
       prunedLow = 1 ∷ 0 ∷ 0 ∷ 0 ∷ [];
       prunedHigh = 1 ∷ 1 ∷ 0 ∷ 1 ∷ [];
+      sent = 1;
+      left = 1;
+    }
+    -- two rows and one column: the upper high falls to the lower
+    ∷ record {
+      lines = "     2     1     1     1     1\n" ∷ "  0  0  1  0  0  0  0  0  0  0\n" ∷ [];
+      low = 0 ∷ 0 ∷ [];
+      high = 1 ∷ 0 ∷ [];
+      number = 0;
+      prunedLow = 0 ∷ 0 ∷ [];
+      prunedHigh = 0 ∷ 0 ∷ [];
       sent = 1;
       left = 1;
     }

@@ -5,7 +5,9 @@
 --   zeros k   ==  k cells of 0
 --   fresh, short, full, most  ==  the bytes of an open register of 1 row, 1 column, top 1 and capacity 1; the same less the last byte; with the entry 0,
 --                 which client 1 holds once; and with it held 999 times
+--   roomy     ==  the bytes of one of capacity 2 with the entry 0, which client 1 holds 999 times
 --   tall, tallShort     ==  the bytes of an open register of 6 rows, and the same less the last byte
+--   five, eight         ==  the bytes of open registers of 5 and of 8 rows
 --   edges     ==  the table
 --   EdgesHold ==  the statement: every edge gives its number
 --   askedBy b c     ==  the numbers of a call's questions
@@ -23,8 +25,9 @@ use Rattle.canonical.specs.Represent.{representQuestions, terminalRepresentQues
 use Rattle.canonical.specs.Same.{sameQuestions, terminalSameQuestions}
 use Rattle.bounds.specs.Prune.{pruneQuestions}
 use Rattle.layout.specs.Layout.{Register}
-use Rattle.machine.specs.Calls.{shape, question9, question16, openQuestions}
-use Rattle.machine.specs.CallLists.{Call, enter, strike, countIn, terminalEnter, questionsOf, accepted}
+use Rattle.calls.specs.Entries.{question9, question16}
+use Rattle.calls.specs.Calls.{shape, openQuestions, accepted}
+use Rattle.machine.specs.CallLists.{Call, enter, strike, countIn, terminalEnter, questionsOf}
 use Rattle.worked_cases.specs.Text.{text}
 
 pub record Edge : Type 0 where
@@ -46,11 +49,20 @@ full = text ("     1     1     1     1     1\n" ∷ "  0  1  0  0  0  0  0  0  0
 unfoldable pub most : List ℕ
 most = text ("     1     1     1     1     1\n" ∷ "  0999  0  0  0  0  0  0  0\n" ∷ [])
 
+unfoldable pub roomy : List ℕ
+roomy = text ("     1     1     1     2     1\n" ∷ "  0999  0  0  0  0  0  0  0\n" ∷ "                           \n" ∷ [])
+
 unfoldable pub tall : List ℕ
 tall = text ("     6     1     1     1     0\n" ∷ "                                          \n" ∷ [])
 
 unfoldable pub tallShort : List ℕ
 tallShort = text ("     6     1     1     1     0\n" ∷ "                                          " ∷ [])
+
+unfoldable pub five : List ℕ
+five = text ("     5     1     0     1     0\n" ∷ "                                       \n" ∷ [])
+
+unfoldable pub eight : List ℕ
+eight = text ("     8     1     0     1     0\n" ∷ "                                                \n" ∷ [])
 
 unfoldable pub edges : List Edge
 edges =
@@ -117,9 +129,12 @@ edges =
     ∷ record { asked = questionsOf most (enter 0 (0 ∷ [])); number = 15 }
     ∷ record { asked = questionsOf most (enter 9 (0 ∷ [])); number = 15 }
     ∷ record { asked = questionsOf most (enter 257 (0 ∷ [])); number = 15 }
+    ∷ record { asked = questionsOf most (enter 65537 (0 ∷ [])); number = 15 }
     ∷ record { asked = questionsOf most (enter 1 (1 ∷ [])); number = 9 }
     ∷ record { asked = questionsOf most (enter 1 (0 ∷ [])); number = 16 }
     ∷ record { asked = questionsOf most (enter 2 (0 ∷ [])); number = 0 }
+    ∷ record { asked = questionsOf roomy (enter 1 (0 ∷ [])); number = 16 }
+    ∷ record { asked = questionsOf roomy (enter 1 (1 ∷ [])); number = 0 }
     ∷ record { asked = questionsOf full (enter 1 (0 ∷ [])); number = 0 }
     ∷ record { asked = questionsOf full (enter 8 (0 ∷ [])); number = 0 }
     ∷ record { asked = questionsOf fresh (enter 1 (1 ∷ [])); number = 0 }
@@ -134,6 +149,7 @@ edges =
     ∷ record { asked = questionsOf full (strike 0 (0 ∷ [])); number = 15 }
     ∷ record { asked = questionsOf full (strike 9 (0 ∷ [])); number = 15 }
     ∷ record { asked = questionsOf full (strike 257 (0 ∷ [])); number = 15 }
+    ∷ record { asked = questionsOf full (strike 65537 (0 ∷ [])); number = 15 }
     ∷ record { asked = questionsOf full (strike 1 (1 ∷ [])); number = 10 }
     ∷ record { asked = questionsOf full (strike 2 (0 ∷ [])); number = 10 }
     ∷ record { asked = questionsOf full (strike 8 (0 ∷ [])); number = 10 }
@@ -173,6 +189,8 @@ edges =
     ∷ record { asked = questionsOf tall (terminalEnter 9 (2 ∷ 2 ∷ [])); number = 14 }
     ∷ record { asked = questionsOf tall (terminalEnter 9 (zeros 6)); number = 14 }
     ∷ record { asked = questionsOf tall (terminalEnter 1 (zeros 6)); number = 14 }
+    ∷ record { asked = questionsOf eight (terminalEnter 1 (zeros 8)); number = 14 }
+    ∷ record { asked = questionsOf five (terminalEnter 1 (zeros 5)); number = 0 }
     ∷ record { asked = questionsOf short (terminalEnter 9 (2 ∷ 2 ∷ [])); number = 5 }
     ∷ record { asked = questionsOf full (terminalEnter 9 (2 ∷ 2 ∷ [])); number = 6 }
     ∷ record { asked = questionsOf full (terminalEnter 9 (2 ∷ [])); number = 7 }
@@ -184,9 +202,12 @@ edges =
     ∷ record { asked = questionsOf most (terminalEnter 0 (0 ∷ [])); number = 15 }
     ∷ record { asked = questionsOf most (terminalEnter 9 (0 ∷ [])); number = 15 }
     ∷ record { asked = questionsOf most (terminalEnter 257 (0 ∷ [])); number = 15 }
+    ∷ record { asked = questionsOf most (terminalEnter 65537 (0 ∷ [])); number = 15 }
     ∷ record { asked = questionsOf most (terminalEnter 1 (1 ∷ [])); number = 9 }
     ∷ record { asked = questionsOf most (terminalEnter 1 (0 ∷ [])); number = 16 }
     ∷ record { asked = questionsOf most (terminalEnter 2 (0 ∷ [])); number = 0 }
+    ∷ record { asked = questionsOf roomy (terminalEnter 1 (0 ∷ [])); number = 16 }
+    ∷ record { asked = questionsOf roomy (terminalEnter 1 (1 ∷ [])); number = 0 }
     ∷ record { asked = questionsOf full (terminalEnter 1 (0 ∷ [])); number = 0 }
     ∷ record { asked = questionsOf full (terminalEnter 8 (0 ∷ [])); number = 0 }
     ∷ record { asked = questionsOf fresh (terminalEnter 1 (1 ∷ [])); number = 0 }

@@ -304,6 +304,9 @@ runs =
           ∷ "                              \n"
           ∷ [];
     }
+    -- a register of 65,531 bytes is printed; one line more is too large
+    ∷ record { input = "     5    15     0   262\n" ∷ []; output = "     5    15     0   262     0\n" ∷ replicate 262 "                                                                                                                                                                                                                                                         \n" }
+    ∷ record { input = "     5    15     0   263\n" ∷ []; output = "     0    13     0\n" ∷ [] }
     -- a thousand enters by one client: the last is refused by 16, and another client's is accepted
     ∷ record {
       input = "     1     1     0     1\n" ∷ (replicate 1000 "     1     3  0\n" ++ ("     1     4  0\n" ∷ []));

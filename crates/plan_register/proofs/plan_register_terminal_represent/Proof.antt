@@ -7,7 +7,7 @@ same-length : tie.Need-same-length
 same-length c = search needs
 
 returns : tie.Need-returns
-returns c = let x = c .terminal-exported .ensures in rw (x .number, x .rows, x .columns) (c .before .before .before .represent .ensures)
+returns c = let x = c .terminal-exported .ensures in rw (x .number, x .rows, x .columns) (c .before .before .before .represent .ensures .0)
 
 pub plan-register-terminal-represent-spec : {M : Type 1} → statement M
 plan-register-terminal-represent-spec = tie.close (search (tie.spec, same-length, returns, needs))

@@ -5,6 +5,7 @@ use mathlib.Core.List.{[]}
 use native.Mathlib.Omega.{arith}
 use borrow.Author.Tests.{not-true, not-false}
 use borrow.Author.Needs.{needs}
+use Rattle.refusals.proofs.NumberLaws.{no-some, no-is, yes-is}
 use Rattle.grids.specs.Questions.{firstNo, Limits}
 use Rattle.grids.proofs.QuestionLaws.{limits-decide, size-fits}
 use Rattle.bounds.specs.Prune.{pruneQuestions}
@@ -12,26 +13,38 @@ use Rattle.bounds.proofs.PruneSteps.{prune-limits-no, prune-bounds-no, 
 use Rattle.bounds.proofs.prune.prune.Statement.{statement}
 use Rattle.bounds.proofs.prune.prune.Tie as tie
 
+enum-known-refusal : tie.Need-enum-known-refusal
+enum-known-refusal c = search needs
+
 returns : tie.Need-returns
-returns c = prune-limits-no _ _ _ _ _ _ (c .before .limits-no .ensures) (c .if1 .taken)
+returns c = let e = c .before .refusal .given .1 in prune-limits-no _ _ _ _ _ _ (no-is e (c .before .before .before .ask-limits .ensures)) (no-some e)
+
+enum-told : tie.Need-enum-told
+enum-told c = search needs
 
 -- past questions 1 to 3
-within : (c : tie.Else1) →
-    let a = c .before .before .before .before .args in
+within : (c : tie.After-enum-told) →
+    let a = c .before .before .before .before .before .args in
     Limits (a .m) (a .n) (a .top)
-within c = limits-decide _ _ _ .0 (sym (c .before .limits-no .ensures) ∙ c .if1 .left)
+within c = limits-decide _ _ _ .0 (sym (yes-is (c .enum-told .given .1) (c .before .before .ask-limits .ensures)))
 
 mul-size : tie.Need-mul-size
 mul-size c = let l = within c in omega (arith, size-fits _ _ (l .rows-limits .1) (l .column-limits .1))
 
+enum-known-refusal-2 : tie.Need-enum-known-refusal-2
+enum-known-refusal-2 c = search needs
+
 returns-2 : tie.Need-returns-2
-returns-2 c = prune-bounds-no _ _ _ _ _ (within (c .before .before .before .before)) _ (c .before .bounds-no .ensures) (c .if2 .taken)
+returns-2 c = let e = c .before .refusal2 .given .1 in prune-bounds-no _ _ _ _ _ (within (c .before .before .before .before .before .before)) _ (no-is e (c .before .before .before .ask-bounds .ensures)) (no-some e)
+
+enum-told-2 : tie.Need-enum-told-2
+enum-told-2 c = search needs
 
 -- past the questions
-passed : (c : tie.Else2) →
-    let a = c .before .before .before .before .before .before .before .before .args in
+passed : (c : tie.After-enum-told2) →
+    let a = c .before .before .before .before .before .before .before .before .before .before .args in
     firstNo (pruneQuestions (a .m) (a .n) (a .top) (a .low .now) (a .high .now)) ≡ 0
-passed c = prune-yes _ _ _ _ _ (within (c .before .before .before .before)) _ (c .before .bounds-no .ensures) (c .if2 .left)
+passed c = prune-yes _ _ _ _ _ (within (c .before .before .before .before .before)) _ (yes-is (c .enum-told2 .given .1) (c .before .before .ask-bounds .ensures)) refl
 
 sub-narrow : tie.Need-sub-narrow
 sub-narrow c = search needs
@@ -51,17 +64,17 @@ narrow-requires c κs = narrow-ready _ _ _ _ _ (passed (c .before .before .befor
 returns-3 : tie.Need-returns-3
 returns-3 c =
     let d = c .before .before .before in
-    prune-none _ _ _ _ _ (passed (d .before .before .before .before .before)) (d .narrow .result) _ _ (d .narrow .ensures) (not-true _ (c .if3 .taken))
+    prune-none _ _ _ _ _ (passed (d .before .before .before .before .before)) (d .narrow .result) _ _ (d .narrow .ensures) (not-true _ (c .if1 .taken))
 
 -- past narrow: the lists that it leaves
-wrote : (c : tie.Else3) →
+wrote : (c : tie.Else1) →
     let d = c .before .before .before in
-    let a = d .before .before .before .before .before .before .before .before .before .before .before .before .before .args in
+    let a = d .before .before .before .before .before .before .before .before .before .before .before .before .before .before .before .args in
     let l = d .narrow .last in
     Wrote (a .m) (a .n) (a .top) (a .low .now) (a .high .now) (l .1 .1 .1 .1 .0) (l .1 .1 .1 .1 .1 .0)
 wrote c =
     let d = c .before .before .before in
-    narrow-wrote _ _ _ _ _ (passed (d .before .before .before .before .before)) (d .narrow .result) _ _ (d .narrow .ensures) (not-false _ (c .if3 .left))
+    narrow-wrote _ _ _ _ _ (passed (d .before .before .before .before .before)) (d .narrow .result) _ _ (d .narrow .ensures) (not-false _ (c .if1 .left))
 
 sub-removed : tie.Need-sub-removed
 sub-removed c = search needs
@@ -110,4 +123,4 @@ returns-4 c =
 
 pub prune-spec : {M : Type 1} → statement M
 prune-spec =
-    tie.close (search (tie.spec, returns, mul-size, returns-2, sub-narrow, part-lows-end, sub-narrow-2, part-highs-end, narrow-requires, returns-3, sub-removed, part-removed-end, sub-removed-2, part-removed-end-2, removed-requires, sub-copy, part-copy-end, copy-requires, sub-copy-2, part-copy-end-2, copy-requires-2, same-length-5, same-length-6, returns-4, needs))
+    tie.close (search (tie.spec, enum-known-refusal, returns, enum-told, mul-size, enum-known-refusal-2, returns-2, enum-told-2, sub-narrow, part-lows-end, sub-narrow-2, part-highs-end, narrow-requires, returns-3, sub-removed, part-removed-end, sub-removed-2, part-removed-end-2, removed-requires, sub-copy, part-copy-end, copy-requires, sub-copy-2, part-copy-end-2, copy-requires-2, same-length-5, same-length-6, returns-4, needs))

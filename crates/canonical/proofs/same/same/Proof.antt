@@ -1,31 +1,40 @@
 -- `same` meets its contract: a refusal has the number of the first no; past the questions the two least arrangements decide,
 -- and where these are equal, a's orders followed by the inverses of b's carry a to b.
-use mathlib.Core.Path.{_≡_, sym, _∙_}
+use mathlib.Core.Path.{_≡_, refl, sym, _∙_}
 use native.Mathlib.Omega.{arith}
 use borrow.Author.Tests.{not-true, not-false}
 use borrow.Author.Needs.{needs}
+use Rattle.refusals.proofs.NumberLaws.{no-some, no-is, yes-is}
 use Rattle.grids.specs.Grids.{IsGrid}
 use Rattle.grids.specs.Questions.{firstNo, Limits}
-use Rattle.canonical.specs.Same.{sameQuestions, sameNumber, sameAgreed}
+use Rattle.canonical.specs.Represent.{OrderSizes}
+use Rattle.canonical.specs.Same.{sameQuestions}
 use Rattle.canonical.proofs.CallLaws.{same-pass}
-use Rattle.canonical.proofs.CallSteps.{least-produces, followed-of, same-refuses, agreed-small, same-differs, same-gives}
+use Rattle.canonical.proofs.CallSteps.{least-produces, followed-of, sizes-starting, same-refuses, agreed-small, same-differs, same-gives}
 use Rattle.canonical.proofs.same.same.Statement.{statement}
 use Rattle.canonical.proofs.same.same.Tie as tie
 
+enum-known-refusal : tie.Need-enum-known-refusal
+enum-known-refusal c = search needs
+
+enum-told : tie.Need-enum-told
+enum-told c = search needs
+
 returns : tie.Need-returns
-unfolding sameNumber sameAgreed
 returns c =
     let u = c .unmatched .ensures in
-    let e = c .before .before .same-no .ensures in
-    let h = c .before .if1 .taken in
-    same-refuses _ _ _ _ _ _ _ _ _ _ (λ z. h (e ∙ z)) (u .number-is ∙ e) (u .agreed-is) (u .starting)
+    let e = c .before .before .refusal .given .1 in
+    let k = no-is e (c .before .before .before .before .ask-same .ensures) in (
+      same-refuses _ _ _ _ _ _ _ _ (λ z. no-some e (k ∙ z)) (record { number-is = u .number-is ∙ k; agreed-is = u .agreed-is; starting = u .starting }),
+      sizes-starting _ _ _ _ _ _ (λ z. no-some e (sym (u .number-is) ∙ z)) (u .sizes),
+    )
 
 -- past the questions
-passed : (c : tie.Else1) → let a = c .before .before .before .before .args in firstNo (sameQuestions (a .m) (a .n) (a .top) (a .a .now) (a .b .now)) ≡ 0
-passed c = sym (c .before .same-no .ensures) ∙ c .if1 .left
+passed : (c : tie.After-enum-told) → let a = c .before .before .before .before .before .args in firstNo (sameQuestions (a .m) (a .n) (a .top) (a .a .now) (a .b .now)) ≡ 0
+passed c = sym (yes-is (c .enum-told .given .1) (c .before .before .ask-same .ensures))
 
-fits : (c : tie.Else1) →
-    let a = c .before .before .before .before .args in
+fits : (c : tie.After-enum-told) →
+    let a = c .before .before .before .before .before .args in
     Limits (a .m) (a .n) (a .top) × IsGrid (a .m) (a .n) (a .top) (a .a .now) × IsGrid (a .m) (a .n) (a .top) (a .b .now)
 fits c = same-pass _ _ _ _ _ .0 (passed c)
 
@@ -43,18 +52,22 @@ cast-agreed c =
     let d = c .before in
     let p = d .before .before .least-orders .ensures in
     let q = d .before .least-orders2 .ensures in
-    omega (arith, agreed-small _ _ _ _ _ _ _ (passed (d .before .before .before)) p q _ (d .compare-arrangements .ensures))
+    omega (arith, agreed-small _ _ _ _ _ _ _ (fits (d .before .before .before)) p q _ (d .compare-arrangements .ensures))
 
 returns-2 : tie.Need-returns-2
 returns-2 c =
     let d = c .before .before .before .before in
+    let z = d .before .before .before in
     let p = d .before .before .least-orders .ensures in
     let q = d .before .least-orders2 .ensures in
-    let u = c .unmatched2 .ensures in
-    same-differs _ _ _ _ _ _ _ (passed (d .before .before .before)) p q _ (d .compare-arrangements .ensures) _ _ (c .before .before .is-equal .ensures) (not-true _ (c .before .if2 .taken)) _ _ _ _
-    (u .number-is) (u .agreed-is) (u .starting)
+    let u = c .unmatched2 .ensures in (
+      same-differs _ _ _ _ _ _ _ (fits z) p q _ (d .compare-arrangements .ensures) _ (c .before .before .is-equal .ensures) (not-true _ (c .before .if1 .taken)) _ _ _ (passed z)
+          (u .number-is) (u .agreed-is) (u .starting),
+      sizes-starting _ _ _ _ _ _ (λ e. omega (arith, u .number-is, e)) (u .sizes),
+    )
 
 returns-3 : tie.Need-returns-3
+unfolding OrderSizes
 returns-3 c =
     let t = c .before .before .before .before in
     let d = t .before .before .before in
@@ -63,11 +76,13 @@ returns-3 c =
     let p = d .before .before .least-orders .ensures in
     let q = d .before .least-orders2 .ensures in
     let i = c .before .before .before .inverse .ensures in
-    let j = c .before .inverse2 .ensures in
-    same-gives _ _ _ _ _ _ _ (passed z) p q _ (d .compare-arrangements .ensures) _ _ (t .before .is-equal .ensures) (not-false _ (t .if2 .left)) _ _ _ _ _ _
-    (least-produces _ _ _ _ p) (least-produces _ _ _ _ q)
-    (followed-of _ _ _ _ _ _ _ _ _ (l .rows-limits .0) (l .rows-limits .1) (p .orders .rows .whole) (q .orders .rows .whole) (p .orders .rows .size) (q .orders .rows .size) (i .size) (i .numbers) (c .before .before .composed .ensures .numbers))
-    (followed-of _ _ _ _ _ _ _ _ _ (l .column-limits .0) (l .column-limits .1) (p .orders .columns .whole) (q .orders .columns .whole) (p .orders .columns .size) (q .orders .columns .size) (j .size) (j .numbers) (c .composed2 .ensures .numbers))
+    let j = c .before .inverse2 .ensures in (
+      same-gives _ _ _ _ _ _ _ (fits z) p q _ (d .compare-arrangements .ensures) _ (t .before .is-equal .ensures) (not-false _ (t .if1 .left)) _ _ _ _ _ _ _ (passed z) refl refl
+          (least-produces _ _ _ _ p) (least-produces _ _ _ _ q)
+          (followed-of _ _ _ _ _ _ _ _ _ (l .rows-limits .0) (l .rows-limits .1) (p .orders .rows .whole) (q .orders .rows .whole) (p .orders .rows .size) (q .orders .rows .size) (i .size) (i .numbers) (c .before .before .composed .ensures .numbers))
+          (followed-of _ _ _ _ _ _ _ _ _ (l .column-limits .0) (l .column-limits .1) (p .orders .columns .whole) (q .orders .columns .whole) (p .orders .columns .size) (q .orders .columns .size) (j .size) (j .numbers) (c .composed2 .ensures .numbers)),
+      record { row-size = c .before .before .composed .ensures .size ∙ p .orders .rows .size; column-size = c .composed2 .ensures .size ∙ p .orders .columns .size },
+    )
 
 pub same-spec : {M : Type 1} → statement M
-same-spec = tie.close (search (tie.spec, returns, least-orders-requires, least-orders-requires-2, compare-arrangements-requires, cast-agreed, returns-2, returns-3, needs))
+same-spec = tie.close (search (tie.spec, enum-known-refusal, returns, enum-told, least-orders-requires, least-orders-requires-2, compare-arrangements-requires, cast-agreed, returns-2, returns-3, needs))

@@ -4,7 +4,7 @@ use mathlib.Core.Path.{refl}
 use Prim.Native.Nat.{_-_}
 use native.Mathlib.Omega.{arith}
 use borrow.Author.Needs.{needs}
-use Rattle.machine.proofs.ValidLaws.{valid-sizes}
+use Rattle.calls.proofs.ValidLaws.{valid-sizes}
 use Rattle.counting.proofs.CountLaws.{Counting, parts-fit, bounds-ordered, counting-none, counting-room, counting-next, counting-all}
 use Rattle.counting.proofs.within.count_within.Statement.{statement}
 use Rattle.counting.proofs.within.count_within.Tie as tie

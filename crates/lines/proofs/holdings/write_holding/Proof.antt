@@ -1,7 +1,8 @@
--- `write_holding` meets its contract: the three bytes are lent to the writer of a number.
+-- `write_holding` meets its contract: the holding's bytes are lent to the writer of a number.
 use Prim.Native.Nat.{_+_, _-_, _*_}
 use native.Mathlib.Omega.{arith}
 use borrow.Author.Needs.{needs}
+use Rattle.layout.specs.Layout.{cellWidth}
 use Rattle.lines.proofs.FillLaws.{in-place}
 use Rattle.lines.proofs.HoldingLaws.{holding-inside}
 use Rattle.lines.proofs.holdings.write_holding.Statement.{statement}
@@ -37,7 +38,7 @@ same-length c = search needs
 returns : tie.Need-returns
 returns c =
     let a = c .before .before .before .before .before .args in
-    in-place 3 (a .part .now) _ (3 * (a .size + (a .client - 1))) (a .number) (omega (arith, holding-inside (a .size) (a .client) (omega arith) (omega arith))) (c .before .before .write-number .ensures)
+    in-place cellWidth (a .part .now) _ (cellWidth * (a .size + (a .client - 1))) (a .number) (omega (arith, holding-inside (a .size) (a .client) (omega arith) (omega arith))) (c .before .before .write-number .ensures)
 
 pub write-holding-spec : {M : Type 1} → statement M
 write-holding-spec =

@@ -10,7 +10,7 @@ use Rattle.register.proofs.asking.ask.Tie as tie
 returns : tie.Need-returns
 returns c =
     let t = c .before .before .is-laid-out in
-    asked-no (asked-5 (c .before .before .before .before .before .before .args .terminal) _ _ _ (sym (t .ensures) ∙ not-true (t .result) (c .before .if1 .taken))) (c .before .before .before .before .before .before .pre) (c .refusal .ensures)
+    asked-no (asked-5 (c .before .before .before .before .before .before .args .terminal) _ _ _ (sym (t .ensures) ∙ not-true (t .result) (c .before .if1 .taken))) (c .before .before .before .before .before .before .pre) (c .refused .ensures)
 
 read-head-requires : tie.Need-read-head-requires
 read-head-requires c κs = laid-head _ (laid-yes _ (c .before .is-laid-out .ensures) (c .if1 .left))
@@ -28,7 +28,7 @@ returns-2 : tie.Need-returns-2
 returns-2 c =
     let a = c .before .before .before .before .before .before .before .before .before .before .before .before .args in
     let r = c .before .before .before .write-least in
-    asked-yes (laid-yes _ (c .before .before .before .before .before .before .before .before .is-laid-out .ensures) (c .before .before .before .before .before .before .before .if1 .left)) (c .before .before .before .before .before .before .read-head .ensures) (a .terminal) (a .client) _ (a .least .now) (r .last .1 .1 .1 .1 .1 .0) (c .before .before .before .before .before .before .before .before .before .before .before .before .pre) (r .kept .1 .1 .1 .1 .1 .0) (r .ensures) (c .client-no .ensures)
+    asked-yes (laid-yes _ (c .before .before .before .before .before .before .before .before .is-laid-out .ensures) (c .before .before .before .before .before .before .before .if1 .left)) (c .before .before .before .before .before .before .read-head .ensures) (a .terminal) (a .client) _ (a .least .now) (r .last .1 .1 .1 .1 .1 .0) (c .before .before .before .before .before .before .before .before .before .before .before .before .pre) (r .kept .1 .1 .1 .1 .1 .0) (r .ensures) (c .ask-client .ensures)
 
 pub ask-spec : {M : Type 1} → statement M
 ask-spec =

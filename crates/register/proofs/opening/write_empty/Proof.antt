@@ -4,8 +4,9 @@ use Prim.Native.Nat.{_-_}
 use native.Mathlib.Omega.{arith}
 use lib.Seq.{length-take-le}
 use borrow.Author.Needs.{needs}
-use Rattle.machine.specs.Calls.{shape}
-use Rattle.machine.proofs.ValidMoves.{room-part}
+use Rattle.layout.specs.Layout.{headLength}
+use Rattle.calls.specs.Calls.{shape}
+use Rattle.calls.proofs.ValidMoves.{room-part}
 use Rattle.register.proofs.OpenSteps.{Filling, filling-head, filling-next, filling-all, filling-room, limits-size, head-fits}
 use Rattle.register.proofs.opening.write_empty.Statement.{statement}
 use Rattle.register.proofs.opening.write_empty.Tie as tie
@@ -29,7 +30,7 @@ part-write-head-end : tie.Need-part-write-head-end Inv-loop μ-loop
 part-write-head-end c = let a = c .before .before in head-fits _ (a .args .register .now) (a .pre .1)
 
 write-head-requires : tie.Need-write-head-requires Inv-loop μ-loop
-write-head-requires c κs = let a = c .before .before .before in length-take-le 31 (a .args .register .now) (head-fits _ (a .args .register .now) (a .pre .1))
+write-head-requires c κs = let a = c .before .before .before in length-take-le headLength (a .args .register .now) (head-fits _ (a .args .register .now) (a .pre .1))
 
 loop-holds : tie.Need-loop-holds Inv-loop μ-loop
 loop-holds c =

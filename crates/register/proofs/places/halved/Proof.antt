@@ -4,7 +4,7 @@ use lib.ListN.{length-map}
 use borrow.Author.Needs.{needs}
 use Rattle.grids.proofs.ComparisonLaws.{less-yes, less-no}
 use Rattle.layout.specs.Layout.{Entry, decode}
-use Rattle.machine.proofs.ValidLaws.{valid-ascends, valid-count}
+use Rattle.calls.proofs.ValidLaws.{valid-ascends, valid-count}
 use Rattle.register.proofs.PlaceSteps.{halved-low, halved-high}
 use Rattle.register.proofs.places.halved.Statement.{statement}
 use Rattle.register.proofs.places.halved.Tie as tie

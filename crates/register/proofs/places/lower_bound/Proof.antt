@@ -3,9 +3,9 @@ use Prim.Native.Nat.{_-_}
 use native.Mathlib.Omega.{arith}
 use lib.ListN.{length-map}
 use Rattle.layout.specs.Layout.{Entry, gridsOf, decode}
-use Rattle.machine.specs.Places.{Between}
-use Rattle.machine.proofs.ValidLaws.{valid-count}
-use Rattle.machine.proofs.PlaceLaws.{between-start, between-lower}
+use Rattle.calls.specs.Places.{Between}
+use Rattle.calls.proofs.ValidLaws.{valid-count}
+use Rattle.calls.proofs.PlaceLaws.{between-start, between-lower}
 use Rattle.register.proofs.places.lower_bound.Statement.{statement}
 use Rattle.register.proofs.places.lower_bound.Tie as tie
 

@@ -1,7 +1,7 @@
 -- `entries_laid` meets its contract.
 use borrow.Author.Needs.{needs}
 use mathlib.Core.Logic.{Iff·trans}
-use Rattle.scan.proofs.LineLaws.{start-fits, lines-entries}
+use Rattle.scan.proofs.LineLaws.{lines-entries}
 use Rattle.scan.proofs.TableLaws.{tables-of}
 use Rattle.scan.proofs.entries.entries_laid.Statement.{statement}
 use Rattle.scan.proofs.entries.entries_laid.Tie as tie
@@ -23,7 +23,7 @@ lines-laid-requires c κs =
     let s = h .before .before .before in (
       s .pre .0,
       s .pre .1,
-      start-fits (s .args .size) (s .args .count) _ (s .pre .2),
+      s .pre .2,
       tables-of (s .args .size) (s .args .top) _ _ _ (g .before .teen-of .result) (f .before .span-of .result) (h .fill .ensures) (g .fill2 .ensures) (f .fill3 .ensures) (g .before .teen-of .ensures) (f .before .span-of .ensures),
     )
 
@@ -31,7 +31,7 @@ returns : tie.Need-returns
 returns c =
     let s = c .before .before .before .before .before .before .before .before .before .before .before .before .before in
     let a = s .args in
-    Iff·trans (c .lines-laid .ensures) (lines-entries (a .size) (a .top) (a .count) (a .register .now) (s .pre .1) (start-fits (a .size) (a .count) _ (s .pre .2)))
+    Iff·trans (c .lines-laid .ensures) (lines-entries (a .size) (a .top) (a .count) (a .register .now) (s .pre .1) (s .pre .2))
 
 pub entries-laid-spec : {M : Type 1} → statement M
 entries-laid-spec =

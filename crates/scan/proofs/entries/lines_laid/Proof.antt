@@ -3,7 +3,7 @@ use mathlib.Core.Path.{_≡_, refl, sym}
 use Prim.Native.Nat.{_+_, _-_, _<_}
 use native.Mathlib.Omega.{arith}
 use borrow.Author.Tests.{not-true, not-false}
-use Rattle.layout.specs.Lines.{lineStart}
+use Rattle.layout.specs.Layout.{headLength, lineStart}
 use Rattle.layout.proofs.LineLaws.{start-zero, next-start, cells-inside}
 use Rattle.scan.specs.Lines.{LinesLaid}
 use Rattle.scan.proofs.EntryLaws.{cells-none, lines-none, lines-one, lines-next, lines-first-not, lines-not, lines-all}
@@ -30,13 +30,13 @@ returns-2 : tie.Need-returns-2 Inv-loop μ-loop
 returns-2 c =
     let f = c .before .line-laid in
     let a = c .before .before .before .before .args in
-    lines-first-not (a .size) (a .top) (a .count) 31 (a .register .now) (omega arith) refl (f .result) (f .ensures) (not-true (f .result) (c .if2 .taken))
+    lines-first-not (a .size) (a .top) (a .count) headLength (a .register .now) (omega arith) refl (f .result) (f .ensures) (not-true (f .result) (c .if2 .taken))
 
 loop-holds : tie.Need-loop-holds Inv-loop μ-loop
 loop-holds c =
     let f = c .before .before .line-laid in
     let a = c .before .before .before .before .before .args in
-    (omega arith, sym (start-zero (a .size)), lines-one (a .size) (a .top) 31 (a .register .now) refl (f .ensures .0 (not-false (f .result) (c .before .if2 .left))))
+    (omega arith, sym (start-zero (a .size)), lines-one (a .size) (a .top) headLength (a .register .now) refl (f .ensures .0 (not-false (f .result) (c .before .if2 .left))))
 
 line-length-requires : tie.Need-line-length-requires Inv-loop μ-loop
 line-length-requires c κs = c .before .before .before .before .pre .0

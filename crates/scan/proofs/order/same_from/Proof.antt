@@ -17,17 +17,17 @@ abbrev μ-loop : tie.MeasureT-loop
 loop-holds : tie.Need-loop-holds Inv-loop μ-loop
 loop-holds c = (omega arith, same-none _ _ _)
 
-add-stays-same : tie.Need-add-stays-same Inv-loop μ-loop
-add-stays-same c = omega (arith, c .before .before .before .pre .0)
+add-stays-equal : tie.Need-add-stays-equal Inv-loop μ-loop
+add-stays-equal c = omega (arith, c .before .before .before .pre .0)
 
-shared-slice-read-stays-same : tie.Need-shared-slice-read-stays-same Inv-loop μ-loop
-shared-slice-read-stays-same c = omega (arith, c .before .before .before .before .pre .0)
+shared-slice-read-stays-equal : tie.Need-shared-slice-read-stays-equal Inv-loop μ-loop
+shared-slice-read-stays-equal c = omega (arith, c .before .before .before .before .pre .0)
 
-add-stays-same-2 : tie.Need-add-stays-same-2 Inv-loop μ-loop
-add-stays-same-2 c = omega (arith, c .before .before .before .before .pre .1)
+add-stays-equal-2 : tie.Need-add-stays-equal-2 Inv-loop μ-loop
+add-stays-equal-2 c = omega (arith, c .before .before .before .before .pre .1)
 
-shared-slice-read-stays-same-2 : tie.Need-shared-slice-read-stays-same-2 Inv-loop μ-loop
-shared-slice-read-stays-same-2 c = omega (arith, c .before .before .before .before .before .pre .1)
+shared-slice-read-stays-equal-2 : tie.Need-shared-slice-read-stays-equal-2 Inv-loop μ-loop
+shared-slice-read-stays-equal-2 c = omega (arith, c .before .before .before .before .before .pre .1)
 
 add-n : tie.Need-add-n Inv-loop μ-loop
 add-n c = omega arith
@@ -39,7 +39,7 @@ loop-again : tie.Need-loop-again Inv-loop μ-loop
 loop-again c =
     let l = c .before .before .before .before .loop in
     let a = c .before .before .before .before .before .before .args in
-    (omega arith, c .stays-same .ensures ∙ rw (l .inv .1) (sym (same-next (a .register .now) (a .p) (a .q) (l .n))))
+    (omega arith, c .stays-equal .ensures ∙ rw (l .inv .1) (sym (same-next (a .register .now) (a .p) (a .q) (l .n))))
 
 returns : tie.Need-returns Inv-loop μ-loop
 returns c =
@@ -49,4 +49,4 @@ returns c =
 
 pub same-from-spec : {M : Type 1} → statement M
 same-from-spec {M} =
-    tie.close (search (tie.spec {M = M} Inv-loop μ-loop, loop-holds, add-stays-same, shared-slice-read-stays-same, add-stays-same-2, shared-slice-read-stays-same-2, add-n, loop-less, loop-again, returns, needs))
+    tie.close (search (tie.spec {M = M} Inv-loop μ-loop, loop-holds, add-stays-equal, shared-slice-read-stays-equal, add-stays-equal-2, shared-slice-read-stays-equal-2, add-n, loop-less, loop-again, returns, needs))

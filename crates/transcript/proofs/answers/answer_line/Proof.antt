@@ -15,11 +15,14 @@ read-command-requires c κs = search needs
 
 returns : tie.Need-returns
 returns c =
-    let a = c .before .before .before .before .before .before in
-    answer-malformed _ _ _ (c .before .before .read-command .ensures) (a .args .register .now) (c .if1 .taken)
+    let d = c .before in
+    let a = d .before .before .before .before .before .before in
+    answer-malformed _ _ _ (d .before .before .read-command .ensures) (a .args .register .now) (d .if1 .taken) (c .number .ensures)
 
 read-client-requires : tie.Need-read-client-requires
-read-client-requires c κs = lead-room (c .before .before .read-command .ensures) (c .if1 .left)
+read-client-requires c κs =
+    let r = c .before .before .read-command .ensures in
+    (r .command-is (c .if1 .left), lead-room r (c .if1 .left))
 
 cell-count-requires : tie.Need-cell-count-requires
 cell-count-requires c κs = search needs

@@ -4,7 +4,7 @@ use Prim.Native.Nat.{_-_}
 use native.Mathlib.Omega.{arith}
 use lib.ListN.{length, length-drop}
 use borrow.Author.Needs.{needs}
-use Rattle.machine.proofs.ValidMoves.{tail-part}
+use Rattle.calls.proofs.ValidMoves.{tail-part}
 use Rattle.transcript.proofs.AnswerSteps.{Answering, answering-none, answering-next, answering-all, answering-room, answering-size, answering-kept}
 use Rattle.transcript.proofs.answers.answer_lines.Statement.{statement}
 use Rattle.transcript.proofs.answers.answer_lines.Tie as tie

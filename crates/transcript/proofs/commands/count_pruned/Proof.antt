@@ -38,12 +38,14 @@ part-count-end-2 c =
 
 returns-2 : tie.Need-returns-2
 returns-2 c =
-    let a = c .before .before .before .before .before .before .before .before .before .before .before .before .before .args in
-    let d = c .before .before .before .before .before .before .before .before .prune-parted in
-    pruned-counted _ _ _ _ _ (d .ensures) (c .before .before .before .before .before .if1 .left)
+    let a = c .before .before .before .before .before .before .before .before .before .before .before .before .before .before .args in
+    let d = c .before .before .before .before .before .before .before .before .before .prune-parted in
+    let x = c .counted .ensures in
+    rw (x .0, x .1)
+    (pruned-counted _ _ _ _ _ (d .ensures) (c .before .before .before .before .before .before .if1 .left)
     (part-is (d .last .1 .1 .1 .1 .0) _ (a .m * a .n) (d .kept .1 .1 .1 .1 .0 ∙ part-length _ (a .m * a .n) (omega arith)))
     (part-is (d .last .1 .1 .1 .1 .1 .0) _ (a .m * a .n) (d .kept .1 .1 .1 .1 .1 .0 ∙ part-length _ (a .m * a .n) (omega arith)))
-    (c .count .ensures)
+    (c .before .count .ensures))
 
 pub count-pruned-spec : {M : Type 1} → statement M
 count-pruned-spec = tie.close (search (tie.spec, mul-size, part-low-end, part-high-end, prune-parted-requires, returns, part-count-end, part-count-end-2, returns-2, needs))

@@ -10,13 +10,17 @@ same-length : tie.Need-same-length
 same-length c = search needs
 
 returns : tie.Need-returns
-returns c = c .before .before .enter .ensures ∙ sym (enter-of _ _ _ _ _ _ (c .before .before .before .before .if1 .taken))
+returns c =
+    let x = c .placed .ensures in
+    rw (x .0, x .1) (c .before .before .before .enter .ensures ∙ sym (enter-of _ _ _ _ _ _ (c .before .before .before .before .before .if1 .taken)))
 
 same-length-2 : tie.Need-same-length-2
 same-length-2 c = search needs
 
 returns-2 : tie.Need-returns-2
-returns-2 c = c .before .before .strike .ensures ∙ sym (strike-of _ _ _ _ _ _ (c .before .before .before .before .if2 .taken))
+returns-2 c =
+    let x = c .placed2 .ensures in
+    rw (x .0, x .1) (c .before .before .before .strike .ensures ∙ sym (strike-of _ _ _ _ _ _ (c .before .before .before .before .before .if2 .taken)))
 
 count-pruned-requires : tie.Need-count-pruned-requires
 count-pruned-requires c κs =

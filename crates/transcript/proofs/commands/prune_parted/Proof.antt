@@ -15,8 +15,8 @@ same-length-2 c = search needs
 
 returns : tie.Need-returns
 returns c =
-    let a = c .before .before .before .before .before .before .before .before .before .before .before .before .before .before .before .before .before in
-    parted-pruned (a .args .cells .now) (a .pre .1) (c .before .before .before .before .before .before .before .before .before .before .before .part .ensures) (c .before .before .before .before .prune .ensures)
+    let a = c .before .before .before .before .before .before .before .before .before .before .before .before .before .before .before .before .before .before in
+    rw (c .counted .ensures .0) (parted-pruned (a .args .cells .now) (a .pre .1) (c .before .before .before .before .before .before .before .before .before .before .before .before .part .ensures) (c .before .before .before .before .before .prune .ensures))
 
 pub prune-parted-spec : {M : Type 1} → statement M
 prune-parted-spec = tie.close (search (tie.spec, part-requires, same-length, same-length-2, returns, needs))

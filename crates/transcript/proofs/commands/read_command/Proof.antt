@@ -61,9 +61,10 @@ returns-5 c =
     command-refused (a .args .size) (a .args .line .now) (λ t. c .if5 .taken (laid-parts (a .args .size) (a .args .line .now) (s .six-wide .ensures .0) (l .lead-length .ensures .0) (n .cell-count .ensures .0) t .feed)) (a .pre .1)
 
 lead-laid-requires : tie.Need-lead-laid-requires
+unfolding commandIn
 lead-laid-requires c κs =
     let n = c .before .before .before in
-    omega (arith, n .before .lead-length .ensures .0, c .before .before .if4 .left)
+    (n .before .before .before .before .six-wide .ensures .0, omega (arith, n .before .lead-length .ensures .0, c .before .before .if4 .left))
 
 returns-6 : tie.Need-returns-6
 unfolding commandIn

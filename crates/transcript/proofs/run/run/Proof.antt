@@ -3,7 +3,7 @@ use mathlib.Core.Path.{ap}
 use native.Mathlib.Omega.{arith}
 use lib.ListN.{length, length-drop}
 use borrow.Author.Needs.{needs}
-use Rattle.machine.proofs.ValidMoves.{tail-part}
+use Rattle.calls.proofs.ValidMoves.{tail-part}
 use Rattle.transcript.proofs.RunSteps.{ready-runs, ran-small, ran-room, ran}
 use Rattle.transcript.proofs.run.run.Statement.{statement}
 use Rattle.transcript.proofs.run.run.Tie as tie

@@ -1,0 +1,13 @@
+pub mod AskedLaws
+pub mod RefusalLaws
+pub mod EntryLaws
+pub mod HoldingLaws
+pub mod PlaceLaws
+pub mod ValidLaws
+pub mod LeastSteps
+pub mod ValidMoves
+pub mod ValidSteps
+pub mod CountSteps
+pub mod CallLaws
+pub mod TerminalLaws
+pub mod PassLaws

@@ -1,0 +1,4 @@
+pub mod Entries
+pub mod Calls
+pub mod Places
+pub mod Valid
