@@ -1,13 +1,18 @@
-// The program planbook: reads standard input, up to one byte over its limit, and writes what is printed for it.
-use libc::STDIN_FILENO;
-use libc::STDOUT_FILENO;
+// The program planbook: reads standard input, up to one byte over its limit, and writes what is printed for it. Where
+// standard input or standard output fails it says so to standard error, and prints nothing for an input read in part.
+mod reading;
+mod waiting;
+mod writing;
+
+use reading::Reading;
+use reading::read_input;
 use transcript::run;
+use writing::write_output;
 ghost use mathlib.Core.Path.{_≡_};
 ghost use mathlib.Core.Bool.{true};
-ghost use Prim.Native.Nat.{_≤_, _<_};
+ghost use Prim.Native.Nat.{_≤_};
 ghost use lib.ListN.{length, take};
-ghost use Rattle.io.specs.Counts.{Counts};
-ghost use Rattle.protocol.specs.Transcript.{byteLimit, transcript};
+ghost use Rattle.protocol.specs.Transcript.{transcript};
 ghost use Rattle.protocol.specs.Programs.{hasRoom};
 
 // Room for the input, and for the byte that makes it too long.
@@ -24,14 +29,6 @@ fn output_buffer() -> [u8; 1310720]
     [0; 1310720]
 }
 
-// Reads standard input into a slice with room for a byte over the limit. Returns how many bytes were read.
-fn read_input(input: &mut [u8]) -> usize
-    requires { ⌜ byteLimit < length (now input) ⌝ }
-    ensures { λ r. ⌜ Counts r (now (input .exit)) ⌝ }
-{
-    io::read_full(STDIN_FILENO, input)
-}
-
 // Writes what is printed for the input over the first bytes of a slice. Returns how many bytes that is.
 fn print_into(input: &[u8], register: &mut [u8], out: &mut [u8]) -> usize
     requires { ⌜ hasRoom (now register) (now out) ≡ true ⌝ }
@@ -40,11 +37,23 @@ fn print_into(input: &[u8], register: &mut [u8], out: &mut [u8]) -> usize
     run::transcribe(input, register, out)
 }
 
-fn main() {
-    let mut input = input_buffer();
+// Writes what is printed for the input to standard output, or says why it cannot.
+fn print(input: &[u8]) {
     let mut register = io::large_buffer();
     let mut out = output_buffer();
-    let got = read_input(&mut input);
-    let printed = print_into(&input[..got], &mut register, &mut out);
-    io::write_all(STDOUT_FILENO, &out[..printed]);
+    let printed = print_into(input, &mut register, &mut out);
+    if !write_output(&out[..printed]) {
+        os::fail(b"planbook: standard output could not be written, what was printed is not whole");
+    }
+}
+
+fn main() {
+    let mut input = input_buffer();
+    let reading = read_input(&mut input);
+    match reading {
+        Reading::Whole(got) => print(&input[..got]),
+        Reading::Failed => os::fail(
+            b"planbook: standard input could not be read, nothing is printed",
+        ),
+    }
 }

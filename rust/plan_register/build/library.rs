@@ -31,14 +31,26 @@ pub fn sources(root: &Path) -> Vec<PathBuf> {
     [list].into_iter().chain(folders).collect()
 }
 
-/// The crate and those that it is made of, from its line of crates.txt.
+/// The crate and those that it is made of, directly or through others.
 fn crates(text: &str) -> Vec<&str> {
-    let line = text.lines().find_map(|line| {
-        let (name, others) = line.split_once(':')?;
-        (name == NAME).then_some(others)
-    });
-    let others = line.unwrap_or("").split_whitespace();
-    [NAME].into_iter().chain(others).collect()
+    let mut found = vec![NAME];
+    let mut at = 0;
+    while at < found.len() {
+        for used in used_by(text, found[at]) {
+            if !found.contains(&used) {
+                found.push(used);
+            }
+        }
+        at += 1;
+    }
+    found
+}
+
+/// The crates that a crate names in its line of crates.txt.
+fn used_by<'a>(text: &'a str, name: &str) -> impl Iterator<Item = &'a str> {
+    let lines = text.lines().filter_map(|line| line.split_once(':'));
+    let mut lines = lines.filter(move |(listed, _)| *listed == name);
+    lines.next().map_or("", |(_, used)| used).split_whitespace()
 }
 
 /// What is wrong with the library, and what to do.

@@ -21,11 +21,12 @@ impl Repository {
         repository.write(
             "crates.txt",
             3,
-            "# A comment.\nother:\nplan_register: used bytes\nused:\n",
+            "# A comment.\nother:\nbelow: bytes\nused: below\nplan_register: used bytes\n",
         );
         repository.write("crates/plan_register/src/lib.rt", 3, "");
         repository.write("crates/used/src/lib.rt", 3, "");
         repository.write("crates/used/src/deep/part.rt", 3, "");
+        repository.write("crates/below/src/lib.rt", 3, "");
         repository.write("crates/other/src/lib.rt", 3, "");
         repository.write("target/staticlib/libplan_register.a", 5, "");
         repository
@@ -66,7 +67,7 @@ impl Drop for Repository {
 fn a_library_newer_than_its_sources_is_taken() {
     let repository = Repository::new("newer");
     assert_eq!(repository.complaint(), None);
-    assert_eq!(library::sources(&repository.root).len(), 3);
+    assert_eq!(library::sources(&repository.root).len(), 4);
 }
 
 #[test]
@@ -94,9 +95,10 @@ fn each_newer_source_is_noticed() {
         ("newer_used", "crates/used/src/lib.rt"),
         ("newer_deep", "crates/used/src/deep/part.rt"),
         ("newer_file", "crates/used/src/added.rt"),
+        ("newer_below", "crates/below/src/lib.rt"),
     ] {
         let repository = Repository::new(name);
-        repository.write(file, 6, "plan_register: used\n");
+        repository.write(file, 6, "used: below\nplan_register: used\n");
         repository.check_older_than(file);
     }
 }

@@ -77,7 +77,7 @@ fn printed(program: &Path, output: Output) -> Vec<u8> {
 }
 
 /// The program: target/bin/planbook, or the one that PLANBOOK names, from the repository's root.
-fn program() -> PathBuf {
+pub fn program() -> PathBuf {
     match env::var_os("PLANBOOK") {
         Some(named) => existing(&root().join(named), "it is what PLANBOOK names"),
         None => existing(

@@ -56,6 +56,26 @@ fn the_guide_explains_the_printed_run() {
 }
 
 #[test]
+fn the_guide_quotes_the_caller_to_the_letter() {
+    let caller = include_str!("../src/bin/orders.rs");
+    let whole = include_str!("../src/whole.rs");
+    for quoted in [caller, whole] {
+        assert!(GUIDE.contains(&format!("```rust,ignore\n{quoted}```\n")));
+    }
+}
+
+#[test]
+fn the_guide_says_what_the_program_says() {
+    let source = include_str!("../../../crates/planbook/src/main.rt");
+    let said: Vec<&str> = source.split("b\"").skip(1).collect();
+    assert_eq!(said.len(), 2);
+    for said in said {
+        let said = said.split('"').next().expect("it ends");
+        assert!(GUIDE.contains(&format!("`{said}: ..`")), "{said}");
+    }
+}
+
+#[test]
 fn the_inputs_hold_the_keys_that_are_marked() {
     let inputs: Vec<String> = runs().into_iter().map(|(input, _)| input).collect();
     for key in ['\t', '\r'] {
