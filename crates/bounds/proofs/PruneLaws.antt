@@ -34,7 +34,7 @@ use Rattle.bounds.specs.Bounds.{IsBounds, inBounds}
 use Rattle.bounds.specs.Kept.{Obeyed, obeyed, keptLow, keptHigh, removed}
 use Rattle.bounds.specs.Allperm.{Allperm, allperm}
 use Rattle.bounds.specs.Prune.{Pruned, prunedTo, question8, boundsQuestions, pruneQuestions, prunedYes, pruned}
-use Rattle.bounds.specs.Demand2.{Exact, Pruning, PruneExact, Prunes, MeetsPrune}
+use Rattle.bounds.specs.Demand2.{Exact, PruneProgram, PruneExact, Prunes, MeetsPrune}
 use Rattle.bounds.proofs.BoundsLaws.{inBounds-decides, bounds-asked, bounds-numbered}
 use Rattle.bounds.proofs.KeptLaws.{length-keptLow, length-keptHigh, obeyed-decides, obeyed-ends, kept-is-bounds, pruned-same, all-kept}
 use Rattle.bounds.proofs.Extremal.{obeyed-extremal, kept-extremal, kept-exactly}
@@ -169,7 +169,7 @@ bounds-bytes m n top low high l b =
     let few : m * n < 10000000 = omega (arith, limits-few m n top l) in
     (capped-bytes (m * n) top low few (omega (arith, l .top-limit)) (b .low-size) (b .low-cap), capped-bytes (m * n) top high few (omega (arith, l .top-limit)) (b .high-size) (b .high-cap))
 
-pub prune-exact : (f : Pruning) → MeetsPrune f → PruneExact f
+pub prune-exact : (f : PruneProgram) → MeetsPrune f → PruneExact f
 unfolding PruneExact MeetsPrune
 prune-exact f c m n top low high l b =
     let w = bounds-bytes m n top low high l b in

@@ -3,7 +3,7 @@
 --
 --   ExactSome m n top low high r, ExactNone low high r  ==  what the outcome r says of bounds in which some grid has allperm, and in which none has
 --   Exact m n top low high r  ==  the one or the other
---   Pruning                   ==  programs for prune, as functions of the numbers and slices that they are lent
+--   PruneProgram              ==  programs for prune, as functions of the numbers and slices that they are lent
 --   PruneExact f              ==  the sentence, of a program: for all bounds within the limits
 --   Prunes m n top low high r ==  prune's contract: its outcome r is the one determined, and of bounds within the limits it says the above
 --   MeetsPrune f              ==  f meets it, on what it can be lent
@@ -42,15 +42,15 @@ pub record Exact (m n top : ℕ) (low high : List ℕ) (r : Pruned) : Type 0 whe
   pub some : Obeyed (Allperm m n) (m * n) top low high → ExactSome m n top low high r
   pub none : (Obeyed (Allperm m n) (m * n) top low high → ⊥) → ExactNone low high r
 
-abbrev pub Pruning : Type 0
-Pruning = (m n top : ℕ) → (low high : List ℕ) → Pruned
+abbrev pub PruneProgram : Type 0
+PruneProgram = (m n top : ℕ) → (low high : List ℕ) → Pruned
 
-unfoldable pub PruneExact : Pruning → Type 0
+unfoldable pub PruneExact : PruneProgram → Type 0
 PruneExact f = (m n top : ℕ) (low high : List ℕ) → Limits m n top → IsBounds (m * n) top low high → Exact m n top low high (f m n top low high)
 
 pub record Prunes (m n top : ℕ) (low high : List ℕ) (r : Pruned) : Type 0 where
   pub determined : r ≡ pruned m n top low high
   pub exactly : Limits m n top → IsBounds (m * n) top low high → Exact m n top low high r
 
-unfoldable pub MeetsPrune : Pruning → Type 0
+unfoldable pub MeetsPrune : PruneProgram → Type 0
 MeetsPrune f = (m n top : ℕ) (low high : List ℕ) → Lent m n top low high → Prunes m n top low high (f m n top low high)

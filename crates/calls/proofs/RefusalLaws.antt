@@ -2,7 +2,7 @@
 --
 --   answered-refused  ==  the refusal of a first no
 --   opened-refused, entered-refused, struck-refused, counted-refused  ==  where a question of the call gets a no
---   Refusal k, refused-number  ==  k is 0 or not accepted; so is the first no where it is each question's number
+--   ZeroOrRefused k, refused-number  ==  k is 0 or not accepted; so is the first no where it is each question's number
 --   count-unchanged  ==  a count changes nothing
 --   count-numbers    ==  its number is at most 8: never 102, whatever the bytes are
 use mathlib.Core.Path.{_≡_, refl}
@@ -17,12 +17,12 @@ use Rattle.layout.specs.Layout.{Shape, decode}
 use Rattle.calls.specs.Entries.{leastIn}
 use Rattle.calls.specs.Calls.{Outcome, refusal, answered, question5, openQuestions, enterQuestions, strikeQuestions, countQuestions, enterRegister, strikeRegister, entriesIn, countRegister, opened, entered, struck, counted, accepted}
 
-abbrev pub Refusal : ℕ → Type 0
-Refusal zero = Unit {0}
-Refusal (suc k) = accepted (suc k) ≡ false
+abbrev pub ZeroOrRefused : ℕ → Type 0
+ZeroOrRefused zero = Unit {0}
+ZeroOrRefused (suc k) = accepted (suc k) ≡ false
 
-pub refused-number : (l : List Question) → EachNumber Refusal l → (k : ℕ) → firstNo l ≡ suc k → accepted (suc k) ≡ false
-refused-number l h k e = rw e at (firstNo-has Refusal l tt h)
+pub refused-number : (l : List Question) → EachNumber ZeroOrRefused l → (k : ℕ) → firstNo l ≡ suc k → accepted (suc k) ≡ false
+refused-number l h k e = rw e at (firstNo-has ZeroOrRefused l tt h)
 
 pub answered-refused : (j k : ℕ) (b : List ℕ) (o : Outcome) → j ≡ suc k → answered j b o ≡ refusal (suc k) b
 unfolding answered

@@ -39,7 +39,7 @@ use Rattle.grids.proofs.LentLaws.{grid-bytes, limits-lent}
 use Rattle.grids.proofs.QuestionLaws.{grid-of, grid-capped, all-one, all-two, slices-pass}
 use Rattle.canonical.specs.Represent.{Produces, Starting, RepresentAnswer, RepresentDone, RepresentRefused, RepresentedBy, representQuestions, Represented}
 use Rattle.canonical.specs.Same.{SameAnswer, SameRefused, SameOneClass, ComparedBy, sameQuestions, Compared, classNumber, classAgreed, sameNumber}
-use Rattle.canonical.specs.Programs.{Representing, MeetsRepresent}
+use Rattle.canonical.specs.Programs.{RepresentProgram, MeetsRepresent}
 use Rattle.canonical.specs.Demand2.{AnswersLeast, RepresentLeast}
 
 -- ---- what the questions ask
@@ -99,7 +99,7 @@ represented-least width m n g r e h = record {
   produced = rw (h .written) (h .produced);
 }
 
-pub represent-least : (f : Representing) → MeetsRepresent f → RepresentLeast f
+pub represent-least : (f : RepresentProgram) → MeetsRepresent f → RepresentLeast f
 unfolding RepresentLeast MeetsRepresent
 represent-least f c m n top g out l i h e =
     represented-least 8 m n g _ (i .sized)

@@ -2,6 +2,7 @@
 --
 --   asked m n top x y cs     ==  questions 1, 2, 3, 6 and 7: of the lengths of two slices x and y, and of the cells of the slices cs
 --   none-refuses             ==  none of them gets a no, as the code finds it
+--   represent-no, second-next  ==  same's first no: that of represent's questions of both slices, else that of question 7 of the second
 --   least-produces           ==  the orders of the least arrangement produce it
 --   represent-refuses, represent-gives  ==  represent's answers: where a question gets a no, and past the questions
 --   sizes-starting           ==  the sizes of the orders, with a number that is not 0
@@ -17,6 +18,7 @@ use Prim.Native.Nat.{ℕ, zero, suc, _*_, _-_, _≤_}
 use native.Mathlib.Omega.{arith}
 use lib.ListN.{length, take}
 use lib.Seq.{getD-take}
+use Rattle.permutations.specs.Lists.{every}
 use Rattle.permutations.specs.Permutations.{composed, inverse}
 use Rattle.permutations.specs.Padded.{padded, IsPadded, isSound, composedPadded, inversePadded}
 use Rattle.permutations.specs.Rows.{rowNumbers}
@@ -25,19 +27,19 @@ use Rattle.permutations.proofs.ListLaws.{part-within, part-is}
 use Rattle.permutations.proofs.PaddedLaws.{isSound-yes, isSound-inverse, composedPadded-is, take-composedPadded, composedPadded-permutation, take-inversePadded}
 use Rattle.grids.specs.declared.comparisons.GridComparison.{GridComparison}
 use Rattle.grids.specs.CommonPrefix.{commonPrefixLength}
-use Rattle.grids.specs.Grids.{IsGrid, arrangement, oneClass}
+use Rattle.grids.specs.Grids.{IsGrid, capped, arrangement, oneClass}
 use Rattle.grids.specs.Least.{least}
 use Rattle.grids.specs.Asked.{shapeNo}
-use Rattle.grids.specs.Questions.{Question, firstNo, Limits, question7}
+use Rattle.grids.specs.Questions.{Question, firstNo, Limits, question1, question2, question3, question6, question7}
 use Rattle.grids.specs.Comparisons.{isEqual, ComparesGrids}
 use Rattle.grids.proofs.CommonPrefixLaws.{prefix-part, prefix-all}
 use Rattle.grids.proofs.ComparisonLaws.{equal-yes, equal-no}
 use Rattle.grids.proofs.GridLaws.{length-arrangement, class-passes, passes-class}
 use Rattle.grids.proofs.LeastLaws.{length-least, class-least, one-class-one-least}
-use Rattle.grids.proofs.QuestionLaws.{shapeThen, cells-pass, size-fits}
+use Rattle.grids.proofs.QuestionLaws.{Numbered, first-no-stays, first-no-next, shapeThen, cells-pass, size-fits}
 use Rattle.general_search.specs.declared.search.Orders.{Orders}
-use Rattle.canonical.specs.Represent.{Produces, Starting, Sizes, OrderSizes, RepresentAnswer, RepresentDone, RepresentRefused, RepresentedBy}
-use Rattle.canonical.specs.Same.{SameAnswer, SameRefused, ComparedBy}
+use Rattle.canonical.specs.Represent.{representQuestions, Produces, Starting, Sizes, OrderSizes, RepresentAnswer, RepresentDone, RepresentRefused, RepresentedBy}
+use Rattle.canonical.specs.Same.{sameQuestions, SameAnswer, SameRefused, ComparedBy}
 use Rattle.general_search.specs.Search.{leadingRows, LeastOrders}
 use Rattle.branches.proofs.LeadingRows.{leading-is}
 use Rattle.canonical.proofs.CallLaws.{same-orders}
@@ -51,6 +53,27 @@ module _ (m n top : ℕ) (x y : List ℕ) (cs : List (List ℕ)) where
   pub none-refuses : (k : ℕ) → k ≡ shapeNo m n top (length x) (length y) → k ≡ 0 → question7 top cs .answer ≡ true → firstNo asked ≡ 0
   unfolding firstNo
   none-refuses k found z e = cells-pass m n top x y k found z cs [] e
+
+module _ (m n top : ℕ) (a b : List ℕ) where
+  in-turn : firstNo (sameQuestions m n top a b) ≡ firstNo (representQuestions m n top a b ++ (question7 top (b ∷ []) ∷ []))
+  unfolding sameQuestions representQuestions firstNo question7 every
+  in-turn = go (capped top a) refl
+    where
+      go : (c : Bool) → capped top a ≡ c → firstNo (sameQuestions m n top a b) ≡ firstNo (representQuestions m n top a b ++ (question7 top (b ∷ []) ∷ []))
+      go true e = rw e
+      go false e = rw e
+
+  represent-numbered : Numbered (representQuestions m n top a b)
+  unfolding representQuestions question1 question2 question3 question6 question7
+  represent-numbered = (omega arith, (omega arith, (omega arith, (omega arith, (omega arith, tt)))))
+
+  -- k is the first no of represent's questions
+  module _ (k : ℕ) (found : k ≡ firstNo (representQuestions m n top a b)) where
+    pub represent-no : (k ≡ 0 → ⊥) → firstNo (sameQuestions m n top a b) ≡ k
+    represent-no h = in-turn ∙ first-no-stays (representQuestions m n top a b) _ (λ z. h (found ∙ z)) ∙ sym found
+
+    pub second-next : k ≡ 0 → firstNo (sameQuestions m n top a b) ≡ firstNo (question7 top (b ∷ []) ∷ [])
+    second-next z = in-turn ∙ first-no-next (representQuestions m n top a b) _ represent-numbered (sym found ∙ z)
 
 -- ---- represent
 

@@ -32,7 +32,7 @@ use Rattle.grids.proofs.TerminalLaws.{after-yes, other-rows, few-rows, many-row
 use Rattle.general_search.specs.declared.search.Orders.{Orders}
 use Rattle.canonical.specs.Represent.{Produces, RepresentAnswer, representQuestions, terminalRepresentQuestions, TerminalRepresented}
 use Rattle.canonical.specs.Same.{SameAnswer, sameQuestions, terminalSameQuestions, TerminalCompared, classNumber, classAgreed, terminalSameNumber, terminalSameAgreed}
-use Rattle.canonical.specs.Programs.{Representing, MeetsRepresent, Comparing, MeetsSame, MeetsTerminalRepresent, MeetsTerminalSame, RepresentAlike, SameAlike}
+use Rattle.canonical.specs.Programs.{RepresentProgram, MeetsRepresent, SameProgram, MeetsSame, MeetsTerminalRepresent, MeetsTerminalSame, RepresentAlike, SameAlike}
 use Rattle.canonical.specs.Demand2.{TerminalRepresentLeast}
 use Rattle.general_search.specs.Search.{LeastOrders}
 use Rattle.canonical.proofs.CallLaws.{represent-pass, same-pass, represented-done, represented-least, represented-alike, compared-alike, represented-by, compared-by}
@@ -80,12 +80,12 @@ module _ (m n top : ℕ) (g out : List ℕ) where
   pub terminal-represent-answers : (r : RepresentAnswer) × TerminalRepresented m n top g out r
   terminal-represent-answers = represented-by 5 _ m n g out λ z. let h = terminal-represent-pass .0 z in (h .0, h .1 .column-limits .1, h .2 .sized)
 
-pub represent-alike : (f t : Representing) → MeetsRepresent f → MeetsTerminalRepresent t → RepresentAlike f t
+pub represent-alike : (f t : RepresentProgram) → MeetsRepresent f → MeetsTerminalRepresent t → RepresentAlike f t
 unfolding MeetsRepresent MeetsTerminalRepresent RepresentAlike
 represent-alike f t x y m n top g out o h =
     represented-alike 5 8 _ m n g out _ _ (rw (terminal-represent-asked m n top g out (few-rows m h)) at (y m n top g out o)) (x m n top g out o)
 
-pub terminal-represent-least : (f : Representing) → MeetsTerminalRepresent f → TerminalRepresentLeast f
+pub terminal-represent-least : (f : RepresentProgram) → MeetsTerminalRepresent f → TerminalRepresentLeast f
 unfolding TerminalRepresentLeast MeetsTerminalRepresent
 terminal-represent-least f c m n top g out h l i o e =
     represented-least 5 m n g _ (i .sized)
@@ -118,7 +118,7 @@ module _ (m n top : ℕ) (a b : List ℕ) where
   pub terminal-same-answers : (r : SameAnswer) × TerminalCompared m n top a b r
   terminal-same-answers = compared-by 5 _ _ m n a b (λ z. let h = terminal-same-pass .0 z in (h .0, h .1 .column-limits .1)) refl
 
-pub same-alike : (f t : Comparing) → MeetsSame f → MeetsTerminalSame t → SameAlike f t
+pub same-alike : (f t : SameProgram) → MeetsSame f → MeetsTerminalSame t → SameAlike f t
 unfolding MeetsSame MeetsTerminalSame SameAlike
 same-alike f t x y m n top a b o h = compared-alike 5 8 _ _ m n a b _ _ (rw (terminal-same-asked m n top a b (few-rows m h)) at (y m n top a b o)) (x m n top a b o)
 

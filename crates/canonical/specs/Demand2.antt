@@ -12,17 +12,17 @@ use Rattle.grids.specs.Least.{IsLeast}
 use Rattle.grids.specs.Questions.{Limits}
 use Rattle.grids.specs.Lent.{Bytes}
 use Rattle.canonical.specs.Represent.{Produces, RepresentAnswer}
-use Rattle.canonical.specs.Programs.{Representing}
+use Rattle.canonical.specs.Programs.{RepresentProgram}
 
 pub record AnswersLeast (width m n : ℕ) (g : List ℕ) (r : RepresentAnswer) : Type 0 where
   pub number-is : r .number ≡ 0
   pub is-least : IsLeast m n g (r .out)
   pub produced : Produces width m n g (r .out) (r .rows) (r .columns)
 
-unfoldable pub RepresentLeast : Representing → Type 0
+unfoldable pub RepresentLeast : RepresentProgram → Type 0
 RepresentLeast f =
     (m n top : ℕ) (g out : List ℕ) → Limits m n top → IsGrid m n top g → Bytes out → length out ≡ m * n → AnswersLeast 8 m n g (f m n top g out)
 
-unfoldable pub TerminalRepresentLeast : Representing → Type 0
+unfoldable pub TerminalRepresentLeast : RepresentProgram → Type 0
 TerminalRepresentLeast f =
     (m n top : ℕ) (g out : List ℕ) → m ≤ 5 → Limits m n top → IsGrid m n top g → Bytes out → length out ≡ m * n → AnswersLeast 5 m n g (f m n top g out)

@@ -21,15 +21,12 @@ pub fn ask_represent(m: usize, n: usize, top: usize, grid: &[u8], out: &[u8]) ->
     Asked::Yes
 }
 
-// The same questions of same.
+// The same questions of same: those of represent, and 7 of the second slice too.
 pub fn ask_same(m: usize, n: usize, top: usize, a: &[u8], b: &[u8]) -> Asked
     ensures { λ r. ⌜ askedNumber r ≡ firstNo (sameQuestions m n top (now (a .entry)) (now (b .entry))) ⌝ }
 {
-    if let Asked::No(refusal) = questions::ask_shape(m, n, top, a.len(), b.len()) {
+    if let Asked::No(refusal) = ask_represent(m, n, top, a, b) {
         return Asked::No(refusal);
-    }
-    if !questions::is_capped(a, top) {
-        return Asked::No(Refusal::Cell);
     }
     if !questions::is_capped(b, top) {
         return Asked::No(Refusal::Cell);

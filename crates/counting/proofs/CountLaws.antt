@@ -1,7 +1,7 @@
 -- Laws of the count.
 --
 --   select-snoc             ==  an element more, of those that pass a test
---   Counting b low high found from e  ==  found is how many entries before entry e lie in the bounds, and its line begins at from
+--   CountedBefore b low high found from e  ==  found is how many entries before entry e lie in the bounds, and its line begins at from
 --   Room size found from length  ==  the numbers that the code makes of them are small, and the line lies inside
 --   part-at                 ==  a byte of a part
 --   entry-line              ==  an entry's line, with the register's top
@@ -44,7 +44,7 @@ select-snoc t (y ∷ l) x = go (t y) refl (select-snoc t l x)
     go true e ih = rw (select-yes t y (l ++ (x ∷ [])) e, select-yes t y l e) (ap suc ih ∙ more (length (select t l)) (t x))
     go false e ih = rw (select-no t y (l ++ (x ∷ [])) e, select-no t y l e) ih
 
-pub record Counting (b low high : List ℕ) (found from e : ℕ) : Type 0 where
+pub record CountedBefore (b low high : List ℕ) (found from e : ℕ) : Type 0 where
   pub place : from ≡ lineStart (length low) e
   pub counted : found ≡ length (select (inBounds (length low) (decodeShape b .top) low high) (take e (gridsOf (decode b .entries))))
 
@@ -76,11 +76,11 @@ pub bounds-ordered : {n top : ℕ} {b low high : List ℕ} → Valid (length low
 bounds-ordered k i = record { few = valid-sizes k .cells-fit; as-many = sym (i .high-size); in-order = i .in-order }
 
 module _ {n : ℕ} {b low high : List ℕ} (k : Valid (length low) n b) where
-  pub counting-none : Counting b low high 0 headLength 0
+  pub counting-none : CountedBefore b low high 0 headLength 0
   unfolding select
   counting-none = record { place = sym (start-zero (length low)); counted = refl }
 
-  pub counting-room : {found from e : ℕ} → Counting b low high found from e → e < n → Room (length low) found from (length b)
+  pub counting-room : {found from e : ℕ} → CountedBefore b low high found from e → e < n → Room (length low) found from (length b)
   counting-room {found} {from} {e} c h =
       let z = valid-sizes k in
       let f = entry-fits k e h in
@@ -93,10 +93,10 @@ module _ {n : ℕ} {b low high : List ℕ} (k : Valid (length low) n b) where
         narrow = omega (arith, z .cells-fit);
       }
 
-  pub counting-next : {found from e : ℕ} {lows spans : List ℕ} {r : Bool} (more width : ℕ) → width ≡ lineLength (length low) → Counting b low high found from e → e < n →
+  pub counting-next : {found from e : ℕ} {lows spans : List ℕ} {r : Bool} (more width : ℕ) → width ≡ lineLength (length low) → CountedBefore b low high found from e → e < n →
       IsBounds (length low) (decodeShape b .top) low high → BoundTables (length low) low high lows spans →
       LineOutcome r (length (take (from + 3 * length low - from) (drop from b))) (take (from + 3 * length low - from) (drop from b)) (take (from + 3 * length low - 1 - (from - 1)) (drop (from - 1) b)) lows spans →
-      more ≡ oneMore found r → Counting b low high more (from + width) (e + 1)
+      more ≡ oneMore found r → CountedBefore b low high more (from + width) (e + 1)
   unfolding lineAt
   counting-next {found} {from} {e} {lows} {spans} {r} more width w c h i t o m = record {
     place = omega (arith, c .place, next-start (length low) e);
@@ -137,7 +137,7 @@ module _ {n : ℕ} {b low high : List ℕ} (k : Valid (length low) n b) where
           let l = entry-line k e h in
           line-within line before (l .0) (l .1) same earlier t i r (rw wide at o) ∙ ap (inBounds (length low) (decodeShape b .top) low high) cells
 
-  pub counting-all : {found from e : ℕ} → Counting b low high found from e → n ≤ e → found ≡ length (select (inBounds (length low) (decodeShape b .top) low high) (gridsOf (decode b .entries)))
+  pub counting-all : {found from e : ℕ} → CountedBefore b low high found from e → n ≤ e → found ≡ length (select (inBounds (length low) (decodeShape b .top) low high) (gridsOf (decode b .entries)))
   counting-all {found} {from} {e} c h =
       let z = grids-counted b ∙ sym (k .counts) in
       let a = take-all e (gridsOf (decode b .entries)) (omega arith) in

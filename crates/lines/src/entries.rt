@@ -9,10 +9,12 @@ ghost use lib.ListN.{length, getD, take, drop};
 ghost use Rattle.layout.specs.Layout.{clients, noHoldings, changed, headLength, lineLength, lineStart, entryLine, blankLine, cellsOf};
 ghost use Rattle.layout.specs.Lines.{firstEntry, EntryLine};
 
-// How wide a cell or a holding is, and how many clients have a holding.
+// How wide a cell or a holding is, how many clients have a holding, and the most that one of them can hold of a class.
 pub const WIDTH: usize = 3;
 
 pub const CLIENTS: usize = 8;
+
+pub const MOST_HELD: usize = 999;
 
 // How many bytes the line of an entry with so many cells has, the line feed included.
 pub fn line_length(size: usize) -> usize

@@ -30,7 +30,7 @@ use Rattle.protocol.specs.Input.{furtherLines, commandIn, clientIn, cell
 use Rattle.protocol.specs.Commands.{lows, highs, boundsStep, commandStep, report, LineAnswer, answerStep, answer}
 use Rattle.protocol.specs.Readings.{madeIn}
 use Rattle.protocol.specs.Transcript.{shapeIn, startNo, setAfter, printedRegister, transcript}
-use Rattle.protocol.specs.Programs.{Printing, Prints}
+use Rattle.protocol.specs.Programs.{PlanbookProgram, Prints}
 use Rattle.protocol.specs.Demand3.{replies, inputCalls, lineCounts, CountLine, PrintsCalls, PrintsDemand3}
 use Rattle.protocol.proofs.LentLines.{made-lent}
 use Rattle.protocol.proofs.ReportLaws.{step-answer}
@@ -98,7 +98,7 @@ module _ (i : Implementation) (d : Demand3 i) (input : List ℕ) (e : startNo in
       three : answer s l line ≡ answerStep 3 (boundsStep s l low high)
       three = step-answer s l line h ∙ ap (λ (k : ℕ). answerStep k (commandStep s l k (clientIn line) (cellsIn (gridSize s) line))) c
 
-pub prints-demand3 : (p : Printing) → Prints p → PrintsDemand3 p
+pub prints-demand3 : (p : PlanbookProgram) → Prints p → PrintsDemand3 p
 unfolding Prints
 prints-demand3 p h = record { refuses = λ input w k e. h input w ∙ start-refused input k e .0; follows = follows }
   where
@@ -119,7 +119,7 @@ prints-demand3 p h = record { refuses = λ input w k e. h input w ∙ start-refu
 own : Demand3 registerCalls
 own = demand3 registerCalls meets-own
 
-pub demand3-prints : (p : Printing) → PrintsDemand3 p → Prints p
+pub demand3-prints : (p : PlanbookProgram) → PrintsDemand3 p → Prints p
 unfolding Prints
 demand3-prints p h input w = go (startNo input) refl
   where

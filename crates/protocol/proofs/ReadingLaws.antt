@@ -29,7 +29,7 @@ use Rattle.machine.proofs.CountLaws.{same-inside}
 use Rattle.machine.proofs.Demand3Laws.{call-same}
 use Rattle.protocol.specs.Input.{commandIn, clientIn, cellsIn, isLaid}
 use Rattle.protocol.specs.Commands.{countOf, boundsStep, commandStep, answerStep, malformed, answer}
-use Rattle.protocol.specs.Readings.{Reading, says, calls, afterPrune, readCommand, readBy, readLine, commandOf, answeredBy}
+use Rattle.protocol.specs.Readings.{LineReading, says, calls, afterPrune, readCommand, readBy, readLine, commandOf, answeredBy}
 use Rattle.protocol.proofs.CommandLaws.{CommandLaid, inTurn, laid-command, laid-exactly, parted-in-turn}
 use Rattle.protocol.proofs.ReportLaws.{step-answer, malformed-answer}
 
@@ -64,7 +64,7 @@ module _ (s : Shape) {line : List ℕ} where
 
 -- ---- the machine's steps
 
-unfoldable pub stepOf : Shape → List Entry → Reading → Step
+unfoldable pub stepOf : Shape → List Entry → LineReading → Step
 stepOf s l (says k x) = record { number = x; place = 0; next = l }
 stepOf s l (calls k c) = step s l c
 
@@ -97,12 +97,12 @@ command-of m n top k client c = go (eqb k 1) refl (eqb k 2) refl
     go false e false f = rw (e, f, readCommand) (after-command k _)
 
 module _ (s : Shape) (l : List Entry) (g : Good s l) where
-  pub step-of-good : (r : Reading) → Good s (stepOf s l r .next)
+  pub step-of-good : (r : LineReading) → Good s (stepOf s l r .next)
   unfolding stepOf
   step-of-good (says k x) = g
   step-of-good (calls k c) = step-good s l g c
 
-  pub answered-same : (r : Reading) → answeredBy registerCalls (shown s l) r ≡ outcome s (stepOf s l r)
+  pub answered-same : (r : LineReading) → answeredBy registerCalls (shown s l) r ≡ outcome s (stepOf s l r)
   unfolding answeredBy stepOf outcome
   answered-same (says k x) = refl
   answered-same (calls k c) = call-same s l g c

@@ -31,7 +31,7 @@ use Rattle.machine.specs.Machine.{shown, outcome, outcomes}
 use Rattle.machine.proofs.MachineLaws.{Good, empty-good, registerOf, good-register, laid, afterwards, afterwards-good}
 use Rattle.protocol.specs.Input.{lines, furtherLines, isLaid}
 use Rattle.protocol.specs.Commands.{report, LineAnswer, answerStep, malformed, answer}
-use Rattle.protocol.specs.Readings.{Reading, says, calls, readLine, madeBy, madeIn, commandOf}
+use Rattle.protocol.specs.Readings.{LineReading, says, calls, readLine, madeBy, madeIn, commandOf}
 use Rattle.protocol.specs.Transcript.{byteLimit, shapeIn, startNo, reports, setAfter, registerFrom, printedFrom, printedRegister, transcript}
 use Rattle.protocol.specs.Programs.{outputLimit}
 use Rattle.protocol.specs.Demand3.{reply, replies, printedLine}
@@ -68,13 +68,13 @@ transcript-ends input e = ap (λ (n : ℕ). printedFrom n input) e ∙ ap (λ (n
 
 -- ---- the lines by their calls
 
-module _ (s : Shape) (l : List Entry) (r : Reading) (cs : List Call) where
+module _ (s : Shape) (l : List Entry) (r : LineReading) (cs : List Call) where
   -- the machine's set and outcomes where a line read as r comes before other calls
   made-afterwards : afterwards s l (madeBy r ++ cs) ≡ afterwards s (stepOf s l r .next) cs
   unfolding madeBy afterwards stepOf
   made-afterwards = go r
     where
-      go : (r : Reading) → afterwards s l (madeBy r ++ cs) ≡ afterwards s (stepOf s l r .next) cs
+      go : (r : LineReading) → afterwards s l (madeBy r ++ cs) ≡ afterwards s (stepOf s l r .next) cs
       go (says k x) = refl
       go (calls k c) = refl
 
@@ -83,7 +83,7 @@ module _ (s : Shape) (l : List Entry) (r : Reading) (cs : List Call) where
   unfolding madeBy outcomes outcome stepOf commandOf reply
   made-replies ls = go r
     where
-      go : (r : Reading) → reply r (outcomes s l (madeBy r ++ cs)) ++ replies s ls (drop (length (madeBy r)) (outcomes s l (madeBy r ++ cs)))
+      go : (r : LineReading) → reply r (outcomes s l (madeBy r ++ cs)) ++ replies s ls (drop (length (madeBy r)) (outcomes s l (madeBy r ++ cs)))
           ≡ report (commandOf r) (stepOf s l r .number) (stepOf s l r .place) ++ replies s ls (outcomes s (stepOf s l r .next) cs)
       go (says k x) = refl
       go (calls k c) = refl

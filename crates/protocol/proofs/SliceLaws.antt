@@ -17,7 +17,7 @@ use borrow.Author.Tests.{leb-true, le-leb}
 use Rattle.permutations.proofs.BoolLaws.{and-yes, yes-and}
 use Rattle.grids.specs.Lent.{Bytes}
 use Rattle.protocol.specs.Transcript.{byteLimit, transcript}
-use Rattle.protocol.specs.Programs.{Prints, outputLimit, over, Transcribed, transcribing, hasRoom, transcribed, Transcribing, MeetsTranscribe, printing}
+use Rattle.protocol.specs.Programs.{Prints, outputLimit, over, Transcribed, transcribing, hasRoom, transcribed, TranscribeProgram, MeetsTranscribe, printing}
 use Rattle.protocol.proofs.RunLaws.{transcript-fits}
 
 -- ---- the function on slices
@@ -57,6 +57,6 @@ module _ (input register out : List ℕ) where
     pub count-prints : hasRoom register out ≡ true → take r out′ ≡ transcript input
     count-prints h = ap (λ (t : Transcribed). take (t .count) (t .out)) e ∙ transcribed-prints h
 
-pub transcribes-prints : (f : Transcribing) → MeetsTranscribe f → (register out : List ℕ) → Bytes register → Bytes out → hasRoom register out ≡ true → Prints (printing f register out)
+pub transcribes-prints : (f : TranscribeProgram) → MeetsTranscribe f → (register out : List ℕ) → Bytes register → Bytes out → hasRoom register out ≡ true → Prints (printing f register out)
 unfolding MeetsTranscribe Prints printing
 transcribes-prints f h register out x y e input z = rw (h input register out z x y) (transcribed-prints input register out e)

@@ -24,11 +24,11 @@ use Rattle.machine.specs.CallLists.{Call, Implementation, run, left}
 use Rattle.machine.specs.Demand3.{live, ListsLive, AfterOpen, Demand3}
 use Rattle.protocol.specs.Input.{furtherLines, commandIn, cellsIn, isLaid}
 use Rattle.protocol.specs.Commands.{lows, highs, report}
-use Rattle.protocol.specs.Readings.{Reading, says, calls, prunedCells, readLine, madeBy, madeIn}
+use Rattle.protocol.specs.Readings.{LineReading, says, calls, prunedCells, readLine, madeBy, madeIn}
 use Rattle.protocol.specs.Transcript.{shapeIn, startNo}
-use Rattle.protocol.specs.Programs.{Printing}
+use Rattle.protocol.specs.Programs.{PlanbookProgram}
 
-unfoldable pub reply : Reading → List Outcome → List ℕ
+unfoldable pub reply : LineReading → List Outcome → List ℕ
 reply (says k x) os = report k x 0
 reply (calls k c) [] = []
 reply (calls k c) (o ∷ os) = report k (o .number) (o .place)
@@ -54,7 +54,7 @@ pub record CountLine (s : Shape) (line : List ℕ) (there : List (List ℕ)) (ou
   pub some : linePruned s line .number ≡ 0 → out ≡ report 3 0 (lineCounts s line there)
   pub none : linePruned s line .number ≡ 102 → (out ≡ report 3 102 0) × (lineCounts s line there ≡ 0)
 
-pub record PrintsCalls (p : Printing) (i : Implementation) (input : List ℕ) (o : Outcome) : Type 0 where
+pub record PrintsCalls (p : PlanbookProgram) (i : Implementation) (input : List ℕ) (o : Outcome) : Type 0 where
   -- the open is not refused
   pub opened : o .number ≡ 0
   -- a line for each further line, and then the register
@@ -67,7 +67,7 @@ pub record PrintsCalls (p : Printing) (i : Implementation) (input : List ℕ) (o
   -- demand 3 of these calls: of what they answer, and of the register printed, its count, the counts of bounds, its holdings and its bytes
   pub after : AfterOpen i (shapeIn input) (o .bytes) (inputCalls input)
 
-pub record PrintsDemand3 (p : Printing) : Type 0 where
+pub record PrintsDemand3 (p : PlanbookProgram) : Type 0 where
   -- where one of the first checks gets a no, its line and nothing else
   pub refuses : (input : List ℕ) → Bytes input → (k : ℕ) → startNo input ≡ suc k → p input ≡ report 0 (suc k) 0
   -- elsewhere, by any implementation of the calls that meets demand 3, opened with the numbers of line 1 on a slice of the exact length

@@ -1,6 +1,6 @@
 -- Programs that print what planbook prints, and the one function on slices that the program calls.
 --
---   Printing            ==  programs from the bytes of the input to those of the output
+--   PlanbookProgram     ==  programs for planbook, from the bytes of the input to those of the output
 --   Prints p            ==  p prints what planbook prints, on every input of bytes
 --   outputLimit         ==  room for all that is printed: a line of 19 bytes for each byte of an input, and the register
 --   over x s            ==  the slice s with x written over its first bytes
@@ -8,7 +8,7 @@
 --   transcribing count register out  ==  such an outcome
 --   hasRoom register out   ==  the register's slice has 65,536 bytes or more, and the output slice 1,310,720 or more
 --   transcribed input register out  ==  what the function does on all arguments: where a slice is too small it returns 0 and writes nothing
---   Transcribing        ==  programs for that function
+--   TranscribeProgram   ==  programs for that function
 --   MeetsTranscribe f   ==  f does so, on all slices of bytes
 --   printing f register out  ==  the program that calls f with these slices and writes the bytes that count
 use mathlib.Core.Path.{_≡_}
@@ -20,10 +20,10 @@ use lib.Dec.{leb}
 use Rattle.grids.specs.Lent.{Bytes}
 use Rattle.protocol.specs.Transcript.{byteLimit, printedRegister, transcript}
 
-abbrev pub Printing : Type 0
-Printing = (input : List ℕ) → List ℕ
+abbrev pub PlanbookProgram : Type 0
+PlanbookProgram = (input : List ℕ) → List ℕ
 
-unfoldable pub Prints : Printing → Type 0
+unfoldable pub Prints : PlanbookProgram → Type 0
 Prints p = (input : List ℕ) → Bytes input → p input ≡ transcript input
 
 abbrev pub outputLimit : ℕ
@@ -50,11 +50,11 @@ transcribed input register out =
       | false ↦ record { count = 0; register = register; out = out }
     ]
 
-abbrev pub Transcribing : Type 0
-Transcribing = (input register out : List ℕ) → Transcribed
+abbrev pub TranscribeProgram : Type 0
+TranscribeProgram = (input register out : List ℕ) → Transcribed
 
-unfoldable pub MeetsTranscribe : Transcribing → Type 0
+unfoldable pub MeetsTranscribe : TranscribeProgram → Type 0
 MeetsTranscribe f = (input register out : List ℕ) → Bytes input → Bytes register → Bytes out → f input register out ≡ transcribed input register out
 
-unfoldable pub printing : Transcribing → List ℕ → List ℕ → Printing
+unfoldable pub printing : TranscribeProgram → List ℕ → List ℕ → PlanbookProgram
 printing f register out input = take (f input register out .count) (f input register out .out)

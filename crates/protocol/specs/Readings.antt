@@ -1,6 +1,6 @@
 -- Command lines as calls: which call of the register a line makes, once prune has answered where the command is 3.
 --
---   Reading              ==  no call: the command and the number that are printed, with 0; or a call, and the command that its answer is printed under
+--   LineReading          ==  no call: the command and the number that are printed, with 0; or a call, and the command that its answer is printed under
 --   prunedCells m n top c  ==  what prune answers and leaves of the bounds that the cells c hold in turn
 --   afterPrune k p       ==  after prune answered and left p: its number, unless it is 0: then a count of the bounds that it left
 --   readCommand m n top k client c  ==  the command k with the client and the cells c, on a register of m rows, n columns and this top
@@ -19,48 +19,48 @@ use Rattle.machine.specs.CallLists.{Call, enter, strike, countIn, Implementatio
 use Rattle.protocol.specs.Input.{commandIn, clientIn, cellsIn, isLaid}
 use Rattle.protocol.specs.Commands.{lows, highs}
 
-pub data Reading : Type 0 where
-  says : ℕ → ℕ → Reading
-  calls : ℕ → Call → Reading
+pub data LineReading : Type 0 where
+  says : ℕ → ℕ → LineReading
+  calls : ℕ → Call → LineReading
 
 abbrev pub prunedCells : ℕ → ℕ → ℕ → List ℕ → Pruned
 prunedCells m n top c = pruned m n top (lows (m * n) c) (highs (m * n) c)
 
-unfoldable pub afterPrune : ℕ → Pruned → Reading
+unfoldable pub afterPrune : ℕ → Pruned → LineReading
 afterPrune k p =
     elim (p .number) [
       | zero ↦ calls k (countIn (p .low) (p .high))
       | suc j ↦ says k (suc j)
     ]
 
-unfoldable pub readCommand : ℕ → ℕ → ℕ → ℕ → ℕ → List ℕ → Reading
+unfoldable pub readCommand : ℕ → ℕ → ℕ → ℕ → ℕ → List ℕ → LineReading
 readCommand m n top k client c =
     elim (eqb k 1) [
       | true ↦ calls k (enter client c)
       | false ↦ elim (eqb k 2) [ true ↦ calls k (strike client c) | false ↦ afterPrune k (prunedCells m n top c) ]
     ]
 
-unfoldable pub readBy : ℕ → ℕ → ℕ → List ℕ → Reading
+unfoldable pub readBy : ℕ → ℕ → ℕ → List ℕ → LineReading
 readBy m n top line =
     elim (isLaid (m * n) line) [
       | true ↦ readCommand m n top (commandIn line) (clientIn line) (cellsIn (m * n) line)
       | false ↦ says 0 12
     ]
 
-abbrev pub readLine : Shape → List ℕ → Reading
+abbrev pub readLine : Shape → List ℕ → LineReading
 readLine s line = readBy (s .rows) (s .columns) (s .top) line
 
-unfoldable pub madeBy : Reading → List Call
+unfoldable pub madeBy : LineReading → List Call
 madeBy (says k x) = []
 madeBy (calls k c) = c ∷ []
 
 unfoldable pub madeIn : Shape → List (List ℕ) → List Call
 madeIn s ls = flatMap (λ line. madeBy (readLine s line)) ls
 
-unfoldable pub commandOf : Reading → ℕ
+unfoldable pub commandOf : LineReading → ℕ
 commandOf (says k x) = k
 commandOf (calls k c) = k
 
-unfoldable pub answeredBy : Implementation → List ℕ → Reading → Outcome
+unfoldable pub answeredBy : Implementation → List ℕ → LineReading → Outcome
 answeredBy i b (says k x) = placed x 0 b
 answeredBy i b (calls k c) = called i b c

@@ -30,7 +30,7 @@ fn enter_held(
     ensures { λ r. ⌜ placed (enteringNumber r) (enteringPlace r) (now (register .exit)) ≡ enteredLeast (now (register .entry)) client (now (least .entry)) ⌝ }
 {
     let held = held::holding(register, count, place, client, least);
-    if 999 <= held {
+    if entries::MOST_HELD <= held {
         return Entering::Refused(Refusal::Holding);
     }
     held::hold(register, count, place, client, least, held + 1);

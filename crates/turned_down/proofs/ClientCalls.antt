@@ -1,8 +1,8 @@
 -- Enter, strike and a terminal's enter as three kinds of one call, so that a fault that they may have alike is turned down by one law.
 --
---   Calling             ==  programs for a client's call of a grid
+--   CallProgram         ==  programs for a client's call of a grid
 --   Kind                ==  a client's call: when it is lent, whom it names, an implementation with just a program for it, and what an accepted one does
---   Entering k          ==  what enters have besides: an accepted one makes this client's holding one more, a refused one changes nothing, one that answers 0 is new
+--   EnterKind k         ==  what enters have besides: an accepted one makes this client's holding one more, a refused one changes nothing, one that answers 0 is new
 --   entering, striking, at-terminal  ==  the three kinds
 --   enters, enters-at-terminal  ==  the two that enter
 --   enter-lent, strike-lent, terminal-lent, enter-whom, strike-whom, terminal-whom, enter-makes, strike-makes, terminal-makes  ==  of each, when it is lent, whom it
@@ -42,20 +42,20 @@ use Rattle.turned_down.specs.HoldingFaults.{ClientLent}
 use Rattle.turned_down.proofs.RegisterCases.{striking-by, entering-at-terminal, standing}
 use Rattle.turned_down.proofs.RegisterCases as cases
 
-abbrev pub Calling : Type 0
-Calling = (b : List ℕ) (c : ℕ) (g : List ℕ) → Outcome
+abbrev pub CallProgram : Type 0
+CallProgram = (b : List ℕ) (c : ℕ) (g : List ℕ) → Outcome
 
 pub record Kind : Type 0 where
   pub call : ℕ → List ℕ → Call
   pub lent : (c : ℕ) (g : List ℕ) → IsWord c → Bytes g → LentCall (call c g)
   pub whom : (j c : ℕ) (g : List ℕ) → names j (call c g) ≡ eqb c j
-  pub make : Calling → Implementation
-  pub takes : (f : Calling) (s : Shape) (b : List ℕ) → make f .opens s b ≡ placed 0 0 b
-  pub makes : (f : Calling) (b : List ℕ) (c : ℕ) (g : List ℕ) → called (make f) b (call c g) ≡ f b c g
+  pub make : CallProgram → Implementation
+  pub takes : (f : CallProgram) (s : Shape) (b : List ℕ) → make f .opens s b ≡ placed 0 0 b
+  pub makes : (f : CallProgram) (b : List ℕ) (c : ℕ) (g : List ℕ) → called (make f) b (call c g) ≡ f b c g
   pub moves : (s : Shape) (l : Entries) → Good s l → (c : ℕ) (a : List ℕ) → accepted (step s l (call c a) .number) ≡ true →
       heldBy c (leastIn s a) (step s l (call c a) .next) ≡ heldBy c (leastIn s a) l → ⊥
 
-pub record Entering (k : Kind) : Type 0 where
+pub record EnterKind (k : Kind) : Type 0 where
   pub raises : (s : Shape) (l : Entries) → Good s l → (c : ℕ) (a : List ℕ) → accepted (step s l (k .call c a) .number) ≡ true →
       heldBy c (leastIn s a) (step s l (k .call c a) .next) ≡ heldBy c (leastIn s a) l + 1
   pub keeps : (s : Shape) (l : Entries) (c : ℕ) (a : List ℕ) → accepted (step s l (k .call c a) .number) ≡ false → step s l (k .call c a) .next ≡ l
@@ -87,15 +87,15 @@ pub terminal-whom : (j c : ℕ) (g : List ℕ) → names j (terminalEnter c g) �
 unfolding names
 terminal-whom j c g = refl
 
-pub enter-makes : (f : Calling) (b : List ℕ) (c : ℕ) (g : List ℕ) → called (cases.entering f) b (enter c g) ≡ f b c g
+pub enter-makes : (f : CallProgram) (b : List ℕ) (c : ℕ) (g : List ℕ) → called (cases.entering f) b (enter c g) ≡ f b c g
 unfolding called
 enter-makes f b c g = refl
 
-pub strike-makes : (f : Calling) (b : List ℕ) (c : ℕ) (g : List ℕ) → called (striking-by f) b (strike c g) ≡ f b c g
+pub strike-makes : (f : CallProgram) (b : List ℕ) (c : ℕ) (g : List ℕ) → called (striking-by f) b (strike c g) ≡ f b c g
 unfolding called
 strike-makes f b c g = refl
 
-pub terminal-makes : (f : Calling) (b : List ℕ) (c : ℕ) (g : List ℕ) → called (entering-at-terminal f) b (terminalEnter c g) ≡ f b c g
+pub terminal-makes : (f : CallProgram) (b : List ℕ) (c : ℕ) (g : List ℕ) → called (entering-at-terminal f) b (terminalEnter c g) ≡ f b c g
 unfolding called
 terminal-makes f b c g = refl
 
@@ -132,7 +132,7 @@ at-terminal = record {
   moves = λ s l g c a e z. omega (arith, z, terminal-raises s l c a g e);
 }
 
-pub enters : Entering entering
+pub enters : EnterKind entering
 unfolding accepted
 enters = record {
   raises = λ s l g c a e. enter-raises s l c a g e;
@@ -140,7 +140,7 @@ enters = record {
   new = enter-new;
 }
 
-pub enters-at-terminal : Entering at-terminal
+pub enters-at-terminal : EnterKind at-terminal
 unfolding accepted
 enters-at-terminal = record {
   raises = λ s l g c a e. terminal-raises s l c a g e;
@@ -224,7 +224,7 @@ module _ (k : Kind) (i : Implementation) (d : Demand3 i) (on : ClientReached i) 
       k .moves (on .from .shape) (w .set) (w .good) (on .client) (on .grid) (rw (sym q) (sym (ap accepted (w .number-is)) ∙ e))
       (rw (sym q) (sym (w .held-after (on .client)) ∙ z ∙ w .held-before (on .client)))
 
-  module _ (e : Entering k) (z : answerAt i (k .call) on .number ≡ 0) where
+  module _ (e : EnterKind k) (z : answerAt i (k .call) on .number ≡ 0) where
     pub seen-new : New (on .from .shape) (seen k i d on .set) (on .client) (on .grid) (seen k i d on .after)
     seen-new =
         let w = seen k i d on in

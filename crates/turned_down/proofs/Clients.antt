@@ -1,6 +1,6 @@
 -- Programs that take clients modulo a number, or refuse by 16 for what another client holds, do not meet demand 1.
 --
---   Asked call          ==  the first no of calls on a full register that name client 1, 9 or 257
+--   FirstNos call       ==  the first no of calls on a full register that name client 1, 9, 257 or 65537
 --   Most call           ==  that of client 2's enter where client 1 holds 999
 --   Computed, computed  ==  what the definitions give of them
 --   modulo, modulo-8, modulo-256, modulo-65536, most-of-anyone  ==  the faults
@@ -32,7 +32,7 @@ use Rattle.turned_down.proofs.RegisterCases as cases
 use Rattle.turned_down.proofs.Demand1.{full}
 use Rattle.turned_down.proofs.ClientCalls.{Kind, entering, striking, at-terminal, lent-client, literal-client}
 
-record Asked (call : ℕ → List ℕ → Call) : Type 0 where
+record FirstNos (call : ℕ → List ℕ → Call) : Type 0 where
   first : firstNo (questionsOf full (call 1 zero)) ≡ 0
   by-8 : firstNo (questionsOf full (call (8 + 1) zero)) ≡ 15
   by-256 : firstNo (questionsOf full (call (256 + 1) zero)) ≡ 15
@@ -43,9 +43,9 @@ Most call = firstNo (questionsOf (with (most-entry ∷ [])) (call 2 zero)) ≡ 0
 
 record Computed : Type 0 where
   full-slice : isSlice full ≡ true
-  entering-asked : Asked (entering .call)
-  striking-asked : Asked (striking .call)
-  terminal-asked : Asked (at-terminal .call)
+  entering-asked : FirstNos (entering .call)
+  striking-asked : FirstNos (striking .call)
+  terminal-asked : FirstNos (at-terminal .call)
   entering-most : Most (entering .call)
   terminal-most : Most (at-terminal .call)
 
@@ -60,7 +60,7 @@ computed = record {
   terminal-most = refl;
 }
 
-modulo : (k : Kind) (n : ℕ) → n + 1 < 10000000 → Asked (k .call) → firstNo (questionsOf full (k .call (n + 1) zero)) ≡ 15 → ((c : ℕ) (h : ℕ → Outcome) → h ((n + c) % n) ≡ h (c % n)) → Turned (fault Demand1 (ClientsModulo n (k .call)))
+modulo : (k : Kind) (n : ℕ) → n + 1 < 10000000 → FirstNos (k .call) → firstNo (questionsOf full (k .call (n + 1) zero)) ≡ 15 → ((c : ℕ) (h : ℕ → Outcome) → h ((n + c) % n) ≡ h (c % n)) → Turned (fault Demand1 (ClientsModulo n (k .call)))
 unfolding ClientsModulo accepted
 modulo k n few asked e wraps = record {
   example = k .make (λ b c g. called registerCalls b (k .call (c % n) g));
@@ -74,13 +74,13 @@ modulo k n few asked e wraps = record {
       true≢false (sym yes-first ∙ ap (λ (o : Outcome). accepted (o .number)) (sym (f on word (omega arith) yes-first) ∙ no-wrapped));
 }
 
-modulo-8 : (k : Kind) → Asked (k .call) → Turned (fault Demand1 (ClientsModulo 8 (k .call)))
+modulo-8 : (k : Kind) → FirstNos (k .call) → Turned (fault Demand1 (ClientsModulo 8 (k .call)))
 modulo-8 k asked = modulo k 8 (omega arith) asked (asked .by-8) (λ c h. let e : (8 + c) % 8 ≡ c % 8 = omega arith in ap h e)
 
-modulo-256 : (k : Kind) → Asked (k .call) → Turned (fault Demand1 (ClientsModulo 256 (k .call)))
+modulo-256 : (k : Kind) → FirstNos (k .call) → Turned (fault Demand1 (ClientsModulo 256 (k .call)))
 modulo-256 k asked = modulo k 256 (omega arith) asked (asked .by-256) (λ c h. let e : (256 + c) % 256 ≡ c % 256 = omega arith in ap h e)
 
-modulo-65536 : (k : Kind) → Asked (k .call) → Turned (fault Demand1 (ClientsModulo 65536 (k .call)))
+modulo-65536 : (k : Kind) → FirstNos (k .call) → Turned (fault Demand1 (ClientsModulo 65536 (k .call)))
 modulo-65536 k asked = modulo k 65536 (omega arith) asked (asked .by-65536) (λ c h. let e : (65536 + c) % 65536 ≡ c % 65536 = omega arith in ap h e)
 
 most-of-anyone : (k : Kind) → Most (k .call) → Turned (fault Demand1 (MostOfAnyone (k .call)))

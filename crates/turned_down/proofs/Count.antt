@@ -29,7 +29,7 @@ use Rattle.layout.specs.Layout.{fields, entryWidth, lineLength, entryLine, blan
 use Rattle.layout.specs.Lines.{firstEntry}
 use Rattle.calls.specs.Calls.{Outcome, placed, answered, question5, countQuestions, entriesIn, countRegister, counted}
 use Rattle.machine.specs.CallLists.{Implementation, Meets}
-use Rattle.machine.specs.CountSlices.{Counting, MeetsCount}
+use Rattle.machine.specs.CountSlices.{CountProgram, MeetsCount}
 use Rattle.machine.specs.Demand3.{prunedFor}
 use Rattle.machine.specs.BothCounts.{CountsAlike, BothCounts}
 use Rattle.machine.proofs.ReachedLaws.{counted-entries}
@@ -112,7 +112,7 @@ prunes-lent-bounds = record {
   refused = λ f d c. neither f c (d .on) (d .left-pruned);
 }
   where
-    neither : (f : Counting) → MeetsCount f → (on : BoundsLent) →
+    neither : (f : CountProgram) → MeetsCount f → (on : BoundsLent) →
         ((f (on .register) (on .low) (on .high) .low ≡ keptOf on .low) × (keptOf on .low ≡ on .low → ⊥)) ⊎ ((f (on .register) (on .low) (on .high) .high ≡ keptOf on .high) × (keptOf on .high ≡ on .high → ⊥)) → ⊥
     neither f c on (inl e) = e .1 (sym (e .0) ∙ c .low-kept (on .register) (on .low) (on .high) (on .register-bytes) (on .low-bytes) (on .high-bytes))
     neither f c on (inr e) = e .1 (sym (e .0) ∙ c .high-kept (on .register) (on .low) (on .high) (on .register-bytes) (on .low-bytes) (on .high-bytes))

@@ -32,7 +32,7 @@ use Rattle.turned_down.specs.RegisterFaults.{Reached, StoresFirst, FullU
 use Rattle.turned_down.specs.Faults.{fault, Turned}
 use Rattle.turned_down.proofs.Differences.{unequal}
 use Rattle.turned_down.proofs.RegisterCases.{cell, zero, one, zero-entry, one-entry, with, column, column-entry, column-low, computed, limits, column-limits, plain, entering, striking-by, counting, any-reached, any-client, any-bounds, slice, slice-bytes, opening, first-enter, late, left-line, standing}
-use Rattle.turned_down.proofs.ClientCalls.{Kind, Entering, seen, seen-new, seen-raised}
+use Rattle.turned_down.proofs.ClientCalls.{Kind, EnterKind, seen, seen-new, seen-raised}
 use Rattle.turned_down.proofs.ClientCalls as kinds
 
 -- ---- plans that are not stored, and refusals unlooked
@@ -197,7 +197,7 @@ leaves-last-line = record {
       f .unblank (rw (w .shape-is, w .bytes-are) blank);
 }
 
-pub appends : (k : Kind) → Entering k → Turned (fault Demand3 (AppendsEntries (k .call)))
+pub appends : (k : Kind) → EnterKind k → Turned (fault Demand3 (AppendsEntries (k .call)))
 unfolding placeIn
 appends k e = record {
   example = k .make (λ b c g. placed 0 2 b);
@@ -221,7 +221,7 @@ appends k e = record {
       (omega (arith, split, place, w .counts, length-map (w .set) (λ (x : Entry). x .grid)));
 }
 
-pub misplaces : (k : Kind) → Entering k → Turned (fault Demand3 (Misplaces (k .call)))
+pub misplaces : (k : Kind) → EnterKind k → Turned (fault Demand3 (Misplaces (k .call)))
 misplaces k e = record {
   example = k .make (λ b c g. placed 0 1 late);
   done = record {

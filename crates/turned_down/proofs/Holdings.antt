@@ -34,7 +34,7 @@ use Rattle.turned_down.specs.RegisterFaults.{ClientReached, answerAt, cl
 use Rattle.turned_down.specs.HoldingFaults.{HeldUnwritten, Elsewhere, WrapsAt999, firstHolder, StrikesFirstHolder, StrikesAll, StrikesLine, KeepsEmptyLine, HeldByAnyone, holdingFaults}
 use Rattle.turned_down.specs.Faults.{fault, Turned}
 use Rattle.turned_down.proofs.RegisterCases.{cell, zero, zero-entry, shared-entry, twice-entry, most-entry, empty-entry, with, computed, limits, striking-by, any-client}
-use Rattle.turned_down.proofs.ClientCalls.{Kind, Entering, entering, striking, at-terminal, enters, enters-at-terminal, Seen, seen, unmoved, unstored}
+use Rattle.turned_down.proofs.ClientCalls.{Kind, EnterKind, entering, striking, at-terminal, enters, enters-at-terminal, Seen, seen, unmoved, unstored}
 
 -- ---- enters
 
@@ -62,7 +62,7 @@ elsewhere k = record {
   refused = λ i f d. unmoved k i d (f .on) (f .taken) (f .kept);
 }
 
-wraps-at-999 : (k : Kind) → Entering k → Turned (fault Demand3 (WrapsAt999 (k .call)))
+wraps-at-999 : (k : Kind) → EnterKind k → Turned (fault Demand3 (WrapsAt999 (k .call)))
 wraps-at-999 k e = record {
   example = k .make (λ b c g. placed 101 1 (with []));
   done = record {

@@ -52,7 +52,7 @@ use Rattle.machine.specs.Machine.{sorted, shown, stepUnless, put, enterClass, c
 use Rattle.protocol.specs.Input.{onto, lines, firstLine, furtherLines, shapeLine, leads, leadLength, commandLine, cellCount, commandIn, clientIn, cellsIn, isLaid}
 use Rattle.protocol.specs.Commands.{lows, highs, countOf, boundsStep, commandStep, report, answerStep, malformed, answer, LineAnswer}
 use Rattle.protocol.specs.Transcript.{shapeIn, question11, question12, question13, startQuestions, startNo, reports, setAfter, registerFrom, printedFrom, transcript, printedRegister}
-use Rattle.protocol.specs.Programs.{Printing, Prints, Transcribed, hasRoom, transcribed, MeetsTranscribe}
+use Rattle.protocol.specs.Programs.{PlanbookProgram, Prints, Transcribed, hasRoom, transcribed, MeetsTranscribe}
 use Rattle.protocol.specs.Demand3.{printedLine, lineCounts, PrintsDemand3}
 use Rattle.protocol.proofs.StartLaws.{over-limit, start-limits}
 use Rattle.protocol.proofs.ReportLaws.{length-report, length-reports, ReportStates, report-states, malformed-answer, step-answer, answer-states}
@@ -278,7 +278,7 @@ commanded input line rest b e f = record { input = input; bytes = tested-bytes i
 
 -- ---- what a program prints that prints what it should
 
-module _ (p : Printing) (d : Prints p) where
+module _ (p : PlanbookProgram) (d : Prints p) where
   refusal-printed : (x : Refused) → p (x .input) ≡ report 0 (suc (x .refusal)) 0
   unfolding Prints
   refusal-printed x = d (x .input) (x .bytes) ∙ start-refused (x .input) (x .refusal) (x .first) .0

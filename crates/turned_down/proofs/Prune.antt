@@ -22,7 +22,7 @@ use Rattle.bounds.specs.Bounds.{ranksWithin, between, fillings, gridsWithin}
 use Rattle.bounds.specs.Kept.{Obeyed, Kept, obeyed, keeps, keptValues, lowestFrom, lowest, keptLow, removedValues, removed}
 use Rattle.bounds.specs.Allperm.{Allperm, allperm}
 use Rattle.bounds.specs.Prune.{Pruned, prunedTo, question8, boundsQuestions, pruneQuestions}
-use Rattle.bounds.specs.Demand2.{ExactSome, ExactNone, Exact, Pruning, PruneExact, MeetsPrune}
+use Rattle.bounds.specs.Demand2.{ExactSome, ExactNone, Exact, PruneProgram, PruneExact, MeetsPrune}
 use Rattle.grids.proofs.LentLaws.{tested-lent}
 use Rattle.bounds.proofs.KeptLaws.{obeyed-decides, keeps-decides}
 use Rattle.bounds.proofs.AllpermLaws.{allperm-decides}
@@ -112,7 +112,7 @@ form0 = form 2 2 3 zeros zeros (computed .zeros-asked)
 abbrev form10 : Form
 form10 = form 2 1 3 low10 high10 (computed .m10-asked)
 
-module _ (f : Pruning) (c : PruneExact f) where
+module _ (f : PruneProgram) (c : PruneExact f) where
   exact : (x : Form) → Exact (x .rows) (x .columns) (x .top) (x .low) (x .high) (prunedBy f x)
   unfolding PruneExact
   exact x = c (x .rows) (x .columns) (x .top) (x .low) (x .high) (x .limits) (x .bounds)
@@ -273,7 +273,7 @@ order-call = record {
   first = computed .order-asked;
 }
 
-refusal : (f : Pruning) → MeetsPrune f → (x : RefusedCall) → refusedBy f x ≡ prunedTo (suc (x .no)) 0 (x .low) (x .high)
+refusal : (f : PruneProgram) → MeetsPrune f → (x : RefusedCall) → refusedBy f x ≡ prunedTo (suc (x .no)) 0 (x .low) (x .high)
 unfolding MeetsPrune
 refusal f c x = prunes-refused _ _ _ _ _ _ (c (x .rows) (x .columns) (x .top) (x .low) (x .high) (x .lent)) (x .no) (x .first)
 

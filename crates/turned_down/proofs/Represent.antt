@@ -20,7 +20,7 @@ use Rattle.grids.specs.Least.{arrangements, lesser, leastOf, least}
 use Rattle.grids.specs.Questions.{firstNo, inRange, question1, question2, question3, question6, question7}
 use Rattle.grids.proofs.LeastLaws.{least-unique, least-is}
 use Rattle.canonical.specs.Represent.{representQuestions, Represented}
-use Rattle.canonical.specs.Programs.{Representing, MeetsRepresent}
+use Rattle.canonical.specs.Programs.{RepresentProgram, MeetsRepresent}
 use Rattle.canonical.specs.Demand2.{AnswersLeast, RepresentLeast}
 use Rattle.canonical.proofs.CallLaws.{represented-number, represented-refused, produces-past}
 use Rattle.turned_down.specs.RepresentFaults.{Sent, on, Fitting, HandsBack, OneForTwo, RefusesPlan, sortedBothWays, SortsByTurns, equalRows, firstRowFirst, FollowsFirst, OrdersBackwards, FillsPastRows, FillsPastColumns, IgnoresLength, IgnoresCells, WritesRefusing, MovesRowsRefusing, MovesColumnsRefusing, representFaults}
@@ -83,7 +83,7 @@ at-m5 = fitting 8 1 3 3 m5 m5 refl (omega arith) (computed .m5-asked)
 
 -- ---- grids within the limits
 
-module _ (most : ℕ) (f : Representing) where
+module _ (most : ℕ) (f : RepresentProgram) where
   pub writes-least : (s : Fitting most) → AnswersLeast most (s .sent .rows) (s .sent .columns) (s .sent .first) (on f (s .sent)) →
       on f (s .sent) .out ≡ least (s .sent .rows) (s .sent .columns) (s .sent .first)
   writes-least s a = least-unique _ _ _ _ _ (a .is-least) (least-is _ _ _ (s .grid .sized))
@@ -92,7 +92,7 @@ module _ (most : ℕ) (f : Representing) where
       AnswersLeast most (d .fitting .sent .rows) (d .fitting .sent .columns) (d .fitting .sent .first) (on f (d .fitting .sent)) → ⊥
   handed-back d a = d .not-least (sym (writes-least (d .fitting) a) ∙ d .back)
 
-fits : (f : Representing) → RepresentLeast f → (s : Fitting 8) → AnswersLeast 8 (s .sent .rows) (s .sent .columns) (s .sent .first) (on f (s .sent))
+fits : (f : RepresentProgram) → RepresentLeast f → (s : Fitting 8) → AnswersLeast 8 (s .sent .rows) (s .sent .columns) (s .sent .first) (on f (s .sent))
 unfolding RepresentLeast
 fits f c s = c _ _ _ _ _ (s .limits) (s .grid) (s .sent .lent .second) (s .out-sized)
 
@@ -170,7 +170,7 @@ fills-past-columns = record {
 
 -- ---- the questions, and refusals
 
-meets : (f : Representing) → MeetsRepresent f → (s : Sent) → Represented (s .rows) (s .columns) (s .top) (s .first) (s .second) (on f s)
+meets : (f : RepresentProgram) → MeetsRepresent f → (s : Sent) → Represented (s .rows) (s .columns) (s .top) (s .first) (s .second) (on f s)
 unfolding MeetsRepresent
 meets f c s = c _ _ _ _ _ (s .lent)
 

@@ -19,7 +19,7 @@ use Rattle.grids.specs.Least.{arrangements, lesser, leastOf, least}
 use Rattle.grids.specs.Questions.{firstNo, inRange, question1, question2, question3, question6, question7}
 use Rattle.grids.proofs.GridLaws.{class-passes, passes-class}
 use Rattle.canonical.specs.Same.{sameQuestions, Compared, sameNumber, sameAgreed}
-use Rattle.canonical.specs.Programs.{Comparing, MeetsSame}
+use Rattle.canonical.specs.Programs.{SameProgram, MeetsSame}
 use Rattle.canonical.proofs.CallLaws.{compared-number, compared-one, compared-starts, compared-refused, same-zero, same-first-no, produces-past}
 use Rattle.canonical.proofs.AgreedLaws.{asked-103, same-agreed}
 use Rattle.turned_down.specs.RepresentFaults.{Sent, on, sortedBothWays}
@@ -82,7 +82,7 @@ at-m6 = sending 2 2 1 m6-a m6-b refl
 m1-class : OneClass 2 3 m1 m1-least
 m1-class = passes-class 2 3 m1 m1-least (computed .m1-one)
 
-module _ (f : Comparing) (c : MeetsSame f) (s : Sent) where
+module _ (f : SameProgram) (c : MeetsSame f) (s : Sent) where
   meets : Compared (s .rows) (s .columns) (s .top) (s .first) (s .second) (on f s)
   unfolding MeetsSame
   meets = c _ _ _ _ _ (s .lent)

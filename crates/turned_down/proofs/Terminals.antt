@@ -21,7 +21,7 @@ use Rattle.grids.specs.Least.{arrangements, lesser, leastOf, least}
 use Rattle.grids.specs.Questions.{firstNo, inRange, question1, question2, question3, question6, question7}
 use Rattle.canonical.specs.Represent.{representQuestions, terminalRepresentQuestions, TerminalRepresented}
 use Rattle.canonical.specs.Same.{SameRefused, terminalSameQuestions, TerminalCompared, terminalSameNumber}
-use Rattle.canonical.specs.Programs.{Representing, Comparing, MeetsTerminalRepresent, MeetsTerminalSame, RepresentAlike, SameAlike}
+use Rattle.canonical.specs.Programs.{RepresentProgram, SameProgram, MeetsTerminalRepresent, MeetsTerminalSame, RepresentAlike, SameAlike}
 use Rattle.canonical.specs.Demand2.{AnswersLeast, TerminalRepresentLeast}
 use Rattle.canonical.proofs.CallLaws.{represented-number, represented-done, represented-refused, compared-number, compared-one, compared-starts, compared-refused, produces-past}
 use Rattle.canonical.proofs.TerminalCalls.{terminal-represent-many, terminal-represent-14, terminal-same-many, terminal-same-14}
@@ -68,7 +68,7 @@ computed = record {
 
 -- ---- represent
 
-fits : (f : Representing) → TerminalRepresentLeast f → (s : Fitting 5) → AnswersLeast 5 (s .sent .rows) (s .sent .columns) (s .sent .first) (on f (s .sent))
+fits : (f : RepresentProgram) → TerminalRepresentLeast f → (s : Fitting 5) → AnswersLeast 5 (s .sent .rows) (s .sent .columns) (s .sent .first) (on f (s .sent))
 unfolding TerminalRepresentLeast
 fits f c s = c _ _ _ _ _ (s .few) (s .limits) (s .grid) (s .sent .lent .second) (s .out-sized)
 
@@ -90,7 +90,7 @@ hands-back-many = record {
 }
 
 -- what a program answers that meets the contract of a terminal's represent
-module _ (f : Representing) (c : MeetsTerminalRepresent f) (s : Sent) where
+module _ (f : RepresentProgram) (c : MeetsTerminalRepresent f) (s : Sent) where
   meets : TerminalRepresented (s .rows) (s .columns) (s .top) (s .first) (s .second) (on f s)
   unfolding MeetsTerminalRepresent
   meets = c _ _ _ _ _ (s .lent)
@@ -152,7 +152,7 @@ keeps-8-refusing = record {
 -- ---- same
 
 -- what a program answers that meets the contract of a terminal's same
-module _ (f : Comparing) (c : MeetsTerminalSame f) (s : Sent) where
+module _ (f : SameProgram) (c : MeetsTerminalSame f) (s : Sent) where
   same-meets : TerminalCompared (s .rows) (s .columns) (s .top) (s .first) (s .second) (on f s)
   unfolding MeetsTerminalSame
   same-meets = c _ _ _ _ _ (s .lent)
@@ -221,7 +221,7 @@ agrees-with-14 = record {
 
 -- ---- both sets
 
-represents-unlike : Turned (fault (λ (p : BothSets Representing). RepresentAlike (p .system) (p .terminal)) RepresentsUnlike)
+represents-unlike : Turned (fault (λ (p : BothSets RepresentProgram). RepresentAlike (p .system) (p .terminal)) RepresentsUnlike)
 unfolding RepresentAlike equal
 represents-unlike = record {
   example = record {
@@ -232,7 +232,7 @@ represents-unlike = record {
   refused = λ p d c. d .two-grids (c _ _ _ _ _ (d .sent .lent) (d .few) .1);
 }
 
-compares-unlike : Turned (fault (λ (p : BothSets Comparing). SameAlike (p .system) (p .terminal)) ComparesUnlike)
+compares-unlike : Turned (fault (λ (p : BothSets SameProgram). SameAlike (p .system) (p .terminal)) ComparesUnlike)
 unfolding SameAlike
 compares-unlike = record {
   example = record {

@@ -10,7 +10,7 @@ use lib.ListN.{length}
 use Rattle.permutations.specs.Lists.{tabulate}
 use Rattle.permutations.specs.Padded.{composedPadded, inversePadded}
 use Rattle.permutations.proofs.ListLaws.{all-append}
-use Rattle.canonical.specs.Programs.{Representing, MeetsRepresent, Comparing, MeetsSame, MeetsTerminalRepresent, MeetsTerminalSame}
+use Rattle.canonical.specs.Programs.{RepresentProgram, MeetsRepresent, SameProgram, MeetsSame, MeetsTerminalRepresent, MeetsTerminalSame}
 use Rattle.canonical.proofs.CallLaws.{represent-answers, represent-least, same-answers}
 use Rattle.canonical.proofs.TerminalCalls.{represent-alike, terminal-represent-answers, terminal-represent-least, same-alike, terminal-same-answers}
 use Rattle.bounds.specs.Prune.{pruned}
@@ -78,28 +78,28 @@ pub table-rows : length table ≡ 408
 unfolding table representFaults sameFaults pruneFaults bookFaults askingFaults countFaults planbookFaults terminalFaults terminalEnterFaults holdingFaults clientFaults changeFaults changesOf liveFaults orderFaults refusalFaults askedBefore tabulate flatMap
 table-rows = refl
 
-representing : Representing
+representing : RepresentProgram
 representing m n top g out = represent-answers m n top g out .0
 
 represents : MeetsRepresent representing
 unfolding MeetsRepresent representing
 represents m n top g out h = represent-answers m n top g out .1
 
-terminal-representing : Representing
+terminal-representing : RepresentProgram
 terminal-representing m n top g out = terminal-represent-answers m n top g out .0
 
 terminal-represents : MeetsTerminalRepresent terminal-representing
 unfolding MeetsTerminalRepresent terminal-representing
 terminal-represents m n top g out h = terminal-represent-answers m n top g out .1
 
-comparing : Comparing
+comparing : SameProgram
 comparing m n top a b = same-answers m n top a b .0
 
 compares : MeetsSame comparing
 unfolding MeetsSame comparing
 compares m n top a b h = same-answers m n top a b .1
 
-terminal-comparing : Comparing
+terminal-comparing : SameProgram
 terminal-comparing m n top a b = terminal-same-answers m n top a b .0
 
 terminal-compares : MeetsTerminalSame terminal-comparing

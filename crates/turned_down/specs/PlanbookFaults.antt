@@ -46,7 +46,7 @@ use Rattle.protocol.specs.Input.{furtherLines, commandIn, clientIn, cellsIn, is
 use Rattle.protocol.specs.Commands.{commandStep, report}
 use Rattle.protocol.specs.Readings.{prunedCells}
 use Rattle.protocol.specs.Transcript.{byteLimit, shapeIn, startNo, setAfter, transcript}
-use Rattle.protocol.specs.Programs.{Printing, Transcribing, hasRoom, Prints, MeetsTranscribe}
+use Rattle.protocol.specs.Programs.{PlanbookProgram, TranscribeProgram, hasRoom, Prints, MeetsTranscribe}
 use Rattle.protocol.specs.Demand3.{lineCounts, PrintsDemand3}
 use Rattle.turned_down.specs.Faults.{Fault, fault}
 
@@ -88,30 +88,30 @@ prunedOn input l = prunedCells (shapeIn input .rows) (shapeIn input .columns) (s
 
 -- ---- what is printed first
 
-pub record GoesOnAfter13 (p : Printing) : Type 0 where
+pub record GoesOnAfter13 (p : PlanbookProgram) : Type 0 where
   pub on : Refused
   pub no : startNo (on .input) ≡ 13
   pub longer : 19 < length (p (on .input))
 
-pub record PrintsRegisterAfter11 (p : Printing) : Type 0 where
+pub record PrintsRegisterAfter11 (p : PlanbookProgram) : Type 0 where
   pub on : Refused
   pub no : startNo (on .input) ≡ 11
   pub register : List ℕ
   pub laid : laidOut register ≡ true
   pub prints : p (on .input) ≡ report 0 11 0 ++ register
 
-pub record AsksLengthFirst (p : Printing) : Type 0 where
+pub record AsksLengthFirst (p : PlanbookProgram) : Type 0 where
   pub on : Refused
   pub no : startNo (on .input) ≤ 4
   pub prints : p (on .input) ≡ report 0 13 0
 
-pub record MeasuresWithoutHoldings (p : Printing) : Type 0 where
+pub record MeasuresWithoutHoldings (p : PlanbookProgram) : Type 0 where
   pub on : Refused
   pub no : startNo (on .input) ≡ 13
   pub small : headLength + shapeIn (on .input) .capacity * (3 * gridSize (shapeIn (on .input)) + 1) ≤ byteLimit
   pub prints : p (on .input) ≡ report 0 13 0 → ⊥
 
-pub record SilentWithoutCommands (p : Printing) : Type 0 where
+pub record SilentWithoutCommands (p : PlanbookProgram) : Type 0 where
   pub input : List ℕ
   pub bytes : Bytes input
   pub starts : startNo input ≡ 0
@@ -120,24 +120,24 @@ pub record SilentWithoutCommands (p : Printing) : Type 0 where
 
 -- ---- lines that are not laid
 
-pub record EndsAtMalformed (p : Printing) : Type 0 where
+pub record EndsAtMalformed (p : PlanbookProgram) : Type 0 where
   pub on : Commanded
   pub unlaid : laidFirst on ≡ false
   pub prints : p (on .input) ≡ report 0 12 0
 
-pub record MalformedReaches (p : Printing) : Type 0 where
+pub record MalformedReaches (p : PlanbookProgram) : Type 0 where
   pub on : Commanded
   pub unlaid : laidFirst on ≡ false
   pub only : on .rest ≡ []
   pub reaches : drop 19 (p (on .input)) ≡ shown (shapeIn (on .input)) [] → ⊥
 
-pub record TakesUnended (p : Printing) : Type 0 where
+pub record TakesUnended (p : PlanbookProgram) : Type 0 where
   pub on : Commanded
   pub unlaid : laidFirst on ≡ false
   pub laid : laidIn (on .input) (on .line ++ (10 ∷ [])) ≡ true
   pub prints : take 19 (p (on .input)) ≡ report 0 12 0 → ⊥
 
-pub record TakesClientless (p : Printing) : Type 0 where
+pub record TakesClientless (p : PlanbookProgram) : Type 0 where
   pub on : Commanded
   pub command : ℕ
   pub names : inRange 1 2 command ≡ true
@@ -148,26 +148,26 @@ pub record TakesClientless (p : Printing) : Type 0 where
 
 -- ---- lines that are laid
 
-pub record PrintsUnderZero (p : Printing) : Type 0 where
+pub record PrintsUnderZero (p : PlanbookProgram) : Type 0 where
   pub on : Commanded
   pub laid : laidFirst on ≡ true
   pub refused : accepted (firstStep (on .input) (on .line) .number) ≡ false
   pub prints : numberAt 6 0 (take 19 (p (on .input))) ≡ 0
 
-pub record RefusesCellsAsMalformed (p : Printing) : Type 0 where
+pub record RefusesCellsAsMalformed (p : PlanbookProgram) : Type 0 where
   pub on : Commanded
   pub laid : laidFirst on ≡ true
   pub above : capped (shapeIn (on .input) .top) (cellsOn (on .input) (on .line)) ≡ false
   pub prints : take 19 (p (on .input)) ≡ report 0 12 0
 
-pub record CountsRefusedBounds (p : Printing) : Type 0 where
+pub record CountsRefusedBounds (p : PlanbookProgram) : Type 0 where
   pub on : Commanded
   pub laid : laidFirst on ≡ true
   pub command : commandIn (on .line) ≡ 3
   pub empty : prunedOn (on .input) (on .line) .number ≡ 102
   pub prints : numberAt 6 6 (take 19 (p (on .input))) ≡ 0
 
-pub record CountsAtEnd (p : Printing) : Type 0 where
+pub record CountsAtEnd (p : PlanbookProgram) : Type 0 where
   pub on : Commanded
   pub laid : laidFirst on ≡ true
   pub command : commandIn (on .line) ≡ 3
@@ -175,20 +175,20 @@ pub record CountsAtEnd (p : Printing) : Type 0 where
   pub later : lineCounts (shapeIn (on .input)) (on .line) (gridsOf (setAfter (shapeIn (on .input)) [] (on .line ∷ on .rest))) ≡ 0 → ⊥
   pub prints : numberAt 6 12 (take 19 (p (on .input))) ≡ lineCounts (shapeIn (on .input)) (on .line) (gridsOf (setAfter (shapeIn (on .input)) [] (on .line ∷ on .rest)))
 
-pub record ReadsNoClient (p : Printing) : Type 0 where
+pub record ReadsNoClient (p : PlanbookProgram) : Type 0 where
   pub on : Commanded
   pub laid : laidFirst on ≡ true
   pub only : on .rest ≡ []
   pub other : printedBy (clientIn (on .line)) (on .input) (on .line) ≡ printedBy 1 (on .input) (on .line) → ⊥
   pub prints : p (on .input) ≡ printedBy 1 (on .input) (on .line)
 
-pub record RefusesClientAsMalformed (p : Printing) : Type 0 where
+pub record RefusesClientAsMalformed (p : PlanbookProgram) : Type 0 where
   pub on : Commanded
   pub laid : laidFirst on ≡ true
   pub refused : firstStep (on .input) (on .line) .number ≡ 15
   pub prints : take 19 (p (on .input)) ≡ report 0 12 0
 
-pub record AsksClientFirst (p : Printing) : Type 0 where
+pub record AsksClientFirst (p : PlanbookProgram) : Type 0 where
   pub on : Commanded
   pub laid : laidFirst on ≡ true
   pub client : question15 (clientIn (on .line)) .answer ≡ false
@@ -205,12 +205,12 @@ pub record Slices : Type 0 where
   pub register-bytes : Bytes register
   pub out-bytes : Bytes out
 
-pub record CountsWithoutRoom (f : Transcribing) : Type 0 where
+pub record CountsWithoutRoom (f : TranscribeProgram) : Type 0 where
   pub on : Slices
   pub small : hasRoom (on .register) (on .out) ≡ false
   pub counts : 0 < f (on .input) (on .register) (on .out) .count
 
-pub record ClearsRest (f : Transcribing) : Type 0 where
+pub record ClearsRest (f : TranscribeProgram) : Type 0 where
   pub on : Slices
   pub room : hasRoom (on .register) (on .out) ≡ true
   pub cleared : drop (length (transcript (on .input))) (f (on .input) (on .register) (on .out) .out) ≡ drop (length (transcript (on .input))) (on .out) → ⊥

@@ -35,7 +35,7 @@ use Rattle.bounds.specs.Bounds.{IsBounds}
 use Rattle.bounds.specs.Kept.{Obeyed, keptLow}
 use Rattle.bounds.specs.Allperm.{Allperm}
 use Rattle.bounds.specs.Prune.{Pruned, pruneQuestions}
-use Rattle.bounds.specs.Demand2.{Pruning, PruneExact, MeetsPrune}
+use Rattle.bounds.specs.Demand2.{PruneProgram, PruneExact, MeetsPrune}
 use Rattle.turned_down.specs.Faults.{Fault, fault}
 
 pub record Form : Type 0 where
@@ -47,7 +47,7 @@ pub record Form : Type 0 where
   pub limits : Limits rows columns top
   pub bounds : IsBounds (rows * columns) top low high
 
-abbrev pub prunedBy : Pruning → Form → Pruned
+abbrev pub prunedBy : PruneProgram → Form → Pruned
 prunedBy f x = f (x .rows) (x .columns) (x .top) (x .low) (x .high)
 
 abbrev pub HasGrid : Form → Type 0
@@ -67,49 +67,49 @@ sentOn highs low high = high
 
 -- ---- what is kept
 
-unfoldable pub NeverPrunes : Pruning → Type 0
+unfoldable pub NeverPrunes : PruneProgram → Type 0
 NeverPrunes f = (x : Form) → prunedBy f x .number ≡ 0 → ⊥
 
-unfoldable pub NeverEmpty : Pruning → Type 0
+unfoldable pub NeverEmpty : PruneProgram → Type 0
 NeverEmpty f = (x : Form) → prunedBy f x .number ≡ 102 → ⊥
 
-unfoldable pub RemovesNothing : Pruning → Type 0
+unfoldable pub RemovesNothing : PruneProgram → Type 0
 RemovesNothing f = (x : Form) → prunedBy f x .number ≡ 0 → (prunedBy f x .low ≡ x .low) × (prunedBy f x .high ≡ x .high)
 
-unfoldable pub RaisesNoLow : Pruning → Type 0
+unfoldable pub RaisesNoLow : PruneProgram → Type 0
 RaisesNoLow f = (x : Form) → prunedBy f x .number ≡ 0 → prunedBy f x .low ≡ x .low
 
-unfoldable pub LowersNoHigh : Pruning → Type 0
+unfoldable pub LowersNoHigh : PruneProgram → Type 0
 LowersNoHigh f = (x : Form) → prunedBy f x .number ≡ 0 → prunedBy f x .high ≡ x .high
 
 unfoldable pub unsorted : ℕ → ℕ → List ℕ → Bool
 unsorted m n g = every (λ i. leq (row n g 0) (row n g i)) (tabulate 1 (m - 1) (λ i. i))
 
-unfoldable pub PrunesUnsorted : Pruning → Type 0
+unfoldable pub PrunesUnsorted : PruneProgram → Type 0
 PrunesUnsorted f =
     (x : Form) → prunedBy f x .number ≡ 0 → prunedBy f x .low ≡ keptLow (unsorted (x .rows) (x .columns)) (x .rows * x .columns) (x .top) (x .low) (x .high)
 
-unfoldable pub InventsRemoved : Pruning → Type 0
+unfoldable pub InventsRemoved : PruneProgram → Type 0
 InventsRemoved f = (x y : Form) → prunedBy f x .number ≡ 0 → prunedBy f y .number ≡ 0 → prunedBy f x .count ≡ prunedBy f y .count
 
 -- ---- what is left
 
-pub record WritesEmpty (side : Side) (f : Pruning) : Type 0 where
+pub record WritesEmpty (side : Side) (f : PruneProgram) : Type 0 where
   pub on : Form
   pub empty : prunedBy f on .number ≡ 102
   pub changed : leftOn side (prunedBy f on) ≡ sentOn side (on .low) (on .high) → ⊥
 
-pub record CountsEmpty (f : Pruning) : Type 0 where
+pub record CountsEmpty (f : PruneProgram) : Type 0 where
   pub on : Form
   pub empty : prunedBy f on .number ≡ 102
   pub counts : prunedBy f on .count ≡ 0 → ⊥
 
-pub record ShortensBounds (side : Side) (f : Pruning) : Type 0 where
+pub record ShortensBounds (side : Side) (f : PruneProgram) : Type 0 where
   pub on : Form
   pub some : HasGrid on
   pub unsized : length (leftOn side (prunedBy f on)) ≡ on .rows * on .columns → ⊥
 
-pub record LeavesAboveTop (f : Pruning) : Type 0 where
+pub record LeavesAboveTop (f : PruneProgram) : Type 0 where
   pub on : Form
   pub some : HasGrid on
   pub cell : ℕ
@@ -128,19 +128,19 @@ pub record RefusedCall : Type 0 where
   pub no : ℕ
   pub first : firstNo (pruneQuestions rows columns top low high) ≡ suc no
 
-abbrev pub refusedBy : Pruning → RefusedCall → Pruned
+abbrev pub refusedBy : PruneProgram → RefusedCall → Pruned
 refusedBy f x = f (x .rows) (x .columns) (x .top) (x .low) (x .high)
 
-pub record IgnoresOrder (f : Pruning) : Type 0 where
+pub record IgnoresOrder (f : PruneProgram) : Type 0 where
   pub on : RefusedCall
   pub order : on .no ≡ 7
   pub ignored : refusedBy f on .number ≡ 8 → ⊥
 
-pub record PruneWritesRefusing (side : Side) (f : Pruning) : Type 0 where
+pub record PruneWritesRefusing (side : Side) (f : PruneProgram) : Type 0 where
   pub on : RefusedCall
   pub changed : leftOn side (refusedBy f on) ≡ sentOn side (on .low) (on .high) → ⊥
 
-pub record CountsRefusing (f : Pruning) : Type 0 where
+pub record CountsRefusing (f : PruneProgram) : Type 0 where
   pub on : RefusedCall
   pub counts : refusedBy f on .count ≡ 0 → ⊥
 

@@ -67,7 +67,7 @@ use Rattle.layout.specs.Layout.{Shape, gridsOf, gridSize, blankLine, layoutLeng
 use Rattle.calls.specs.Entries.{leastIn, holds, holdingsIn}
 use Rattle.calls.specs.Calls.{Outcome, openQuestions, entriesIn, accepted}
 use Rattle.machine.specs.CallLists.{Call, enter, strike, countIn, terminalEnter, Implementation, LentShape, LentCall, called, left, questionsOf, Meets}
-use Rattle.machine.specs.CountSlices.{Counting, MeetsCount}
+use Rattle.machine.specs.CountSlices.{CountProgram, MeetsCount}
 use Rattle.machine.specs.Demand3.{prunedFor, Demand3}
 use Rattle.machine.specs.Demand1.{Demand1}
 use Rattle.machine.specs.BothCounts.{BothCounts}
@@ -346,7 +346,7 @@ pub record CountsNone (i : Implementation) : Type 0 where
   pub counted : i .counts (on .register) (on .low) (on .high) .number ≡ 0
   pub counts : i .counts (on .register) (on .low) (on .high) .place ≡ 0
 
-pub record PrunesLentBounds (f : Counting) : Type 0 where
+pub record PrunesLentBounds (f : CountProgram) : Type 0 where
   pub on : BoundsLent
   pub left-pruned : ((f (on .register) (on .low) (on .high) .low ≡ keptOf on .low) × (keptOf on .low ≡ on .low → ⊥))
       ⊎ ((f (on .register) (on .low) (on .high) .high ≡ keptOf on .high) × (keptOf on .high ≡ on .high → ⊥))

@@ -33,7 +33,7 @@ use Rattle.grids.specs.Least.{least}
 use Rattle.grids.specs.Questions.{firstNo, Limits}
 use Rattle.grids.specs.Lent.{Lent}
 use Rattle.canonical.specs.Represent.{representQuestions}
-use Rattle.canonical.specs.Programs.{Representing, MeetsRepresent}
+use Rattle.canonical.specs.Programs.{RepresentProgram, MeetsRepresent}
 use Rattle.canonical.specs.Demand2.{RepresentLeast}
 use Rattle.turned_down.specs.Faults.{Fault, fault}
 
@@ -57,18 +57,18 @@ pub record Fitting (most : ℕ) : Type 0 where
 
 -- ---- grids within the limits
 
-pub record HandsBack (most : ℕ) (f : Representing) : Type 0 where
+pub record HandsBack (most : ℕ) (f : RepresentProgram) : Type 0 where
   pub fitting : Fitting most
   pub not-least : least (fitting .sent .rows) (fitting .sent .columns) (fitting .sent .first) ≡ fitting .sent .first → ⊥
   pub back : on f (fitting .sent) .out ≡ fitting .sent .first
 
-pub record OneForTwo (f : Representing) : Type 0 where
+pub record OneForTwo (f : RepresentProgram) : Type 0 where
   pub fitting : Fitting 8
   pub other : Fitting 8
   pub two-leasts : least (fitting .sent .rows) (fitting .sent .columns) (fitting .sent .first) ≡ least (other .sent .rows) (other .sent .columns) (other .sent .first) → ⊥
   pub one : on f (fitting .sent) .out ≡ on f (other .sent) .out
 
-pub record RefusesPlan (f : Representing) : Type 0 where
+pub record RefusesPlan (f : RepresentProgram) : Type 0 where
   pub fitting : Fitting 8
   pub refuses : on f (fitting .sent) .number ≡ 0 → ⊥
 
@@ -76,7 +76,7 @@ unfoldable pub sortedBothWays : ℕ → ℕ → List ℕ → Bool
 sortedBothWays m n g =
     every (λ i. leq (row n g i) (row n g (suc i))) (numbers (m - 1)) && every (λ j. leq (column m n g j) (column m n g (suc j))) (numbers (n - 1))
 
-pub record SortsByTurns (f : Representing) : Type 0 where
+pub record SortsByTurns (f : RepresentProgram) : Type 0 where
   pub back : HandsBack 8 f
   pub sorted : sortedBothWays (back .fitting .sent .rows) (back .fitting .sent .columns) (back .fitting .sent .first) ≡ true
 
@@ -86,7 +86,7 @@ equalRows n g = some (λ q. equal (row n g 0) (permutedRow n g 1 q)) (permutatio
 unfoldable pub firstRowFirst : ℕ → List ℕ → List ℕ → Bool
 firstRowFirst n g o = some (λ q. equal (arrangement 2 n (0 ∷ 1 ∷ []) q g) o) (permutations n)
 
-pub record FollowsFirst (f : Representing) : Type 0 where
+pub record FollowsFirst (f : RepresentProgram) : Type 0 where
   pub fitting : Fitting 8
   pub two-rows : fitting .sent .rows ≡ 2
   pub equally-good : equalRows (fitting .sent .columns) (fitting .sent .first) ≡ true
@@ -96,10 +96,10 @@ pub record FollowsFirst (f : Representing) : Type 0 where
 abbrev pub byOrders : Sent → List ℕ → List ℕ → List ℕ → List ℕ
 byOrders s rows columns x = arrangement (s .rows) (s .columns) (take (s .rows) rows) (take (s .columns) columns) x
 
-abbrev pub returned : Representing → Sent → List ℕ → List ℕ
+abbrev pub returned : RepresentProgram → Sent → List ℕ → List ℕ
 returned f s x = byOrders s (on f s .rows) (on f s .columns) x
 
-pub record OrdersBackwards (f : Representing) : Type 0 where
+pub record OrdersBackwards (f : RepresentProgram) : Type 0 where
   pub fitting : Fitting 8
   pub backwards : returned f (fitting .sent) (on f (fitting .sent) .out) ≡ fitting .sent .first
   pub not-forwards : returned f (fitting .sent) (fitting .sent .first) ≡ on f (fitting .sent) .out → ⊥
@@ -110,38 +110,38 @@ pub record FillsPast (width m : ℕ) (order : List ℕ) : Type 0 where
   pub within : at < width
   pub other : getD order at 0 ≡ at → ⊥
 
-pub record FillsPastRows (f : Representing) : Type 0 where
+pub record FillsPastRows (f : RepresentProgram) : Type 0 where
   pub fitting : Fitting 8
   pub fills : FillsPast 8 (fitting .sent .rows) (on f (fitting .sent) .rows)
 
-pub record FillsPastColumns (f : Representing) : Type 0 where
+pub record FillsPastColumns (f : RepresentProgram) : Type 0 where
   pub fitting : Fitting 8
   pub fills : FillsPast 16 (fitting .sent .columns) (on f (fitting .sent) .columns)
 
 -- ---- the questions, and refusals
 
-pub record IgnoresLength (f : Representing) : Type 0 where
+pub record IgnoresLength (f : RepresentProgram) : Type 0 where
   pub sent : Sent
   pub asked : firstNo (on representQuestions sent) ≡ 6
   pub out-sized : length (sent .second) ≡ sent .rows * sent .columns
   pub unrefused : on f sent .number ≡ 6 → ⊥
 
-pub record IgnoresCells (f : Representing) : Type 0 where
+pub record IgnoresCells (f : RepresentProgram) : Type 0 where
   pub sent : Sent
   pub asked : firstNo (on representQuestions sent) ≡ 7
   pub unrefused : on f sent .number ≡ 7 → ⊥
 
-pub record WritesRefusing (f : Representing) : Type 0 where
+pub record WritesRefusing (f : RepresentProgram) : Type 0 where
   pub sent : Sent
   pub refuses : on f sent .number ≡ 0 → ⊥
   pub writes : on f sent .out ≡ sent .second → ⊥
 
-pub record MovesRowsRefusing (f : Representing) : Type 0 where
+pub record MovesRowsRefusing (f : RepresentProgram) : Type 0 where
   pub sent : Sent
   pub refuses : on f sent .number ≡ 0 → ⊥
   pub moves : on f sent .rows ≡ identity 8 → ⊥
 
-pub record MovesColumnsRefusing (f : Representing) : Type 0 where
+pub record MovesColumnsRefusing (f : RepresentProgram) : Type 0 where
   pub sent : Sent
   pub refuses : on f sent .number ≡ 0 → ⊥
   pub moves : on f sent .columns ≡ identity 16 → ⊥

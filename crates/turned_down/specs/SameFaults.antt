@@ -28,11 +28,11 @@ use Rattle.grids.specs.Grids.{capped, row, OneClass}
 use Rattle.grids.specs.Least.{least}
 use Rattle.grids.specs.Questions.{firstNo}
 use Rattle.canonical.specs.Same.{sameQuestions}
-use Rattle.canonical.specs.Programs.{Comparing, MeetsSame}
+use Rattle.canonical.specs.Programs.{SameProgram, MeetsSame}
 use Rattle.turned_down.specs.RepresentFaults.{Sent, on, sortedBothWays, FillsPast, byOrders}
 use Rattle.turned_down.specs.Faults.{Fault, fault}
 
-pub record DeniesClass (f : Comparing) : Type 0 where
+pub record DeniesClass (f : SameProgram) : Type 0 where
   pub sent : Sent
   pub asked : firstNo (on sameQuestions sent) ≡ 0
   pub one-class : OneClass (sent .rows) (sent .columns) (sent .first) (sent .second)
@@ -41,14 +41,14 @@ pub record DeniesClass (f : Comparing) : Type 0 where
 unfoldable pub rowSums : ℕ → ℕ → List ℕ → List ℕ
 rowSums m n g = tabulate 0 m (λ i. foldr _+_ 0 (row n g i))
 
-pub record JudgesByRowSums (f : Comparing) : Type 0 where
+pub record JudgesByRowSums (f : SameProgram) : Type 0 where
   pub sent : Sent
   pub asked : firstNo (on sameQuestions sent) ≡ 0
   pub two-classes : OneClass (sent .rows) (sent .columns) (sent .first) (sent .second) → ⊥
   pub one-sum : equal (rowSums (sent .rows) (sent .columns) (sent .first)) (rowSums (sent .rows) (sent .columns) (sent .second)) ≡ true
   pub said : on f sent .number ≡ 0
 
-pub record ComparesSorted (f : Comparing) : Type 0 where
+pub record ComparesSorted (f : SameProgram) : Type 0 where
   pub sent : Sent
   pub asked : firstNo (on sameQuestions sent) ≡ 0
   pub one-class : OneClass (sent .rows) (sent .columns) (sent .first) (sent .second)
@@ -58,38 +58,38 @@ pub record ComparesSorted (f : Comparing) : Type 0 where
 
 -- ---- the orders
 
-abbrev pub carried : Comparing → Sent → List ℕ → List ℕ
+abbrev pub carried : SameProgram → Sent → List ℕ → List ℕ
 carried f s x = byOrders s (on f s .rows) (on f s .columns) x
 
-pub record OrdersFromB (f : Comparing) : Type 0 where
+pub record OrdersFromB (f : SameProgram) : Type 0 where
   pub sent : Sent
   pub zero : on f sent .number ≡ 0
   pub from-b : carried f sent (sent .second) ≡ sent .first
   pub not-from-a : carried f sent (sent .first) ≡ sent .second → ⊥
 
-pub record SameFillsPastRows (f : Comparing) : Type 0 where
+pub record SameFillsPastRows (f : SameProgram) : Type 0 where
   pub sent : Sent
   pub zero : on f sent .number ≡ 0
   pub fills : FillsPast 8 (sent .rows) (on f sent .rows)
 
-pub record SameFillsPastColumns (f : Comparing) : Type 0 where
+pub record SameFillsPastColumns (f : SameProgram) : Type 0 where
   pub sent : Sent
   pub zero : on f sent .number ≡ 0
   pub fills : FillsPast 16 (sent .columns) (on f sent .columns)
 
-pub record MovesRowsUnmatched (f : Comparing) : Type 0 where
+pub record MovesRowsUnmatched (f : SameProgram) : Type 0 where
   pub sent : Sent
   pub not-zero : on f sent .number ≡ 0 → ⊥
   pub moves : on f sent .rows ≡ identity 8 → ⊥
 
-pub record MovesColumnsUnmatched (f : Comparing) : Type 0 where
+pub record MovesColumnsUnmatched (f : SameProgram) : Type 0 where
   pub sent : Sent
   pub not-zero : on f sent .number ≡ 0 → ⊥
   pub moves : on f sent .columns ≡ identity 16 → ⊥
 
 -- ---- the questions, and the cells that agree
 
-pub record IgnoresB (f : Comparing) : Type 0 where
+pub record IgnoresB (f : SameProgram) : Type 0 where
   pub sent : Sent
   pub asked : firstNo (on sameQuestions sent) ≡ 7
   pub first-capped : capped (sent .top) (sent .first) ≡ true
@@ -99,24 +99,24 @@ pub record IgnoresB (f : Comparing) : Type 0 where
 abbrev pub agreeing : Sent → ℕ
 agreeing s = commonPrefixLength (least (s .rows) (s .columns) (s .first)) (least (s .rows) (s .columns) (s .second))
 
-pub record AgreesAsSent (f : Comparing) : Type 0 where
+pub record AgreesAsSent (f : SameProgram) : Type 0 where
   pub sent : Sent
   pub with-103 : on f sent .number ≡ 103
   pub as-sent : on f sent .agreed ≡ commonPrefixLength (sent .first) (sent .second)
   pub not-agreeing : commonPrefixLength (sent .first) (sent .second) ≡ agreeing sent → ⊥
 
-pub record MiscountsByOne (f : Comparing) : Type 0 where
+pub record MiscountsByOne (f : SameProgram) : Type 0 where
   pub sent : Sent
   pub with-103 : on f sent .number ≡ 103
   pub by-one : (on f sent .agreed ≡ suc (agreeing sent)) ⊎ (suc (on f sent .agreed) ≡ agreeing sent)
 
-pub record AgreesInNone (f : Comparing) : Type 0 where
+pub record AgreesInNone (f : SameProgram) : Type 0 where
   pub sent : Sent
   pub zero : on f sent .number ≡ 0
   pub some-cells : sent .rows * sent .columns ≡ 0 → ⊥
   pub none : on f sent .agreed ≡ 0
 
-pub record AgreesRefusing (f : Comparing) : Type 0 where
+pub record AgreesRefusing (f : SameProgram) : Type 0 where
   pub sent : Sent
   pub not-zero : on f sent .number ≡ 0 → ⊥
   pub not-103 : on f sent .number ≡ 103 → ⊥

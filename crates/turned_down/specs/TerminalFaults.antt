@@ -19,12 +19,12 @@ use mathlib.Core.Path.{_≡_}
 use mathlib.Core.List.{List, [], _∷_}
 use Prim.Native.Nat.{ℕ, _≤_, _<_}
 use lib.ListN.{length}
-use Rattle.canonical.specs.Programs.{Representing, Comparing, MeetsTerminalRepresent, MeetsTerminalSame, RepresentAlike, SameAlike}
+use Rattle.canonical.specs.Programs.{RepresentProgram, SameProgram, MeetsTerminalRepresent, MeetsTerminalSame, RepresentAlike, SameAlike}
 use Rattle.canonical.specs.Demand2.{TerminalRepresentLeast}
 use Rattle.turned_down.specs.RepresentFaults.{Sent, on, HandsBack}
 use Rattle.turned_down.specs.Faults.{Fault, fault}
 
-pub record HandsBackMany (f : Representing) : Type 0 where
+pub record HandsBackMany (f : RepresentProgram) : Type 0 where
   pub back : HandsBack 5 f
   pub many : 2 < back .fitting .sent .rows
 
@@ -33,10 +33,10 @@ pub record HandsBackMany (f : Representing) : Type 0 where
 abbrev pub Answering : Type 0
 Answering = (m n top : ℕ) → (x y : List ℕ) → ℕ
 
-abbrev pub representing : Representing → Answering
+abbrev pub representing : RepresentProgram → Answering
 representing f m n top g out = f m n top g out .number
 
-abbrev pub comparing : Comparing → Answering
+abbrev pub comparing : SameProgram → Answering
 comparing f m n top a b = f m n top a b .number
 
 pub record AsksColumnsFirst (k : Answering) : Type 0 where
@@ -65,10 +65,10 @@ pub record Never14 (k : Answering) : Type 0 where
 abbrev pub Ordering : Type 0
 Ordering = (m n top : ℕ) → (x y : List ℕ) → List ℕ
 
-abbrev pub representRows : Representing → Ordering
+abbrev pub representRows : RepresentProgram → Ordering
 representRows f m n top g out = f m n top g out .rows
 
-abbrev pub comparedRows : Comparing → Ordering
+abbrev pub comparedRows : SameProgram → Ordering
 comparedRows f m n top a b = f m n top a b .rows
 
 pub record Keeps8Positions (k : Answering) (p : Ordering) : Type 0 where
@@ -81,7 +81,7 @@ pub record Keeps8Refusing (k : Answering) (p : Ordering) : Type 0 where
   pub not-zero : on k sent ≡ 0 → ⊥
   pub eight : length (on p sent) ≡ 8
 
-pub record AgreesWith14 (f : Comparing) : Type 0 where
+pub record AgreesWith14 (f : SameProgram) : Type 0 where
   pub sent : Sent
   pub with-14 : on f sent .number ≡ 14
   pub agrees : on f sent .agreed ≡ 0 → ⊥
@@ -92,13 +92,13 @@ pub record BothSets (A : Type 0) : Type 0 where
   pub system : A
   pub terminal : A
 
-pub record RepresentsUnlike (p : BothSets Representing) : Type 0 where
+pub record RepresentsUnlike (p : BothSets RepresentProgram) : Type 0 where
   pub sent : Sent
   pub few : sent .rows ≤ 5
   pub one-number : on (p .terminal) sent .number ≡ on (p .system) sent .number
   pub two-grids : on (p .terminal) sent .out ≡ on (p .system) sent .out → ⊥
 
-pub record ComparesUnlike (p : BothSets Comparing) : Type 0 where
+pub record ComparesUnlike (p : BothSets SameProgram) : Type 0 where
   pub sent : Sent
   pub few : sent .rows ≤ 5
   pub one-number : on (p .terminal) sent .number ≡ on (p .system) sent .number
@@ -127,6 +127,6 @@ terminalFaults =
     ∷ fault MeetsTerminalSame (λ f. Keeps8Refusing (comparing f) (comparedRows f))
     ∷ fault MeetsTerminalSame AgreesWith14
     -- both sets answer alike for up to 5 rows: the number, and the grid that is written or the cells that agree
-    ∷ fault (λ (p : BothSets Representing). RepresentAlike (p .system) (p .terminal)) RepresentsUnlike
-    ∷ fault (λ (p : BothSets Comparing). SameAlike (p .system) (p .terminal)) ComparesUnlike
+    ∷ fault (λ (p : BothSets RepresentProgram). RepresentAlike (p .system) (p .terminal)) RepresentsUnlike
+    ∷ fault (λ (p : BothSets SameProgram). SameAlike (p .system) (p .terminal)) ComparesUnlike
     ∷ []

@@ -23,15 +23,15 @@ use Rattle.calls.specs.Entries.{gridQuestions, clientQuestions, more, fewer, ho
 use Rattle.calls.specs.Calls.{Outcome, answered, question5, kept, openQuestions, opened, enterInto, strikeFrom, enterQuestions, strikeQuestions, countQuestions, enterRegister, strikeRegister, entered, struck, entriesIn, countRegister, counted, terminalEnterQuestions, terminalEnterRegister, terminalEntered}
 use Rattle.machine.specs.CallLists.{registerCalls, called, run, left}
 use Rattle.worked_cases.specs.Text.{bytes, text}
-use Rattle.worked_cases.specs.Books.{Opening, Opens, openings, Book, KeptBook, books, BooksKept}
+use Rattle.worked_cases.specs.Books.{OpenCase, Opens, openings, Book, KeptBook, books, BooksKept}
 use Rattle.worked_cases.proofs.Outcomes.{outcomeSo, outcome-so}
 
 -- ---- the tests
 
-opensSo : Opening → Bool
+opensSo : OpenCase → Bool
 opensSo o = outcomeSo (opened (o .shape) (text (o .slice))) (o .number) 0 (text (o .leaves))
 
-opens-so : (o : Opening) → opensSo o ≡ true → Opens o
+opens-so : (o : OpenCase) → opensSo o ≡ true → Opens o
 unfolding opensSo
 opens-so o t = outcome-so (opened (o .shape) (text (o .slice))) (o .number) 0 (text (o .leaves)) t
 

@@ -1,6 +1,6 @@
 -- Books, whole: opens, and lists of calls on a register's bytes, with every number, every place or count, and all bytes left.
 --
---   Opening     ==  the four numbers of an open, the slice lent to it, the number, and the bytes that it leaves
+--   OpenCase    ==  the four numbers of an open, the slice lent to it, the number, and the bytes that it leaves
 --   Opens o     ==  what the definitions say of it
 --   openings    ==  the table of opens
 --   Book        ==  a register's bytes, calls on it, their numbers, their places or counts, and the bytes that they leave
@@ -18,13 +18,13 @@ use Rattle.calls.specs.Calls.{Outcome, opened}
 use Rattle.machine.specs.CallLists.{Call, enter, strike, countIn, terminalEnter, registerCalls, run, left}
 use Rattle.worked_cases.specs.Text.{text}
 
-pub record Opening : Type 0 where
+pub record OpenCase : Type 0 where
   pub shape : Shape
   pub slice : List String
   pub number : ℕ
   pub leaves : List String
 
-abbrev pub Opens : Opening → Type 0
+abbrev pub Opens : OpenCase → Type 0
 Opens o = opened (o .shape) (text (o .slice)) ≡ record { number = o .number; place = 0; bytes = text (o .leaves) }
 
 pub record Book : Type 0 where
@@ -39,7 +39,7 @@ pub record KeptBook (k : Book) : Type 0 where
   pub places : map (λ (o : Outcome). o .place) (run registerCalls (text (k .before)) (k .calls)) ≡ k .places
   pub leaves : left registerCalls (text (k .before)) (k .calls) ≡ text (k .leaves)
 
-unfoldable pub openings : List Opening
+unfoldable pub openings : List OpenCase
 openings =
     -- the slices that the first two books begin with
     record {

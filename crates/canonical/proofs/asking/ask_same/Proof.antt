@@ -1,11 +1,12 @@
--- `ask_same` meets its contract: each return has passed the questions before it.
+-- `ask_same` meets its contract: a no of represent's questions is same's too; past them question 7 of the second slice is left.
 use mathlib.Core.Path.{refl, sym, _∙_}
+use mathlib.Core.List.{[]}
 use borrow.Author.Tests.{not-true, not-false}
 use borrow.Author.Needs.{needs}
 use Rattle.refusals.proofs.NumberLaws.{no-some, no-is, yes-is}
-use Rattle.grids.proofs.QuestionLaws.{shape-refuses, cells-refuse, two-capped, first-cells-no, second-cells-no}
-use Rattle.canonical.specs.Same.{sameQuestions}
-use Rattle.canonical.proofs.CallSteps.{none-refuses}
+use Rattle.grids.specs.Questions.{firstNo, question7}
+use Rattle.grids.proofs.QuestionLaws.{firstNo-pass, firstNo-stop, one-capped, first-cells-no}
+use Rattle.canonical.proofs.CallSteps.{represent-no, second-next}
 use Rattle.canonical.proofs.asking.ask_same.Statement.{statement}
 use Rattle.canonical.proofs.asking.ask_same.Tie as tie
 
@@ -16,31 +17,21 @@ enum-told : tie.Need-enum-told
 enum-told c = search needs
 
 returns : tie.Need-returns
-unfolding sameQuestions
-returns c = let e = c .before .refusal .given .1 in sym (shape-refuses _ _ _ _ _ _ (no-is e (c .before .before .before .ask-shape .ensures)) _ (no-some e))
+returns c = let e = c .before .refusal .given .1 in sym (represent-no _ _ _ _ _ _ (no-is e (c .before .before .before .ask-represent .ensures)) (no-some e))
 
 returns-2 : tie.Need-returns-2
-unfolding sameQuestions
+unfolding question7
 returns-2 c =
     let d = c .before in
     let t = sym (d .is-capped .ensures) ∙ not-true _ (c .if1 .taken) in
-    sym (cells-refuse _ _ _ _ _ _ (yes-is (d .before .enum-told .given .1) (d .before .before .before .ask-shape .ensures)) refl _ _ (first-cells-no _ _ _ t))
+    sym (second-next _ _ _ _ _ _ (yes-is (d .before .enum-told .given .1) (d .before .before .before .ask-represent .ensures)) refl ∙ firstNo-stop _ [] (first-cells-no _ _ _ t))
 
 returns-3 : tie.Need-returns-3
-unfolding sameQuestions
+unfolding firstNo
 returns-3 c =
     let d = c .before in
-    let ta = sym (d .before .before .is-capped .ensures) ∙ not-false _ (d .before .if1 .left) in
-    let tb = sym (d .is-capped2 .ensures) ∙ not-true _ (c .if2 .taken) in
-    sym (cells-refuse _ _ _ _ _ _ (yes-is (d .before .before .before .enum-told .given .1) (d .before .before .before .before .before .ask-shape .ensures)) refl _ _ (second-cells-no _ _ _ _ ta tb))
-
-returns-4 : tie.Need-returns-4
-unfolding sameQuestions
-returns-4 c =
-    let d = c .before in
-    let ta = sym (d .before .before .is-capped .ensures) ∙ not-false _ (d .before .if1 .left) in
-    let tb = sym (d .is-capped2 .ensures) ∙ not-false _ (c .if2 .left) in
-    sym (none-refuses _ _ _ _ _ _ _ (yes-is (d .before .before .before .enum-told .given .1) (d .before .before .before .before .before .ask-shape .ensures)) refl (two-capped _ _ _ ta tb))
+    let t = sym (d .is-capped .ensures) ∙ not-false _ (c .if1 .left) in
+    sym (second-next _ _ _ _ _ _ (yes-is (d .before .enum-told .given .1) (d .before .before .before .ask-represent .ensures)) refl ∙ firstNo-pass _ [] (one-capped _ _ t))
 
 pub ask-same-spec : {M : Type 1} → statement M
-ask-same-spec = tie.close (search (tie.spec, enum-known-refusal, returns, enum-told, returns-2, returns-3, returns-4, needs))
+ask-same-spec = tie.close (search (tie.spec, enum-known-refusal, returns, enum-told, returns-2, returns-3, needs))

@@ -5,12 +5,12 @@ use Prim.Native.Nat.{_-_}
 use native.Mathlib.Omega.{arith}
 use borrow.Author.Needs.{needs}
 use Rattle.calls.proofs.ValidLaws.{valid-sizes}
-use Rattle.counting.proofs.CountLaws.{Counting, parts-fit, bounds-ordered, counting-none, counting-room, counting-next, counting-all}
+use Rattle.counting.proofs.CountLaws.{CountedBefore, parts-fit, bounds-ordered, counting-none, counting-room, counting-next, counting-all}
 use Rattle.counting.proofs.within.count_within.Statement.{statement}
 use Rattle.counting.proofs.within.count_within.Tie as tie
 
 abbrev Inv-loop : tie.InvT-loop
-Inv-loop register count low high width length lows spans found₀ from₀ e₀ found from e = Counting register low high found from e
+Inv-loop register count low high width length lows spans found₀ from₀ e₀ found from e = CountedBefore register low high found from e
 
 abbrev μ-loop : tie.MeasureT-loop
 μ-loop register count low high width length lows spans found₀ from₀ e₀ found from e = count - e
