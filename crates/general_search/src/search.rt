@@ -310,7 +310,7 @@ fn follow(
         above: [0; 8],
         made: false,
     };
-    // a name for the result makes the search faster (docs/DECISIONS.md, 108)
+    // a name for the result makes the search faster (docs/DECISIONS.md, "The search")
     let again = place(grid, m, n, k + 1, next, further, plain, false, ahead);
     again
 }
