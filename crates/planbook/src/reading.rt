@@ -5,7 +5,7 @@ use libc::STDIN_FILENO;
 ghost use Prim.Native.Nat.{_<_};
 ghost use lib.ListN.{length};
 ghost use Rattle.protocol.specs.Transcript.{byteLimit};
-ghost use Rattle.planbook.specs.Reading.{Within};
+ghost use Rattle.planbook.specs.Reading.{ReadWithin};
 
 // What reading comes to.
 pub enum Reading {
@@ -18,7 +18,7 @@ pub enum Reading {
 // Reads standard input into a slice with room for a byte over the limit.
 pub fn read_input(input: &mut [u8]) -> Reading
     requires { ⌜ byteLimit < length (now input) ⌝ }
-    ensures { λ r. ⌜ Within r (now (input .exit)) ⌝ }
+    ensures { λ r. ⌜ ReadWithin r (now (input .exit)) ⌝ }
 {
     let mut got = 0;
     let mut tries = TRIES;

@@ -47,6 +47,7 @@ fn book(name: &str, folder_mode: u32, mode: u32) -> PathBuf {
 /// Checks that an order is not settled for this reason, and that nothing is changed.
 fn check_not_settled(file: &Path, reason: &str) {
     let Some(mut command) = by_a_user(file) else {
+        eprintln!("no other user may start the program: not looked at");
         return;
     };
     let path = file.display();

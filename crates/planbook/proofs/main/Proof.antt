@@ -2,7 +2,7 @@
 use mathlib.Core.Path.{sym, subst}
 use lib.Seq.{length-take-le}
 use borrow.Author.Needs.{needs}
-use Rattle.planbook.specs.Reading.{Within}
+use Rattle.planbook.specs.Reading.{ReadWithin}
 use Rattle.planbook.proofs.main.Statement.{statement}
 use Rattle.planbook.proofs.main.Tie as tie
 
@@ -18,7 +18,7 @@ enum-known-reading c = search needs
 array-share-prefix-input : tie.Need-array-share-prefix-input
 array-share-prefix-input c =
     let read = c .before .before .before .before .read-input in
-    subst (λ r. Within r (read .last .0)) (c .before .reading .given .1) (read .ensures)
+    subst (λ r. ReadWithin r (read .last .0)) (c .before .reading .given .1) (read .ensures)
 
 slice-aggregate-print : tie.Need-slice-aggregate-print
 slice-aggregate-print c = sym (length-take-le _ _ (array-share-prefix-input (c .before)))

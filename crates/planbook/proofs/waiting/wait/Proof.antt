@@ -1,5 +1,6 @@
--- `wait` is safe and ends: a walk of its code, step by step, since it lends two structs. Each is lent for a lifetime that is made before the call and
--- ended after it. Of `nanosleep` it knows the contract that the kit assumes, and uses the type of its result alone.
+-- `wait` is safe and ends: a walk of its code, step by step, since it lends two structs. Each is lent for a lifetime that
+-- is made before the call and ended after it. Of `nanosleep` it knows the contract that the kit assumes, and uses the type
+-- of its result alone.
 use mathlib.Core.Path.{refl}
 use Prim.Native.Nat.{ℕ, _<_, _^_}
 use mathlib.Core.List.{[], _∷_, List}
@@ -78,15 +79,15 @@ module _ {M : Type 1} (𝓤 : URA M) (H : Heap 𝓤) (A : Atoms 𝓤) (W : Given
   abbrev to : ℕ → ℕ → ℕ → ℕ → GName → GName → Sleep .Ghost
   to α β l₁ l₂ γ δ = (((α ∷ [], (β ∷ [], tt)), (fullShare, (fullShare, tt)), tt, (asked l₁ γ, (left l₂ δ, tt)), (vptr l₁ 0 ∷ [], (vptr l₂ 0 ∷ [], tt))), tt)
 
-  abbrev Lent : ℕ → ℕ → GName → Fml
-  Lent α l γ = ShrRef (named 0) (α ∷ []) T.the-row .own (asked l γ) (vptr l 0 ∷ [])
+  abbrev AskedRef : ℕ → ℕ → GName → Fml
+  AskedRef α l γ = ShrRef (named 0) (α ∷ []) T.the-row .own (asked l γ) (vptr l 0 ∷ [])
 
-  abbrev LentMut : ℕ → ℕ → GName → Fml
-  LentMut β l δ = MutRef (named 1) (β ∷ []) T.the-row .own (left l δ) (vptr l 0 ∷ [])
+  abbrev LeftRef : ℕ → ℕ → GName → Fml
+  LeftRef β l δ = MutRef (named 1) (β ∷ []) T.the-row .own (left l δ) (vptr l 0 ∷ [])
 
-  goes : (α β l₁ l₂ : ℕ) (γ δ : GName) → ent 𝓤 (sep 𝓤 (sep 𝓤 (A .lft (α ∷ []) fullShare) (A .lft (β ∷ []) fullShare)) (sep 𝓤 (sem 𝓤 H A (Lent α l₁ γ)) (sem 𝓤 H A (LentMut β l₂ δ)))) (Sleep .pre (to α β l₁ l₂ γ δ))
+  goes : (α β l₁ l₂ : ℕ) (γ δ : GName) → ent 𝓤 (sep 𝓤 (sep 𝓤 (A .lft (α ∷ []) fullShare) (A .lft (β ∷ []) fullShare)) (sep 𝓤 (sem 𝓤 H A (AskedRef α l₁ γ)) (sem 𝓤 H A (LeftRef β l₂ δ)))) (Sleep .pre (to α β l₁ l₂ γ δ))
   goes α β l₁ l₂ γ δ =
-      qed W ((‵ (flft (α ∷ []) fullShare) ⊛ ‵ (flft (β ∷ []) fullShare)) ∷ (‵ (Lent α l₁ γ) ⊛ ‵ (LentMut β l₂ δ)) ∷ []) ∵
+      qed W ((‵ (flft (α ∷ []) fullShare) ⊛ ‵ (flft (β ∷ []) fullShare)) ∷ (‵ (AskedRef α l₁ γ) ⊛ ‵ (LeftRef β l₂ δ)) ∷ []) ∵
       split ! $ nothing ! $ move ! (2 ∷ 0 ∷ []) $ join ! $ move ! (1 ∷ 0 ∷ []) $ join ! $ move ! (1 ∷ []) $ split ! $ nothing ! $ move ! (2 ∷ 0 ∷ []) $ fjoin ! $ move ! (1 ∷ 0 ∷ []) $ fjoin ! $
       move ! (1 ∷ 0 ∷ []) $ join ! $ frame ! $ done !
 
@@ -110,10 +111,10 @@ module _ {M : Type 1} (𝓤 : URA M) (H : Heap 𝓤) (A : Atoms 𝓤) (W : Given
         assigns ! (addr ! (from ! (stop !))) (from ! (stop !)) (init ! 2 refl (tt, tt)) $
         assigns ! (addr ! (from ! (stop !))) (from ! (stop !)) (init ! 0 refl (tt, tt)) $
         move ! (8 ∷ []) $ use1 W (‵ (partAt T.the-row fullShare (time 50000000) l₁ 0)) (lies 50000000 l₁ (lit< tt)) $ lft-new ! tt (λ α. move ! (1 ∷ []) $
-        use1 W (later (some (λ (γ : GName). ‵ (Lent α l₁ γ) ⊛ ‵ (flent (α ∷ []) (partAt T.the-row fullShare (time 50000000) l₁ 0))))) (lends-shr 𝓤 H A W T.the-row (named 0) (α ∷ []) fullShare (time 50000000) l₁ 0) $ await ! tt $ pick ! (λ γ. split ! $
+        use1 W (later (some (λ (γ : GName). ‵ (AskedRef α l₁ γ) ⊛ ‵ (flent (α ∷ []) (partAt T.the-row fullShare (time 50000000) l₁ 0))))) (lends-shr 𝓤 H A W T.the-row (named 0) (α ∷ []) fullShare (time 50000000) l₁ 0) $ await ! tt $ pick ! (λ γ. split ! $
         -- [asked's reference; its lender's part; α's token; _5; …; _4; …; room for _3; …; _2; …]
         move ! (9 ∷ []) $ use1 W (‵ (partAt T.the-row fullShare (time 0) l₂ 0)) (lies 0 l₂ (lit< tt)) $ lft-new ! tt (λ β. move ! (1 ∷ []) $
-        use1 W (later (some (λ (δ : GName). ‵ (LentMut β l₂ δ) ⊛ ‵ (flent (β ∷ []) (Body (mem T.the-row) l₂ 0 δ))))) (lends-ref 𝓤 H A W T.the-row (named 1) (β ∷ []) (time 0) l₂ 0) $ await ! tt $ pick ! (λ δ. split ! $
+        use1 W (later (some (λ (δ : GName). ‵ (LeftRef β l₂ δ) ⊛ ‵ (flent (β ∷ []) (Body (mem T.the-row) l₂ 0 δ))))) (lends-ref 𝓤 H A W T.the-row (named 1) (β ∷ []) (time 0) l₂ 0) $ await ! tt $ pick ! (λ δ. split ! $
         -- [left's reference; its lender's part; β's token; asked's reference; its lender's part; α's token; _5; …]
         move ! (3 ∷ 0 ∷ []) $ join ! $ move ! (4 ∷ 2 ∷ []) $ join ! $ use2 W (raw (Sleep .pre (to α β l₁ l₂ γ δ))) (goes α β l₁ l₂ γ δ) $
         -- [what nanosleep asks; left's lender's part; asked's; _5; …; _4; …]

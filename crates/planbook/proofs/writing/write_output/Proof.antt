@@ -20,76 +20,30 @@ sub-write c = search needs
 part-write-start : tie.Need-part-write-start Inv-loop μ-loop
 part-write-start c = search needs
 
-part-write-end : tie.Need-part-write-end Inv-loop μ-loop
-part-write-end c = search needs
-
-write-requires : tie.Need-write-requires Inv-loop μ-loop
-write-requires c κs = search needs
-
 sub-count : tie.Need-sub-count Inv-loop μ-loop
 sub-count c = search needs
 
 part-count-start : tie.Need-part-count-start Inv-loop μ-loop
 part-count-start c = search needs
 
-part-count-end : tie.Need-part-count-end Inv-loop μ-loop
-part-count-end c = search needs
-
-count-requires : tie.Need-count-requires Inv-loop μ-loop
-count-requires c κs = search needs
-
 add-put : tie.Need-add-put Inv-loop μ-loop
 add-put c = search needs
-
-loop-less : tie.Need-loop-less Inv-loop μ-loop
-loop-less c = search needs
-
-loop-again : tie.Need-loop-again Inv-loop μ-loop
-loop-again c = search needs
-
-returns : tie.Need-returns Inv-loop μ-loop
-returns c = search needs
-
-try-again-requires : tie.Need-try-again-requires Inv-loop μ-loop
-try-again-requires c κs = search needs
-
-returns-2 : tie.Need-returns-2 Inv-loop μ-loop
-returns-2 c = search needs
 
 sub-tries : tie.Need-sub-tries Inv-loop μ-loop
 sub-tries c = search needs
 
+loop-less : tie.Need-loop-less Inv-loop μ-loop
+loop-less c = search needs
+
 loop-less-2 : tie.Need-loop-less-2 Inv-loop μ-loop
 loop-less-2 c = search needs
+
+loop-again : tie.Need-loop-again Inv-loop μ-loop
+loop-again c = search needs
 
 loop-again-2 : tie.Need-loop-again-2 Inv-loop μ-loop
 loop-again-2 c = search needs
 
-returns-3 : tie.Need-returns-3 Inv-loop μ-loop
-returns-3 c = search needs
-
 pub write-output-spec : {M : Type 1} → statement M
-write-output-spec =
-    tie.close
-    (tie.spec
-    Inv-loop
-    μ-loop
-    loop-holds
-    sub-write
-    part-write-start
-    part-write-end
-    write-requires
-    sub-count
-    part-count-start
-    part-count-end
-    count-requires
-    add-put
-    loop-less
-    loop-again
-    returns
-    try-again-requires
-    returns-2
-    sub-tries
-    loop-less-2
-    loop-again-2
-    returns-3)
+write-output-spec {M} =
+    tie.close (search (tie.spec {M = M} Inv-loop μ-loop, loop-holds, sub-write, part-write-start, sub-count, part-count-start, add-put, sub-tries, loop-less, loop-less-2, loop-again, loop-again-2, needs))
