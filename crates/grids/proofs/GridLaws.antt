@@ -13,7 +13,7 @@ use mathlib.Core.Path.{◌≡◌, sym, ap, ap₂, ◌∙◌}
 use mathlib.Core.List.{List}
 use mathlib.Core.Bool.{true}
 use mathlib.Core.Logic.{◌⊎◌, inl, inr, ◌↔◌}
-use Prim.Native.Nat.{ℕ, suc, ◌+◌, ◌*◌, ◌/◌, ◌%◌, ◌≤◌, ◌<◌}
+use Prim.Native.Nat.{zero, ℕ, suc, ◌+◌, ◌*◌, ◌/◌, ◌%◌, ◌≤◌, ◌<◌}
 use native.Mathlib.Nat.{div-add-mod', div-lt_iff_lt-mul, mod-lt, eq-zero-or-pos, mul-zero, zero-mul, not-suc-le-zero, mul-le-mul_right}
 use native.Mathlib.Omega.{arith}
 use lib.ListN.{length, get_or}
@@ -69,9 +69,11 @@ row_zero n g = tabulate-ext 0 n _ _ λ j b. let e : 0 * n + j ≡ j = omega (ari
 
 -- a grid of some rows has a first row, and the cells of the other rows come after it
 pub rows-size : (m n : ℕ) → 0 < m → n ≤ m * n
+rows-size zero n h = elim h [ ]
 rows-size (suc m) n h = omega arith
 
 pub beneath : (n i j : ℕ) → 0 < i → n ≤ i * n + j
+beneath n zero j h = elim h [ ]
 beneath n (suc i) j h = omega arith
 
 -- ---- arrangements

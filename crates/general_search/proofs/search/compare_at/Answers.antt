@@ -1,0 +1,6 @@
+-- `compare_at` meets its contract: the rows compared are those at position k.
+use borrow.Author.Rules.{rules}
+use Rattle.general_search.proofs.search.compare_at.Goals as goal
+
+pub returns : goal.returns
+returns c = rw (← c.row-x.ensures, ← c.row-y.ensures) c.compare_rows.ensures

@@ -1,0 +1,16 @@
+use Prim.Native.Nat.{◌-◌}
+use native.Mathlib.Omega.{arith}
+use Rattle.general_search.proofs.RepeatedRows.{CellsUpTo, cells-none, cells-next, rows-equal, rows-differ}
+use Rattle.general_search.proofs.search.equal_rows.Goals as goal
+
+pub loop-j-init : goal.loop-j-init
+loop-j-init c = cells-none _ _ _ _
+
+pub returns-then-x-y : goal.returns-then-x-y
+returns-then-x-y c = rows-differ _ _ _ _ c.loop-j.j _ _ c.loop-j-test.true c.cell-x.ensures c.cell-y.ensures c.if-x-y.true
+
+pub loop-j-preserved : goal.loop-j-preserved
+loop-j-preserved c = cells-next _ _ _ _ c.loop-j.j _ _ c.cell-x.ensures c.cell-y.ensures c.if-x-y.false c.loop-j.invariant
+
+pub returns : goal.returns
+returns c = rows-equal _ _ _ _ c.loop-j.j c.loop-j-test.false c.loop-j.invariant

@@ -1,0 +1,30 @@
+use mathlib.Core.Path.{refl, sym, ◌∙◌}
+use Prim.Native.Nat.{◌-◌}
+use native.Mathlib.Omega.{arith}
+use borrow.Author.Rules.{rules}
+use borrow.Author.Tests.{not-true, not-false}
+use lib.ListN.{get_or}
+use Rattle.permutations.specs.Rows.{row_numbers}
+use Rattle.grids.specs.Sorted.{part_of_column}
+use Rattle.grids.specs.Grids.{cell}
+use Rattle.grids.proofs.ComparisonSteps.{cells_at, LeftFrom, left-decided, left_passed, left-equal}
+use Rattle.grids.proofs.comparisons.compare_columns.Goals as goal
+
+pub loop-i-init : goal.loop-i-init
+unfolding part_of_column
+loop-i-init c = record { left = refl }
+
+pub returns-then-not-is_equal : goal.returns-then-not-is_equal
+returns-then-not-is_equal c =
+    let s = c.args in
+    let e = cells_at s.n s.grid.now s.a.0 s.b.0 c.row.ensures c.compare_cells-found.ensures in
+    left-decided c.loop-i.invariant c.loop-i-test.true c.loop-i-test.true e (sym c.is_equal.ensures ∙ not-true _ c.if-not-is_equal.true-raw)
+
+pub loop-i-preserved : goal.loop-i-preserved
+loop-i-preserved c =
+    let s = c.args in
+    let e = cells_at s.n s.grid.now s.a.0 s.b.0 c.row.ensures c.compare_cells-found.ensures in
+    left_passed c.loop-i.invariant c.loop-i-test.true c.loop-i-test.true e (sym c.is_equal.ensures ∙ not-false _ c.if-not-is_equal.false-raw)
+
+pub returns : goal.returns
+returns c = let k = c.loop-i-test.false in left-equal c.loop-i.invariant k k

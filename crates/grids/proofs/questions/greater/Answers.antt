@@ -1,0 +1,11 @@
+-- `greater` meets its contract.
+use mathlib.Core.Path.{refl}
+use mathlib.Core.Logic.{inl, inr}
+use native.Mathlib.Omega.{arith}
+use Rattle.grids.proofs.questions.greater.Goals as goal
+
+pub returns-then-a-b : goal.returns-then-a-b
+returns-then-a-b c = (omega arith, omega arith, inr refl)
+
+pub returns-else-a-b : goal.returns-else-a-b
+returns-else-a-b c = (omega arith, omega arith, inl refl)

@@ -1,0 +1,11 @@
+-- `read_line` meets its contract. The loop's invariant: the first `k` cells are read. The measure is what is left of the cells.
+use Rattle.std.proofs.Common.{◌-◌, length, arith}
+use Rattle.layout.proofs.LineLaws.{cells-inside}
+use Rattle.lines.proofs.LineLaws.{length-line, cell-small, ReadTo, read_none, read_next, read_all}
+use Rattle.lines.proofs.entries.read_line.Given as goal
+
+abbrev pub invariant-loop-k : goal.invariant-loop-k
+invariant-loop-k l = ReadTo l.k l.line l.initial.cells l.cells
+
+abbrev pub decreases-loop-k : goal.decreases-loop-k
+decreases-loop-k l = length l.initial.cells - l.k

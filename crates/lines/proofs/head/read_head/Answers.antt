@@ -1,0 +1,8 @@
+-- `read_head` meets its contract.
+use Rattle.std.proofs.Common.{arith}
+use Rattle.layout.specs.Layout.{count, decode_shape}
+use Rattle.lines.proofs.head.read_head.Goals as goal
+
+pub returns : goal.returns
+unfolding count decode_shape
+returns c = record { shape = cc; counts = c.six_wide-5.ensures.0 }

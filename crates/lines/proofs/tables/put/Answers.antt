@@ -1,0 +1,8 @@
+-- `put` meets its contract.
+use Rattle.std.proofs.Common.{refl, rules}
+use Rattle.lines.specs.Tables.{put}
+use Rattle.lines.proofs.tables.put.Goals as goal
+
+pub returns : goal.returns
+unfolding put
+returns c = refl

@@ -1,0 +1,15 @@
+-- `composed` meets its contract: the first 5 of the composed numbers.
+use mathlib.Core.Path.{◌∙◌}
+use native.Mathlib.Omega.{arith}
+use borrow.Author.Rules.{rules}
+use Rattle.permutations.proofs.NumbersSteps.{composed-of}
+use Rattle.permutations.proofs.terminal_rows.TerminalRowPermutation.composed.Goals as goal
+
+pub returns : goal.returns
+returns c =
+    let p = c.numbers.ensures in
+    let r = c.numbers-2.ensures in
+    record {
+      numbers = c.from_numbers.ensures.numbers ∙ composed-of 5 _ _ _ _ _ _ _ p r (c.composition-p.ensures (omega arith));
+      size = c.from_numbers.ensures.size;
+    }

@@ -1,0 +1,14 @@
+-- `first_places` meets its contract. The loop's invariant: the columns before c have their numbers. The measure is what is left of 16.
+use mathlib.Core.Path.{◌≡◌, refl, ◌∙◌}
+use Prim.Native.Nat.{◌-◌, ◌≤◌}
+use native.Mathlib.Omega.{arith}
+use lib.ListN.{length, length-set}
+use Rattle.two_values.specs.Arranged.{first_place}
+use Rattle.two_values.proofs.LoopLaws.{FilledTo, filled_none, filled_next}
+use Rattle.two_values.proofs.arranging.first_places.Given as goal
+
+abbrev pub invariant-loop-c : goal.invariant-loop-c
+invariant-loop-c l = (l.c ≤ 16) × (length l.out ≡ 16) × FilledTo (first_place l.n) l.c l.out
+
+abbrev pub decreases-loop-c : goal.decreases-loop-c
+decreases-loop-c l = 16 - l.c

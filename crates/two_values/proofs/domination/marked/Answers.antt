@@ -1,0 +1,30 @@
+use mathlib.Core.Path.{◌≡◌, refl}
+use mathlib.Core.Logic.{⊎_elim}
+use Prim.Native.Nat.{◌-◌, ◌≤◌}
+use native.Mathlib.Omega.{arith}
+use Rattle.permutations.specs.Rows.{row_numbers}
+use Rattle.permutations.specs.Lists.{tabulate}
+use Rattle.two_values.specs.Domination.{MarksLeast}
+use Rattle.two_values.proofs.DominationLaws.{row_below, zero-at, marks-none, marks-next, marks_stay}
+use Rattle.two_values.proofs.domination.marked.Goals as goal
+
+pub loop-t-init : goal.loop-t-init
+unfolding tabulate
+loop-t-init c = (omega arith, marks-none _ _ _ _ _ refl zero-at)
+
+pub offset_bounds-keys-row : goal.offset_bounds-keys-row
+offset_bounds-keys-row c = let pre = c.requires in omega (arith, row_below _ _ _ _ pre.0 pre.1 (omega arith) c.number-row.ensures)
+
+pub bounds-keys-row : goal.bounds-keys-row
+bounds-keys-row c = let pre = c.requires in row_below _ _ _ _ pre.0 pre.1 (omega arith) c.number-row.ensures
+
+pub loop-t-preserved : goal.loop-t-preserved
+loop-t-preserved c =
+    let l = c.loop-t.invariant in (
+      omega arith,
+      ⊎_elim (λ w. rw w.1 (marks-next _ _ _ _ _ _ _ (omega arith) c.number-row.ensures w.0.taken l.1))
+          (λ w. rw w.1 (marks_stay _ _ _ _ _ _ _ c.number-row.ensures w.0.left l.1)) c.if-keys-row.branch,
+    )
+
+pub returns : goal.returns
+returns c = let l = c.loop-t in let e : l.t ≡ c.args.m = omega arith in rw e at l.invariant.1

@@ -1,0 +1,8 @@
+-- `column_of` meets its contract.
+use borrow.Author.Rules.{rules}
+use native.Mathlib.Omega.{arith}
+use lib.Count.{trailing_le}
+use Rattle.two_values.proofs.pairs.column_of.Goals as goal
+
+pub overflow_cast-zeros : goal.overflow_cast-zeros
+overflow_cast-zeros c = record { fits = omega (arith, trailing_le 32 c.args.word) }

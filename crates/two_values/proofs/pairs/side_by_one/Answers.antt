@@ -1,0 +1,14 @@
+-- `side_by_one` meets its contract.
+use borrow.Author.Rules.{rules}
+use Rattle.two_values.specs.Domination.{by_one}
+use Rattle.two_values.proofs.PairSteps.{sides-none, sides_first, sides-second}
+use Rattle.two_values.proofs.pairs.side_by_one.Goals as goal
+
+pub returns-then-by_one : goal.returns-then-by_one
+returns-then-by_one c = let pre = c.requires in sides_first _ _ _ _ _ _ _ (by_one _ _ pre.4 pre.5 (c.by_one.ensures c.if-by_one.true))
+
+pub returns-then-by_one-2 : goal.returns-then-by_one-2
+returns-then-by_one-2 c = let pre = c.requires in sides-second _ _ _ _ _ _ _ (by_one _ _ pre.5 pre.4 (c.by_one-2.ensures c.if-by_one-2.true))
+
+pub returns : goal.returns
+returns c = sides-none _ _ _ _ _ _ _
