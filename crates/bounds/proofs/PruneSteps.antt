@@ -48,7 +48,6 @@ use Rattle.bounds.specs.Prune.{question8, bounds_questions, prune_questions, pru
 use Rattle.bounds.specs.Demand2.{Prunes}
 use Rattle.bounds.proofs.BoundsLaws.{bounds-wider, ranks-within, between-fewer}
 use Rattle.bounds.proofs.PruneLaws.{prune-pass, prune-asked, pruned-refused, pruned-some, pruned-none, prunes}
-use Rattle.bounds.proofs.NarrowSteps.{copied}
 use Rattle.bounds.proofs.NarrowedLaws.{narrowed-obeyed, narrowed_low, narrowed-high, narrowed-inside, narrowed-removed}
 
 -- ---- question 8
@@ -287,8 +286,8 @@ module _ (m n top : ℕ) (low high low' high' : List ℕ) (w : Wrote m n top low
   high-part-size : length high_part ≡ length high
   high-part-size = ap length high-part-is ∙ result.high-size
 
-  pub parts-fit : (length low_part ≤ length low) × (length high_part ≤ length high)
-  parts-fit = (omega (arith, low-part-size), omega (arith, high-part-size))
+  pub parts-fit : (length low ≡ length low_part) × (length high ≡ length high_part)
+  parts-fit = (sym low-part-size, sym high-part-size)
 
   parts-inside : (cap : ℕ) → top ≤ cap → Inside (length low) cap low high low_part high_part
   parts-inside cap h =
@@ -300,7 +299,7 @@ module _ (m n top : ℕ) (low high low' high' : List ℕ) (w : Wrote m n top low
 
   pub prune-some : (count : ℕ) (lows highs : List ℕ) →
       ((cap : ℕ) → Inside (length low) cap low high low_part high_part → count ≡ removed_by (length low) cap low high low_part high_part) →
-      lows ≡ take (length low_part) low_part ++ drop (length low_part) low → highs ≡ take (length high_part) high_part ++ drop (length high_part) high →
+      lows ≡ low_part → highs ≡ high_part →
       Prunes m n top low high (pruned_to 0 count lows highs)
   prune-some count lows highs counted cl ch = prunes m n top low high _ (rw (ec, el, eh) (sym (pruned-some m n top low high w.asked obeyed)))
     where
@@ -312,7 +311,7 @@ module _ (m n top : ℕ) (low high low' high' : List ℕ) (w : Wrote m n top low
           (sym (narrowed-removed m n top low high some-row old-bounds low' high' result))
 
       el : lows ≡ kept_low (allperm m n) (m * n) top low high
-      el = cl ∙ copied low_part low (sym low-part-size) ∙ low-part-is ∙ sym (narrowed_low m n top low high some-row old-bounds low' high' result)
+      el = cl ∙ low-part-is ∙ sym (narrowed_low m n top low high some-row old-bounds low' high' result)
 
       eh : highs ≡ kept_high (allperm m n) (m * n) top low high
-      eh = ch ∙ copied high_part high (sym high-part-size) ∙ high-part-is ∙ sym (narrowed-high m n top low high some-row old-bounds low' high' result)
+      eh = ch ∙ high-part-is ∙ sym (narrowed-high m n top low high some-row old-bounds low' high' result)

@@ -51,8 +51,8 @@ fn narrow(m: usize, n: usize, low: &[u8], high: &[u8], lows: &mut [u8], highs: &
     requires { NarrowSizes m n low.now high.now lows.old highs.old × Values (m * n) 15 (cell_at high.now) }
     ensures { NarrowOutcome result m n low.now high.now lows.new highs.new }
 {
-    bytes::copy(low, lows);
-    bytes::copy(high, highs);
+    lows.copy_from_slice(low);
+    highs.copy_from_slice(high);
     let mut i = 1;
     while i < m {
         let start = i * n;
@@ -89,7 +89,7 @@ pub fn prune(m: usize, n: usize, top: usize, low: &mut [u8], high: &mut [u8]) ->
         return Pruning::NoGrid;
     }
     let count = values::removed(low, high, &lows[0..size], &highs[0..size]);
-    bytes::copy(&lows[0..size], low);
-    bytes::copy(&highs[0..size], high);
+    low.copy_from_slice(&lows[0..size]);
+    high.copy_from_slice(&highs[0..size]);
     Pruning::Removed(count)
 }

@@ -1,0 +1,12 @@
+-- `lower` meets its contract: the ranks decide.
+use mathlib.Core.Path.{◌≡◌, refl}
+use native.Mathlib.Omega.{arith}
+use borrow.Author.Rules.{rules}
+use Rattle.bounds.proofs.CapLaws.{lower-all}
+use Rattle.bounds.proofs.rows.lower.Goals as goal
+
+pub returns-then-rank : goal.returns-then-rank
+returns-then-rank c = let a = c.args in lower-all a.a a.b (λ z. a.b ≡ z) (λ h. refl) (λ h. absurd (omega arith))
+
+pub returns-else-rank : goal.returns-else-rank
+returns-else-rank c = let a = c.args in lower-all a.a a.b (λ z. a.a ≡ z) (λ h. absurd (omega arith)) (λ h. refl)

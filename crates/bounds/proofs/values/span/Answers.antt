@@ -1,0 +1,10 @@
+-- `span` meets its contract: by number, the values from low to high are one more than their difference.
+use borrow.Author.Rules.{rules}
+use Rattle.bounds.proofs.PruneSteps.{span_counts}
+use Rattle.bounds.proofs.values.span.Goals as goal
+
+pub overflow_sub-result : goal.overflow_sub-result
+overflow_sub-result c = (span_counts _ _ c.requires).0
+
+pub returns : goal.returns
+returns c = (span_counts _ _ c.requires).1
