@@ -42,7 +42,7 @@ fill-fields {p} {l} {k} {o} [] f h =
     rw (append-nil p, e) f
 fill-fields {p} {l} {k} {o} (x ∷ xs) f h =
     let e : k + number_width + length xs * number_width ≡ k + suc (length xs) * number_width = omega arith in
-    rw (append_assoc p (field number_width x) (fields number_width xs), e) at (fill-fields xs (fill-field x f (omega arith)) (omega arith))
+    rw (append_assoc p (field number_width x) (fields number_width xs), e) at (fill-fields {p = p ++ field number_width x} {l = l} {k = k + number_width} {o = with_field k x o} xs (fill-field x f (omega arith)) (omega arith))
 
 pub fields-written : (l xs : List ℕ) → length xs * number_width < length l → set (with_fields 0 xs l) (length xs * number_width) 10 ≡ (fields number_width xs ++ (10 ∷ [])) ++ drop (length xs * number_width + 1) l
 fields-written l xs h =

@@ -8,4 +8,4 @@ pub returns : goal.returns
 returns c =
     let a = c.args in
     let m = c.move_back in
-    removed a.part.now (blank_line a.size) a.moved (line_length a.size) c.line_length-by.ensures.0 m.ensures m.auto.0 c.write_blank.ensures c.requires.1
+    removed a.part.now (blank_line a.size) a.moved (line_length a.size) c.line_length-by.ensures.0 m.ensures m.auto.part c.write_blank.ensures c.requires.1
