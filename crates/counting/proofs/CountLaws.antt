@@ -100,11 +100,11 @@ module _ {n : ℕ} {b low high : List ℕ} (k : Valid (length low) n b) where
   unfolding line_at
   counting-next {found} {from} {e} {lows} {spans} {r} more width w c h i t o m = record {
     place = omega (arith, c.place, next_start (length low) e);
-    counted = m ∙ ap₂ one_more c.counted within ∙ sym (select-snoc (in_bounds (length low) (decode_shape b).top low high) (take e (grids_of (decode b).entries)) (get_or (grids_of (decode b).entries) e [])) ∙ ap (λ (x : List (List ℕ)). length (select (in_bounds (length low) (decode_shape b).top low high) x)) one_more;
+    counted = m ∙ ap₂ one_more c.counted within ∙ sym (select-snoc (in_bounds (length low) (decode_shape b).top low high) (take e (grids_of (decode b).entries)) (get_or (grids_of (decode b).entries) e [])) ∙ ap (λ (x : List (List ℕ)). length (select (in_bounds (length low) (decode_shape b).top low high) x)) one-more;
   }
     where
-      one_more : take e (grids_of (decode b).entries) ++ (get_or (grids_of (decode b).entries) e [] ∷ []) ≡ take (e + 1) (grids_of (decode b).entries)
-      one_more = sym (take-suc (grids_of (decode b).entries) e [] (omega (arith, grids-counted b, k.counts))) ∙ ap (λ (j : ℕ). take j (grids_of (decode b).entries)) (sym (add-one e))
+      one-more : take e (grids_of (decode b).entries) ++ (get_or (grids_of (decode b).entries) e [] ∷ []) ≡ take (e + 1) (grids_of (decode b).entries)
+      one-more = sym (take-suc (grids_of (decode b).entries) e [] (omega (arith, grids-counted b, k.counts))) ∙ ap (λ (j : ℕ). take j (grids_of (decode b).entries)) (sym (add-one e))
 
       room : Room (length low) found from (length b)
       room = counting-room c h

@@ -1,6 +1,5 @@
 -- `first_place` meets its contract.
 use mathlib.Core.Path.{sym}
-use native.Mathlib.Omega.{arith}
 use Rattle.two_values.proofs.ArrangedLaws.{first-inside, first_past}
 use Rattle.two_values.proofs.arranging.first_place.Goals as goal
 

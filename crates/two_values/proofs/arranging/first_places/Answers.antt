@@ -1,9 +1,7 @@
-use mathlib.Core.Path.{◌≡◌, refl, ◌∙◌}
-use Prim.Native.Nat.{◌-◌, ◌≤◌}
+use mathlib.Core.Path.{refl, ◌∙◌}
 use native.Mathlib.Omega.{arith}
-use lib.ListN.{length, length-set}
-use Rattle.two_values.specs.Arranged.{first_place}
-use Rattle.two_values.proofs.LoopLaws.{FilledTo, filled_none, filled_next}
+use lib.ListN.{length-set}
+use Rattle.two_values.proofs.LoopLaws.{filled_none, filled_next}
 use Rattle.two_values.proofs.arranging.first_places.Goals as goal
 
 pub loop-c-init : goal.loop-c-init

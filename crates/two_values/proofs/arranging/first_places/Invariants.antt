@@ -1,10 +1,9 @@
 -- `first_places` meets its contract. The loop's invariant: the columns before c have their numbers. The measure is what is left of 16.
-use mathlib.Core.Path.{◌≡◌, refl, ◌∙◌}
+use mathlib.Core.Path.{◌≡◌}
 use Prim.Native.Nat.{◌-◌, ◌≤◌}
-use native.Mathlib.Omega.{arith}
-use lib.ListN.{length, length-set}
+use lib.ListN.{length}
 use Rattle.two_values.specs.Arranged.{first_place}
-use Rattle.two_values.proofs.LoopLaws.{FilledTo, filled_none, filled_next}
+use Rattle.two_values.proofs.LoopLaws.{FilledTo}
 use Rattle.two_values.proofs.arranging.first_places.Given as goal
 
 abbrev pub invariant-loop-c : goal.invariant-loop-c

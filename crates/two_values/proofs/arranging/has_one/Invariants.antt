@@ -1,6 +1,5 @@
 -- `has_one` reads within the grid, and ends: the measure is what is left of it.
 use Prim.Native.Nat.{◌-◌, ◌≤◌}
-use native.Mathlib.Omega.{arith}
 use lib.ListN.{length}
 use Rattle.two_values.proofs.arranging.has_one.Given as goal
 

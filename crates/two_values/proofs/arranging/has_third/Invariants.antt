@@ -1,6 +1,5 @@
 -- `has_third` reads within the grid, and ends: the measure is what is left of 16.
 use Prim.Native.Nat.{◌-◌, ◌≤◌}
-use native.Mathlib.Omega.{arith}
 use Rattle.two_values.proofs.arranging.has_third.Given as goal
 
 abbrev pub invariant-loop-i : goal.invariant-loop-i

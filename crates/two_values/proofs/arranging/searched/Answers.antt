@@ -1,6 +1,5 @@
 -- `searched` meets its contract: the search begins with no row placed, and the columns are sorted by the best row order that it finds.
 use mathlib.Core.Path.{refl}
-use native.Mathlib.Omega.{arith}
 use Rattle.two_values.proofs.RefinedLaws.{places-are}
 use Rattle.two_values.proofs.ArrangedLaws.{starting, searched-least}
 use Rattle.two_values.proofs.arranging.searched.Goals as goal

@@ -1,11 +1,8 @@
-use mathlib.Core.Logic.{⊎_elim}
-use Prim.Native.Nat.{◌-◌, ◌<◌}
 use native.Mathlib.Omega.{arith}
-use Rattle.permutations.specs.Rows.{row_numbers}
-use Rattle.two_values.specs.Search.{Drops}
 use Rattle.two_values.proofs.DominationLaws.{drops-none, drops-twice}
 use Rattle.two_values.proofs.LoserLaws.{drops-loser}
 use Rattle.two_values.proofs.domination.against.Goals as goal
+use Rattle.two_values.proofs.domination.against.Goals.{then-at-lt8, else-at-lt8}
 
 pub overflow_add-t : goal.overflow_add-t
 overflow_add-t c = omega (arith, c.requires.0.tables.rows_fit)
@@ -32,12 +29,12 @@ loop-t-preserved c =
     let pre = c.requires in
     let l = c.loop-t.invariant in (
       omega arith,
-      ⊎_elim
-          (λ w. rw w.1
-          (drops-twice _ _ _ _ _ _ _ _ l.1
-          (drops-loser _ _ _ _ _ _ _ _ _ _ _ pre.0 _ l.1.size _ _ _ pre.2 l.0 c.loop-t-test.true w.0.taken c.loser-at.ensures)))
-          (λ w. rw w.1 l.1)
-          c.if-at-lt8.branch,
+      elim c.if-at-lt8.branch [
+        | then-at-lt8 w ↦ rw w.out-is
+            (drops-twice _ _ _ _ _ _ _ _ l.1
+            (drops-loser _ _ _ _ _ _ _ _ _ _ _ pre.0 _ l.1.size _ _ _ pre.2 l.0 c.loop-t-test.true w.if-at-lt8.true c.loser-at.ensures))
+        | else-at-lt8 w ↦ rw w.out-is l.1
+      ],
     )
 
 pub returns : goal.returns

@@ -1,11 +1,7 @@
 -- `against` meets its contract. The loop's invariant: what is dropped so far. The measure is what is left of m.
-use mathlib.Core.Logic.{⊎_elim}
 use Prim.Native.Nat.{◌-◌, ◌<◌}
-use native.Mathlib.Omega.{arith}
 use Rattle.permutations.specs.Rows.{row_numbers}
 use Rattle.two_values.specs.Search.{Drops}
-use Rattle.two_values.proofs.DominationLaws.{drops-none, drops-twice}
-use Rattle.two_values.proofs.LoserLaws.{drops-loser}
 use Rattle.two_values.proofs.domination.against.Given as goal
 
 abbrev pub invariant-loop-t : goal.invariant-loop-t

@@ -1,7 +1,4 @@
-use Prim.Native.Nat.{◌-◌, ◌≤◌}
 use native.Mathlib.Omega.{arith}
-use Rattle.permutations.specs.Rows.{row_numbers}
-use Rattle.two_values.specs.Search.{Drops}
 use Rattle.two_values.proofs.DominationLaws.{drops-none, drops-twice}
 use Rattle.two_values.proofs.domination.all_dropped.Goals as goal
 

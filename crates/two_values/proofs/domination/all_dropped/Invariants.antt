@@ -1,9 +1,7 @@
 -- `all_dropped` meets its contract. The loop's invariant: what is dropped so far. The measure is what is left of m.
 use Prim.Native.Nat.{◌-◌, ◌≤◌}
-use native.Mathlib.Omega.{arith}
 use Rattle.permutations.specs.Rows.{row_numbers}
 use Rattle.two_values.specs.Search.{Drops}
-use Rattle.two_values.proofs.DominationLaws.{drops-none, drops-twice}
 use Rattle.two_values.proofs.domination.all_dropped.Given as goal
 
 abbrev pub invariant-loop-s : goal.invariant-loop-s

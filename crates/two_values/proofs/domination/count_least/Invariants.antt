@@ -1,8 +1,5 @@
 -- `count_least` is safe and ends. The loop's invariant: no more positions are counted than there are before t. The measure is what is left of m.
 use Prim.Native.Nat.{◌-◌, ◌≤◌}
-use mathlib.Core.Logic.{⊎_elim}
-use native.Mathlib.Omega.{arith}
-use Rattle.two_values.proofs.DominationLaws.{row_below}
 use Rattle.two_values.proofs.domination.count_least.Given as goal
 
 abbrev pub invariant-loop-t : goal.invariant-loop-t

@@ -1,5 +1,4 @@
 -- `loser` meets its contract.
-use borrow.Author.Rules.{rules}
 use Rattle.two_values.proofs.DominationLaws.{row_below}
 use Rattle.two_values.proofs.LoserLaws.{loses-none, loses-second, loses-first}
 use Rattle.two_values.proofs.domination.loser.Goals as goal

@@ -1,12 +1,9 @@
 use mathlib.Core.Path.{◌≡◌, refl}
-use mathlib.Core.Logic.{⊎_elim}
-use Prim.Native.Nat.{◌-◌, ◌≤◌}
 use native.Mathlib.Omega.{arith}
-use Rattle.permutations.specs.Rows.{row_numbers}
 use Rattle.permutations.specs.Lists.{tabulate}
-use Rattle.two_values.specs.Domination.{MarksLeast}
 use Rattle.two_values.proofs.DominationLaws.{row_below, zero-at, marks-none, marks-next, marks_stay}
 use Rattle.two_values.proofs.domination.marked.Goals as goal
+use Rattle.two_values.proofs.domination.marked.Goals.{then-keys-row, else-keys-row}
 
 pub loop-t-init : goal.loop-t-init
 unfolding tabulate
@@ -22,8 +19,10 @@ pub loop-t-preserved : goal.loop-t-preserved
 loop-t-preserved c =
     let l = c.loop-t.invariant in (
       omega arith,
-      ⊎_elim (λ w. rw w.1 (marks-next _ _ _ _ _ _ _ (omega arith) c.number-row.ensures w.0.taken l.1))
-          (λ w. rw w.1 (marks_stay _ _ _ _ _ _ _ c.number-row.ensures w.0.left l.1)) c.if-keys-row.branch,
+      elim c.if-keys-row.branch [
+        | then-keys-row w ↦ rw w.out-is (marks-next _ _ _ _ _ _ _ (omega arith) c.number-row.ensures w.if-keys-row.true l.1)
+        | else-keys-row w ↦ rw w.out-is (marks_stay _ _ _ _ _ _ _ c.number-row.ensures w.if-keys-row.false l.1)
+      ],
     )
 
 pub returns : goal.returns

@@ -1,6 +1,5 @@
 -- `stands` is safe and ends. The loop's measure is what is left of 8.
 use Prim.Native.Nat.{◌-◌}
-use native.Mathlib.Omega.{arith}
 use Rattle.two_values.proofs.domination.stands.Given as goal
 
 abbrev pub invariant-loop-i : goal.invariant-loop-i

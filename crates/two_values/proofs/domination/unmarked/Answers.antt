@@ -1,8 +1,6 @@
 use mathlib.Core.Path.{refl}
-use Prim.Native.Nat.{◌-◌}
 use native.Mathlib.Omega.{arith}
 use Rattle.permutations.specs.Lists.{tabulate}
-use Rattle.two_values.specs.Domination.{Unmarked}
 use Rattle.two_values.proofs.DominationLaws.{zero-at, unmarked-none, unmarked-next}
 use Rattle.two_values.proofs.domination.unmarked.Goals as goal
 

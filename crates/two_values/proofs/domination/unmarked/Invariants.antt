@@ -1,10 +1,6 @@
 -- `unmarked` meets its contract. The loop's invariant: no marked position has been given anything but 0. The measure is what is left of 8.
-use mathlib.Core.Path.{refl}
 use Prim.Native.Nat.{◌-◌}
-use native.Mathlib.Omega.{arith}
-use Rattle.permutations.specs.Lists.{tabulate}
 use Rattle.two_values.specs.Domination.{Unmarked}
-use Rattle.two_values.proofs.DominationLaws.{zero-at, unmarked-none, unmarked-next}
 use Rattle.two_values.proofs.domination.unmarked.Given as goal
 
 abbrev pub invariant-loop-t : goal.invariant-loop-t

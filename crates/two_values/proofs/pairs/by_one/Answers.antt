@@ -1,7 +1,6 @@
 -- `by_one` meets its contract.
-use borrow.Author.Rules.{rules}
 use Rattle.two_values.proofs.DominationLaws.{never}
-use borrow.Author.Tests.{eqb-true, not-false}
+use borrow.Author.Tests.{eqb-true}
 use native.Mathlib.Omega.{arith}
 use Rattle.two_values.specs.Words.{Small}
 use Rattle.two_values.proofs.PairSteps.{digit-small, sum-words}
@@ -23,4 +22,4 @@ overflow_add-result-2 c = record { fits = omega (arith, c.requires.0 c.args.b c.
 
 pub returns : goal.returns
 returns c = λ e.
-    record { alone = c.is_alone.ensures (not-false _ c.if-not-is_alone.false-raw); crossed = c.crossed.ensures (not-false _ c.if-not-crossed.false-raw); words = sum-words _ _ c.digit.ensures c.digit-2.ensures (eqb-true _ _ e) }
+    record { alone = c.is_alone.ensures c.if-not-is_alone.false; crossed = c.crossed.ensures c.if-not-crossed.false; words = sum-words _ _ c.digit.ensures c.digit-2.ensures (eqb-true _ _ e) }

@@ -1,5 +1,4 @@
 -- `column_of` meets its contract.
-use borrow.Author.Rules.{rules}
 use native.Mathlib.Omega.{arith}
 use lib.Count.{trailing_le}
 use Rattle.two_values.proofs.pairs.column_of.Goals as goal

@@ -1,5 +1,4 @@
 -- `crossed` meets its contract.
-use borrow.Author.Rules.{rules}
 use Rattle.two_values.proofs.DominationLaws.{never}
 use borrow.Author.Tests.{eqb-true}
 use Rattle.two_values.proofs.pairs.crossed.Goals as goal

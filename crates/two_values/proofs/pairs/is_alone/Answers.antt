@@ -1,5 +1,4 @@
 -- `is_alone` meets its contract.
-use borrow.Author.Rules.{rules}
 use Rattle.two_values.proofs.DominationLaws.{never}
 use borrow.Author.Tests.{eqb-true}
 use native.Mathlib.Omega.{arith}

@@ -1,5 +1,4 @@
 -- `side` meets its contract: a row is over another only where the tests say so.
-use borrow.Author.Rules.{rules}
 use native.Mathlib.Omega.{arith}
 use Rattle.two_values.specs.Domination.{equal}
 use Rattle.two_values.proofs.PairSteps.{sides-none, sides_first}

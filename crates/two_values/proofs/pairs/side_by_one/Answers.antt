@@ -1,5 +1,4 @@
 -- `side_by_one` meets its contract.
-use borrow.Author.Rules.{rules}
 use Rattle.two_values.specs.Domination.{by_one}
 use Rattle.two_values.proofs.PairSteps.{sides-none, sides_first, sides-second}
 use Rattle.two_values.proofs.pairs.side_by_one.Goals as goal

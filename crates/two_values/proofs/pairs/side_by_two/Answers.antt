@@ -1,5 +1,4 @@
 -- `side_by_two` meets its contract.
-use borrow.Author.Rules.{rules}
 use Rattle.two_values.specs.Domination.{by_two}
 use Rattle.two_values.proofs.PairSteps.{sides-none, sides_first, sides-second}
 use native.Mathlib.Omega.{arith}

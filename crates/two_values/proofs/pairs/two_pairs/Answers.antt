@@ -1,7 +1,6 @@
 -- `two_pairs` meets its contract.
-use borrow.Author.Rules.{rules}
 use Rattle.two_values.proofs.DominationLaws.{never}
-use borrow.Author.Tests.{eqb-true, not-false}
+use borrow.Author.Tests.{eqb-true}
 use native.Mathlib.Omega.{arith}
 use Rattle.two_values.specs.Words.{Small}
 use Rattle.two_values.proofs.PairSteps.{digit-small, sums-words}
@@ -38,8 +37,8 @@ overflow_add-result-4 c = record { fits = omega (arith, c.requires.0 c.args.b c.
 pub returns : goal.returns
 returns c = λ e.
     record {
-      first-crossed = c.crossed.ensures (not-false _ c.if-not-crossed.false-raw);
-      second-crossed = c.crossed-2.ensures (not-false _ c.if-not-crossed-2.false-raw);
+      first-crossed = c.crossed.ensures c.if-not-crossed.false;
+      second-crossed = c.crossed-2.ensures c.if-not-crossed-2.false;
       first-apart = c.if-c-e.false;
       second-apart = c.if-d-f.false;
       words = sums-words _ _ c.digit.ensures c.digit-3.ensures c.digit-2.ensures c.digit-4.ensures (eqb-true _ _ e);

@@ -1,8 +1,5 @@
-use Prim.Native.Nat.{◌-◌}
 use native.Mathlib.Omega.{arith}
-use borrow.Author.Rules.{rules}
-use Rattle.permutations.specs.Rows.{row_numbers}
-use Rattle.two_values.proofs.SearchSteps.{CommonUpTo, common-none, common-more, common-parts, common-all}
+use Rattle.two_values.proofs.SearchSteps.{common-none, common-more, common-parts, common-all}
 use Rattle.two_values.proofs.search.common.Goals as goal
 
 pub loop-i-init : goal.loop-i-init

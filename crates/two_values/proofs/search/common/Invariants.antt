@@ -1,9 +1,7 @@
 -- `common` meets its contract. The loop's invariant: the two orders begin with i rows in common. The measure is what is left of count.
 use Prim.Native.Nat.{◌-◌}
-use native.Mathlib.Omega.{arith}
-use borrow.Author.Rules.{rules}
 use Rattle.permutations.specs.Rows.{row_numbers}
-use Rattle.two_values.proofs.SearchSteps.{CommonUpTo, common-none, common-more, common-parts, common-all}
+use Rattle.two_values.proofs.SearchSteps.{CommonUpTo}
 use Rattle.two_values.proofs.search.common.Given as goal
 
 abbrev pub invariant-loop-i : goal.invariant-loop-i

@@ -1,5 +1,4 @@
 -- `is_cut` meets its contract: where the best's next row is not known, nothing is cut.
-use borrow.Author.Rules.{rules}
 use Rattle.two_values.proofs.SearchSteps.{cut-fresh}
 use Rattle.two_values.proofs.search.is_cut.Goals as goal
 

@@ -1,5 +1,4 @@
 -- `is_followed` meets its contract: a row whose number is not the least, or whose position is dropped, is not followed, and any other is by whether it is covered.
-use borrow.Author.Rules.{rules}
 use Rattle.two_values.proofs.SearchSteps.{followed-higher, followed-dropped, followed-left}
 use Rattle.two_values.proofs.search.is_followed.Goals as goal
 

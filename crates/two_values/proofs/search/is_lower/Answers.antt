@@ -1,5 +1,4 @@
 -- `is_lower` meets its contract: where the best's next row is not known, every row is lower.
-use borrow.Author.Rules.{rules}
 use Rattle.two_values.proofs.SearchSteps.{lower-fresh}
 use Rattle.two_values.proofs.search.is_lower.Goals as goal
 

@@ -1,13 +1,8 @@
 -- `lowest` meets its contract. The loop's invariant: `least` is the least number of the rows from position k up to t. The measure is what is
 -- left of m.
-use mathlib.Core.Path.{◌≡◌}
-use mathlib.Core.Logic.{⊎_elim}
 use Prim.Native.Nat.{◌-◌, ◌≤◌, ◌<◌}
-use native.Mathlib.Omega.{arith}
-use borrow.Author.Rules.{rules}
 use Rattle.permutations.specs.Rows.{row_numbers}
 use Rattle.two_values.specs.Search.{Lowest}
-use Rattle.two_values.proofs.SearchSteps.{lowest-one, lowest-next, lowest-stays}
 use Rattle.two_values.proofs.search.lowest.Given as goal
 
 abbrev pub invariant-loop-t : goal.invariant-loop-t

@@ -1,6 +1,5 @@
 -- `reached` meets its contract: a new best is the row order at hand; else the two row orders part where `common` says.
 use mathlib.Core.Path.{refl}
-use native.Mathlib.Omega.{arith}
 use Rattle.two_values.proofs.ReachedLaws.{reached-new, reached-copy}
 use Rattle.two_values.proofs.search.reached.Goals as goal
 

@@ -1,6 +1,5 @@
 -- `covered_with` meets its contract: where no symmetry is kept the marks stay as they are, and else the row is marked, and the marks are spread.
 use native.Mathlib.Omega.{arith}
-use borrow.Author.Rules.{rules}
 use Rattle.two_values.proofs.SymmetryLaws.{spreads-marked}
 use Rattle.two_values.proofs.symmetries.covered_with.Goals as goal
 

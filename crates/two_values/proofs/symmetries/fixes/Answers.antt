@@ -1,8 +1,5 @@
-use Prim.Native.Nat.{◌-◌}
 use native.Mathlib.Omega.{arith}
-use borrow.Author.Rules.{rules}
-use Rattle.permutations.specs.Rows.{row_numbers}
-use Rattle.two_values.proofs.SymmetryLaws.{FixesUpTo, fixes-none, fixes-next, fixes-not, fixes-all}
+use Rattle.two_values.proofs.SymmetryLaws.{fixes-none, fixes-next, fixes-not, fixes-all}
 use Rattle.two_values.proofs.symmetries.fixes.Goals as goal
 
 pub loop-i-init : goal.loop-i-init

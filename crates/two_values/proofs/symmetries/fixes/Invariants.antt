@@ -1,9 +1,7 @@
 -- `fixes` meets its contract. The loop's invariant: the symmetry moves none of the first i rows. The measure is what is left of k.
 use Prim.Native.Nat.{◌-◌}
-use native.Mathlib.Omega.{arith}
-use borrow.Author.Rules.{rules}
 use Rattle.permutations.specs.Rows.{row_numbers}
-use Rattle.two_values.proofs.SymmetryLaws.{FixesUpTo, fixes-none, fixes-next, fixes-not, fixes-all}
+use Rattle.two_values.proofs.SymmetryLaws.{FixesUpTo}
 use Rattle.two_values.proofs.symmetries.fixes.Given as goal
 
 abbrev pub invariant-loop-i : goal.invariant-loop-i

@@ -1,11 +1,7 @@
-use mathlib.Core.Logic.{⊎_elim}
-use Prim.Native.Nat.{◌-◌}
 use native.Mathlib.Omega.{arith}
-use borrow.Author.Rules.{rules}
-use Rattle.permutations.specs.Rows.{row_numbers}
-use Rattle.two_values.specs.Search.{Spreads}
 use Rattle.two_values.proofs.SymmetryLaws.{rows-below, spreads-refl, spreads-images}
 use Rattle.two_values.proofs.symmetries.spread.Goals as goal
+use Rattle.two_values.proofs.symmetries.spread.Goals.{then-fixes, else-fixes}
 
 pub loop-s-init : goal.loop-s-init
 loop-s-init c = spreads-refl _ _ _ _ _ _ (omega arith)
@@ -25,10 +21,10 @@ loop-s-preserved c =
     let l = c.loop-s in
     let z = c.requires in
     let y = z.3.each l.s (omega arith) in
-    ⊎_elim
-    (λ w. rw w.2 (spreads-images _ _ _ _ _ _ l.s _ _ _ _ z.0 z.1 z.2.whole y w.0.taken c.fixes.ensures l.invariant w.1.ensures))
-    (λ w. rw w.1 l.invariant)
-    c.if-fixes.branch
+    elim c.if-fixes.branch [
+      | then-fixes w ↦ rw w.out-is (spreads-images _ _ _ _ _ _ l.s _ _ _ _ z.0 z.1 z.2.whole y w.if-fixes.true c.fixes.ensures l.invariant w.images-more.ensures)
+      | else-fixes w ↦ rw w.out-is l.invariant
+    ]
 
 pub returns : goal.returns
 returns c = c.loop-s.invariant

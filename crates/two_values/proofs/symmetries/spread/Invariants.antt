@@ -1,11 +1,7 @@
 -- `spread` meets its contract. The loop's invariant: what covers the rows marked at first covers those marked now. The measure is what is left of kept.
-use mathlib.Core.Logic.{⊎_elim}
 use Prim.Native.Nat.{◌-◌}
-use native.Mathlib.Omega.{arith}
-use borrow.Author.Rules.{rules}
 use Rattle.permutations.specs.Rows.{row_numbers}
 use Rattle.two_values.specs.Search.{Spreads}
-use Rattle.two_values.proofs.SymmetryLaws.{rows-below, spreads-refl, spreads-images}
 use Rattle.two_values.proofs.symmetries.spread.Given as goal
 
 abbrev pub invariant-loop-s : goal.invariant-loop-s

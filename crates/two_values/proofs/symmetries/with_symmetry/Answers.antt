@@ -1,9 +1,6 @@
-use Prim.Native.Nat.{◌-◌}
 use native.Mathlib.Omega.{arith}
-use borrow.Author.Rules.{rules}
-use Rattle.permutations.specs.Rows.{row_numbers}
 use Rattle.permutations.proofs.SwapLaws.{at-whole}
-use Rattle.two_values.proofs.SymmetryLaws.{Carrying, carrying-none, carrying-next, carrying-all}
+use Rattle.two_values.proofs.SymmetryLaws.{carrying-none, carrying-next, carrying-all}
 use Rattle.two_values.proofs.symmetries.with_symmetry.Goals as goal
 
 pub loop-i-init : goal.loop-i-init

@@ -1,10 +1,7 @@
 -- `with_symmetry` meets its contract. The loop's invariant: the images of the first i rows are written, and nothing before them is changed. The measure is what is left of m.
 use Prim.Native.Nat.{◌-◌}
-use native.Mathlib.Omega.{arith}
-use borrow.Author.Rules.{rules}
 use Rattle.permutations.specs.Rows.{row_numbers}
-use Rattle.permutations.proofs.SwapLaws.{at-whole}
-use Rattle.two_values.proofs.SymmetryLaws.{Carrying, carrying-none, carrying-next, carrying-all}
+use Rattle.two_values.proofs.SymmetryLaws.{Carrying}
 use Rattle.two_values.proofs.symmetries.with_symmetry.Given as goal
 
 abbrev pub invariant-loop-i : goal.invariant-loop-i

@@ -1,13 +1,13 @@
-use mathlib.Core.Path.{◌≡◌, refl, sym, ap, ◌∙◌}
+use mathlib.Core.Path.{refl, sym, ap, ◌∙◌}
 use mathlib.Core.Bool.{not}
-use Prim.Native.Nat.{ℕ, ◌+◌, ◌*◌, ◌-◌, ◌≤◌}
+use Prim.Native.Nat.{ℕ}
 use native.Mathlib.Nat.{zero-mul, suc-mul}
 use native.Mathlib.Numerals.{add-one}
 use native.Mathlib.Omega.{arith}
 use lib.ListN.{get_or}
 use lib.Dec.{eqb}
 use Rattle.two_values.specs.TwoValues.{bit}
-use Rattle.two_values.proofs.TableLaws.{column_place, column_apart, column-inside, TableTo, table_none, table-cell, table-row, bit_byte, byte-most, cell-inside, cell_bit, columns-table}
+use Rattle.two_values.proofs.TableLaws.{column_place, column_apart, column-inside, table_none, table-cell, table-row, bit_byte, byte-most, cell-inside, cell_bit, columns-table}
 use Rattle.two_values.proofs.tables.by_columns.Goals as goal
 
 pub loop-i-init : goal.loop-i-init

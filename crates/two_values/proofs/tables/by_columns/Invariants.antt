@@ -1,15 +1,8 @@
 -- `by_columns` meets its contract. The loops' invariant: the cells before column j of row i are in the table. The measures are what is left of the rows, and of the
 -- columns.
-use mathlib.Core.Path.{◌≡◌, refl, sym, ap, ◌∙◌}
-use mathlib.Core.Bool.{not}
-use Prim.Native.Nat.{ℕ, ◌+◌, ◌*◌, ◌-◌, ◌≤◌}
-use native.Mathlib.Nat.{zero-mul, suc-mul}
-use native.Mathlib.Numerals.{add-one}
-use native.Mathlib.Omega.{arith}
-use lib.ListN.{get_or}
-use lib.Dec.{eqb}
-use Rattle.two_values.specs.TwoValues.{bit}
-use Rattle.two_values.proofs.TableLaws.{column_place, column_apart, column-inside, TableTo, table_none, table-cell, table-row, bit_byte, byte-most, cell-inside, cell_bit, columns-table}
+use mathlib.Core.Path.{◌≡◌}
+use Prim.Native.Nat.{◌+◌, ◌*◌, ◌-◌, ◌≤◌}
+use Rattle.two_values.proofs.TableLaws.{column_place, TableTo, cell_bit}
 use Rattle.two_values.proofs.tables.by_columns.Given as goal
 
 abbrev pub invariant-loop-j : goal.invariant-loop-j

@@ -1,12 +1,12 @@
-use mathlib.Core.Path.{◌≡◌, refl, sym, ap, ◌∙◌}
-use Prim.Native.Nat.{ℕ, ◌+◌, ◌*◌, ◌-◌, ◌≤◌}
+use mathlib.Core.Path.{refl, sym, ap, ◌∙◌}
+use Prim.Native.Nat.{ℕ, ◌-◌}
 use native.Mathlib.Nat.{zero-mul, suc-mul}
 use native.Mathlib.Numerals.{add-one}
 use native.Mathlib.Omega.{arith}
 use lib.ListN.{get_or}
 use lib.Dec.{eqb}
 use Rattle.two_values.specs.TwoValues.{bit}
-use Rattle.two_values.proofs.TableLaws.{row_place, row_apart, row_inside, TableTo, table_none, table-cell, table-row, unbit-byte, byte-most, cell-inside, cell_unbit, rows-table}
+use Rattle.two_values.proofs.TableLaws.{row_place, row_apart, row_inside, table_none, table-cell, table-row, unbit-byte, byte-most, cell-inside, cell_unbit, rows-table}
 use Rattle.two_values.proofs.tables.by_rows.Goals as goal
 
 pub loop-i-init : goal.loop-i-init

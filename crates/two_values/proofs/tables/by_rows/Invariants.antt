@@ -1,14 +1,8 @@
 -- `by_rows` meets its contract. The loops' invariant: the cells before column j of row i are in the table. The measures are what is left of the rows, and of the
 -- columns.
-use mathlib.Core.Path.{◌≡◌, refl, sym, ap, ◌∙◌}
-use Prim.Native.Nat.{ℕ, ◌+◌, ◌*◌, ◌-◌, ◌≤◌}
-use native.Mathlib.Nat.{zero-mul, suc-mul}
-use native.Mathlib.Numerals.{add-one}
-use native.Mathlib.Omega.{arith}
-use lib.ListN.{get_or}
-use lib.Dec.{eqb}
-use Rattle.two_values.specs.TwoValues.{bit}
-use Rattle.two_values.proofs.TableLaws.{row_place, row_apart, row_inside, TableTo, table_none, table-cell, table-row, unbit-byte, byte-most, cell-inside, cell_unbit, rows-table}
+use mathlib.Core.Path.{◌≡◌}
+use Prim.Native.Nat.{◌+◌, ◌*◌, ◌-◌, ◌≤◌}
+use Rattle.two_values.proofs.TableLaws.{row_place, TableTo, cell_unbit}
 use Rattle.two_values.proofs.tables.by_rows.Given as goal
 
 abbrev pub invariant-loop-j : goal.invariant-loop-j

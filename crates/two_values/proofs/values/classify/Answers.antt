@@ -1,7 +1,6 @@
 -- `classify` meets its contract: where every cell is the lowest value or the highest, there are two values at most.
 use native.Mathlib.Omega.{arith}
 use Rattle.two_values.proofs.ValueLaws.{two-valued, none-valued}
-use borrow.Author.Rules.{rules}
 use Rattle.two_values.proofs.values.classify.Goals as goal
 
 pub returns-then-grid-eq0 : goal.returns-then-grid-eq0

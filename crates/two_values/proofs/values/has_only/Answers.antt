@@ -1,7 +1,5 @@
-use Prim.Native.Nat.{◌-◌, ◌≤◌}
 use native.Mathlib.Omega.{arith}
-use lib.ListN.{length}
-use Rattle.two_values.proofs.ValueLaws.{OnlyTo, only_none, only_next}
+use Rattle.two_values.proofs.ValueLaws.{only_none, only_next}
 use Rattle.two_values.proofs.values.has_only.Goals as goal
 
 pub loop-i-init : goal.loop-i-init

@@ -1,8 +1,7 @@
 -- `has_only` meets its contract. The loop's invariant: where `either` is true, the cells before `i` are one of the two values. The measure is what is left of the length.
 use Prim.Native.Nat.{◌-◌, ◌≤◌}
-use native.Mathlib.Omega.{arith}
 use lib.ListN.{length}
-use Rattle.two_values.proofs.ValueLaws.{OnlyTo, only_none, only_next}
+use Rattle.two_values.proofs.ValueLaws.{OnlyTo}
 use Rattle.two_values.proofs.values.has_only.Given as goal
 
 abbrev pub invariant-loop-i : goal.invariant-loop-i

@@ -1,6 +1,3 @@
-use Prim.Native.Nat.{◌-◌, ◌≤◌}
-use native.Mathlib.Omega.{arith}
-use lib.ListN.{length}
 use Rattle.two_values.proofs.values.highest.Goals as goal
 
 pub higher-high-requires : goal.higher-high-requires

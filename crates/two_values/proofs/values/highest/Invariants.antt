@@ -1,6 +1,5 @@
 -- `highest` ends, and reads only cells. The measure is what is left of the length.
 use Prim.Native.Nat.{◌-◌, ◌≤◌}
-use native.Mathlib.Omega.{arith}
 use lib.ListN.{length}
 use Rattle.two_values.proofs.values.highest.Given as goal
 

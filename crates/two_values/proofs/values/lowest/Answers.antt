@@ -1,7 +1,5 @@
-use Prim.Native.Nat.{◌-◌, ◌≤◌}
 use native.Mathlib.Omega.{arith}
-use lib.ListN.{length}
-use Rattle.two_values.proofs.ValueLaws.{LowestTo, lowest-none, lowest-next}
+use Rattle.two_values.proofs.ValueLaws.{lowest-none, lowest-next}
 use Rattle.two_values.proofs.values.lowest.Goals as goal
 
 pub loop-i-init : goal.loop-i-init

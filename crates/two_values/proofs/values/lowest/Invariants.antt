@@ -1,8 +1,7 @@
 -- `lowest` meets its contract. The loop's invariant: `low` ranks no higher than any cell before `i`. The measure is what is left of the length.
 use Prim.Native.Nat.{◌-◌, ◌≤◌}
-use native.Mathlib.Omega.{arith}
 use lib.ListN.{length}
-use Rattle.two_values.proofs.ValueLaws.{LowestTo, lowest-none, lowest-next}
+use Rattle.two_values.proofs.ValueLaws.{LowestTo}
 use Rattle.two_values.proofs.values.lowest.Given as goal
 
 abbrev pub invariant-loop-i : goal.invariant-loop-i

@@ -1,10 +1,9 @@
 use mathlib.Core.Path.{◌≡◌, refl}
-use Prim.Native.Nat.{◌+◌, ◌-◌, ◌*◌, ◌≤◌}
+use Prim.Native.Nat.{◌+◌, ◌*◌}
 use native.Mathlib.Omega.{arith}
-use lib.ListN.{get_or}
 use Rattle.two_values.specs.Tables.{Bits}
 use Rattle.two_values.specs.Words.{LowWords}
-use Rattle.two_values.proofs.WordLaws.{WordedTo, worded-none, worded-cell, worded-turn, worded-small}
+use Rattle.two_values.proofs.WordLaws.{worded-none, worded-cell, worded-turn, worded-small}
 use Rattle.two_values.proofs.words.by_column.Goals as goal
 
 pub loop-r-init : goal.loop-r-init

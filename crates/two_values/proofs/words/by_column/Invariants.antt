@@ -1,11 +1,7 @@
 -- `by_column` meets its contract. The loops' invariant: words of r digits, and of a digit more before c. The measures are what is left of the rows, and of the columns.
-use mathlib.Core.Path.{◌≡◌, refl}
 use Prim.Native.Nat.{◌+◌, ◌-◌, ◌*◌, ◌≤◌}
-use native.Mathlib.Omega.{arith}
 use lib.ListN.{get_or}
-use Rattle.two_values.specs.Tables.{Bits}
-use Rattle.two_values.specs.Words.{LowWords}
-use Rattle.two_values.proofs.WordLaws.{WordedTo, worded-none, worded-cell, worded-turn, worded-small}
+use Rattle.two_values.proofs.WordLaws.{WordedTo}
 use Rattle.two_values.proofs.words.by_column.Given as goal
 
 abbrev pub invariant-loop-c : goal.invariant-loop-c

@@ -1,11 +1,7 @@
 -- `by_row` meets its contract. The loops' invariant: words of c digits, and of a digit more before r. The measures are what is left of the columns, and of the rows.
-use mathlib.Core.Path.{◌≡◌, refl}
 use Prim.Native.Nat.{◌+◌, ◌-◌, ◌*◌, ◌≤◌}
-use native.Mathlib.Omega.{arith}
 use lib.ListN.{get_or}
-use Rattle.two_values.specs.Tables.{Bits}
-use Rattle.two_values.specs.Words.{Small}
-use Rattle.two_values.proofs.WordLaws.{WordedTo, worded-none, worded-cell, worded-turn, worded-small}
+use Rattle.two_values.proofs.WordLaws.{WordedTo}
 use Rattle.two_values.proofs.words.by_row.Given as goal
 
 abbrev pub invariant-loop-r : goal.invariant-loop-r

@@ -4,12 +4,8 @@ use Prim.Native.Nat.{ℕ}
 use lib.Dec.{ltb}
 use borrow.Author.Rules.{rules}
 use Rattle.scan.specs.Holdings.{is_first}
-use Rattle.scan.proofs.holdings.is_first.Statement.{statement}
-use Rattle.scan.proofs.holdings.is_first.Tie as tie
+use Rattle.scan.proofs.holdings.is_first.Goals as goal
 
-returns : tie.Need-returns
+pub returns : goal.returns
 unfolding is_first
 returns c = ap (λ (x : ℕ). ltb x 9) c.above.ensures
-
-pub is-first-spec : {M : Type 1} → statement M
-is-first-spec = tie.close (search (tie.spec, returns, rules))

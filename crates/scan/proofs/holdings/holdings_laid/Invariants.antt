@@ -1,0 +1,12 @@
+-- `holdings_laid` meets its contract. The loop's invariant: `laid` and `none` are the answers for the first `k` fields.
+use Prim.Native.Nat.{◌≤◌, ◌-◌}
+use native.Mathlib.Omega.{arith}
+use borrow.Author.Rules.{rules}
+use Rattle.scan.proofs.HeldLaws.{HeldTo, held_start, held_next, held-decides}
+use Rattle.scan.proofs.holdings.holdings_laid.Given as goal
+
+abbrev pub invariant-loop-k : goal.invariant-loop-k
+invariant-loop-k l = (l.k ≤ 8) × HeldTo l.register l.at l.k l.laid l.none
+
+abbrev pub decreases-loop-k : goal.decreases-loop-k
+decreases-loop-k l = 8 - l.k

@@ -1,0 +1,9 @@
+-- `stays_held` meets its contract.
+use mathlib.Core.Path.{refl}
+use borrow.Author.Rules.{rules}
+use Rattle.scan.specs.Holdings.{is_holding}
+use Rattle.scan.proofs.holdings.stays_held.Goals as goal
+
+pub returns : goal.returns
+unfolding is_holding
+returns c = rw (c.is_first.ensures, c.is_first-2.ensures, c.is_digit.ensures, c.is_digit-2.ensures) refl
