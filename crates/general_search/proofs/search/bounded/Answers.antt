@@ -1,7 +1,5 @@
 use mathlib.Core.Path.{refl}
-use Prim.Native.Nat.{◌+◌, ◌-◌, ◌≤◌}
 use native.Mathlib.Omega.{arith}
-use borrow.Author.Rules.{rules}
 use Rattle.permutations.specs.Lists.{tabulate}
 use Rattle.general_search.proofs.BoundLaws.{none-marked, bound-none}
 use Rattle.general_search.proofs.search.bounded.Goals as goal

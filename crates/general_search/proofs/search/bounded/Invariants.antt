@@ -1,10 +1,5 @@
 -- `bounded` meets its contract: the best as it is, or lowered. The loop's measure is what is left of k + 1.
-use mathlib.Core.Path.{refl}
 use Prim.Native.Nat.{◌+◌, ◌-◌, ◌≤◌}
-use native.Mathlib.Omega.{arith}
-use borrow.Author.Rules.{rules}
-use Rattle.permutations.specs.Lists.{tabulate}
-use Rattle.general_search.proofs.BoundLaws.{none-marked, bound-none}
 use Rattle.general_search.proofs.search.bounded.Given as goal
 
 abbrev pub invariant-loop-i : goal.invariant-loop-i

@@ -1,6 +1,5 @@
 -- `candidate` meets its contract: the row at position t is brought to k, and the blocks are sorted by it, unless the best was made so.
 use mathlib.Core.Path.{refl, sym}
-use borrow.Author.Rules.{rules}
 use Rattle.permutations.proofs.SwapLaws.{swapped_same}
 use Rattle.general_search.proofs.SearchLaws.{candidate-of}
 use Rattle.general_search.proofs.search.candidate.Goals as goal

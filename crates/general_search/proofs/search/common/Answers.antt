@@ -1,9 +1,5 @@
 use mathlib.Core.Path.{◌≡◌, sym, ◌∙◌}
-use Prim.Native.Nat.{◌-◌}
 use native.Mathlib.Omega.{arith}
-use borrow.Author.Rules.{rules}
-use Rattle.permutations.specs.Rows.{row_numbers}
-use Rattle.general_search.specs.Search.{InCommon}
 use Rattle.general_search.proofs.SymmetryLaws.{common-none, common-next}
 use Rattle.general_search.proofs.search.common.Goals as goal
 

@@ -1,11 +1,7 @@
 -- `common` meets its contract. The loop's invariant: the two orders begin with i rows in common. The measure is what is left of count.
-use mathlib.Core.Path.{◌≡◌, sym, ◌∙◌}
 use Prim.Native.Nat.{◌-◌}
-use native.Mathlib.Omega.{arith}
-use borrow.Author.Rules.{rules}
 use Rattle.permutations.specs.Rows.{row_numbers}
 use Rattle.general_search.specs.Search.{InCommon}
-use Rattle.general_search.proofs.SymmetryLaws.{common-none, common-next}
 use Rattle.general_search.proofs.search.common.Given as goal
 
 abbrev pub invariant-loop-i : goal.invariant-loop-i

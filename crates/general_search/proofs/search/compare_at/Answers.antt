@@ -1,5 +1,4 @@
 -- `compare_at` meets its contract: the rows compared are those at position k.
-use borrow.Author.Rules.{rules}
 use Rattle.general_search.proofs.search.compare_at.Goals as goal
 
 pub returns : goal.returns

@@ -1,6 +1,4 @@
-use Prim.Native.Nat.{◌-◌}
-use native.Mathlib.Omega.{arith}
-use Rattle.general_search.proofs.RepeatedRows.{CellsUpTo, cells-none, cells-next, rows-equal, rows-differ}
+use Rattle.general_search.proofs.RepeatedRows.{cells-none, cells-next, rows-equal, rows-differ}
 use Rattle.general_search.proofs.search.equal_rows.Goals as goal
 
 pub loop-j-init : goal.loop-j-init

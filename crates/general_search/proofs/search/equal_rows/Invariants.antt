@@ -1,7 +1,6 @@
 -- `equal_rows` meets its contract. The loop's invariant: the rows have the same cells before column j. The measure is what is left of n.
 use Prim.Native.Nat.{◌-◌}
-use native.Mathlib.Omega.{arith}
-use Rattle.general_search.proofs.RepeatedRows.{CellsUpTo, cells-none, cells-next, rows-equal, rows-differ}
+use Rattle.general_search.proofs.RepeatedRows.{CellsUpTo}
 use Rattle.general_search.proofs.search.equal_rows.Given as goal
 
 abbrev pub invariant-loop-j : goal.invariant-loop-j

@@ -3,8 +3,6 @@
 use mathlib.Core.Path.{sym}
 use mathlib.Core.Bool.{true≢false}
 use native.Mathlib.Omega.{arith}
-use borrow.Author.Rules.{rules}
-use borrow.Author.Tests.{not-false}
 use Rattle.general_search.proofs.SearchLaws.{equal-not-greater, lesser-improves, lesser-lower, lesser-equal}
 use Rattle.general_search.proofs.PlaceLaws.{placed-all, placed-last, outcome-searched, outcome-alike}
 use Rattle.general_search.proofs.search.last.Goals as goal
@@ -57,5 +55,5 @@ returns c =
     let i = lesser-improves _ _ _ _ _ _ _ _ _ _ _ pre.0 next (omega (arith, pre.0.placed-fits, one)) found which in
     let l = lesser-lower _ _ _ _ _ _ _ _ _ _ _ pre.0 next (omega (arith, pre.0.placed-fits, one)) found which in
     let s = placed-last _ _ _ _ _ _ _ _ _ (omega (arith, pre.0.placed-fits, pre.1, one)) pre.0 next i l in
-    let e = lesser-equal _ _ _ _ _ _ _ _ _ _ _ pre.0 next (omega (arith, pre.0.placed-fits, one)) found which (equal-not-greater c.compare_at-found.result _ c.is_equal.ensures (not-false _ c.if-not-is_equal.false-raw)) in
-    (s, outcome-alike _ _ _ _ _ _ _ _ _ _ (omega (arith, pre.0.placed-fits, pre.1, one)) (not-false _ c.if-not-jumps.false-raw) pre.0 next s e c.common-back.ensures)
+    let e = lesser-equal _ _ _ _ _ _ _ _ _ _ _ pre.0 next (omega (arith, pre.0.placed-fits, one)) found which (equal-not-greater c.compare_at-found.result _ c.is_equal.ensures c.if-not-is_equal.false) in
+    (s, outcome-alike _ _ _ _ _ _ _ _ _ _ (omega (arith, pre.0.placed-fits, pre.1, one)) c.if-not-jumps.false pre.0 next s e c.common-back.ensures)

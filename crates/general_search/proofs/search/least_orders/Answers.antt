@@ -1,6 +1,5 @@
 -- `least_orders` meets its contract. The search starts from the identities, with no row placed. With four rows or fewer nothing is known of the bound.
 use mathlib.Core.Path.{refl}
-use borrow.Author.Rules.{rules}
 use Rattle.permutations.specs.Lists.{tabulate}
 use Rattle.general_search.proofs.BoundLaws.{none-marked, bound-none, bound-placed}
 use Rattle.general_search.proofs.PlaceLaws.{start, outcome-least}

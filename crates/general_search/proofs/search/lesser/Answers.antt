@@ -1,5 +1,4 @@
 -- `lesser` meets its contract, by the test of the comparison.
-use borrow.Author.Rules.{rules}
 use Rattle.general_search.proofs.SearchLaws.{lesser-less, lesser-not}
 use Rattle.general_search.proofs.search.lesser.Goals as goal
 

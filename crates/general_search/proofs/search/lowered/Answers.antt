@@ -1,15 +1,13 @@
 use mathlib.Core.Path.{refl, sym}
 use mathlib.Core.Bool.{true≢false}
-use mathlib.Core.Logic.{⊎_elim}
-use Prim.Native.Nat.{◌≤◌, ◌-◌}
 use native.Mathlib.Omega.{arith}
-use borrow.Author.Rules.{rules}
 use Rattle.permutations.specs.Lists.{tabulate}
 use Rattle.grids.proofs.OrderLaws.{≼-antisymm}
 use Rattle.grids.proofs.ComparisonLaws.{less-yes, less-no, greater-yes, greater-no}
 use Rattle.general_search.proofs.SearchLaws.{searching-better}
-use Rattle.general_search.proofs.BoundLaws.{Lowest, none-marked, lowest-none, lowest-less, lowest-greater, lowest-equal, lowest-bound}
+use Rattle.general_search.proofs.BoundLaws.{none-marked, lowest-none, lowest-less, lowest-greater, lowest-equal, lowest-bound}
 use Rattle.general_search.proofs.search.lowered.Goals as goal
+use Rattle.general_search.proofs.search.lowered.Goals.{then-is_greater, else-is_greater+then-is_less, else-is_greater+else-is_less}
 
 pub loop-t-init : goal.loop-t-init
 unfolding tabulate
@@ -34,19 +32,20 @@ loop-t-preserved c =
     let s = searching-better _ _ _ _ _ _ _ _ pre l.invariant.1.improves in
     let next = c.candidate-next.ensures in
     let found = c.compare_at-found.ensures in
-    let test = c.before.is_Greater.ensures in (
+    let test = c.is_greater.ensures in (
       omega (arith, l.invariant.0),
-      ⊎_elim
-          (λ w.
-          rw (w.1, w.2, w.3, w.4)
-          (lowest-greater _ _ _ _ _ _ _ _ _ _ _ _ _ s next l.invariant.1 (omega (arith, l.invariant.0, tm)) (omega (arith, tm, pre.rows_fit)) (greater-yes _ _ _ _ found test w.0.taken)))
-          (⊎_elim
-          (λ w. rw (w.3, w.4, w.5, w.6) (lowest-less _ _ _ _ _ _ _ _ _ _ _ _ _ s next l.invariant.1 (omega (arith, l.invariant.0, tm)) (less-yes _ _ _ _ found w.1.ensures w.2.taken)))
-          (λ w.
-          rw (w.3, w.4, w.5, w.6)
-          (lowest-equal _ _ _ _ _ _ _ _ _ _ _ _ _ s next l.invariant.1 (omega (arith, l.invariant.0, tm))
-          (≼-antisymm _ _ (greater-no _ _ _ _ found test w.0.left) (less-no _ _ _ _ found w.1.ensures w.2.left)))))
-          c.if-is_greater.branch,
+      elim c.if-is_greater.branch [
+        | then-is_greater w ↦
+            rw (w.out-is, w.from-is, w.above-is, w.made-is)
+            (lowest-greater _ _ _ _ _ _ _ _ _ _ _ _ _ s next l.invariant.1 (omega (arith, l.invariant.0, tm)) (omega (arith, tm, pre.rows_fit)) (greater-yes _ _ _ _ found test w.if-is_greater.true))
+        | else-is_greater+then-is_less w ↦
+            rw (w.out-is, w.from-is, w.above-is, w.made-is)
+            (lowest-less _ _ _ _ _ _ _ _ _ _ _ _ _ s next l.invariant.1 (omega (arith, l.invariant.0, tm)) (less-yes _ _ _ _ found w.is_less.ensures w.if-is_less.true))
+        | else-is_greater+else-is_less w ↦
+            rw (w.out-is, w.from-is, w.above-is, w.made-is)
+            (lowest-equal _ _ _ _ _ _ _ _ _ _ _ _ _ s next l.invariant.1 (omega (arith, l.invariant.0, tm))
+            (≼-antisymm _ _ (greater-no _ _ _ _ found test w.if-is_greater.false) (less-no _ _ _ _ found w.is_less.ensures w.if-is_less.false)))
+      ],
     )
 
 pub returns : goal.returns

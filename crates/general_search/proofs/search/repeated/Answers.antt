@@ -1,10 +1,7 @@
 use mathlib.Core.Path.{sym}
 use mathlib.Core.Bool.{true≢false}
-use Prim.Native.Nat.{◌≤◌, ◌-◌}
 use native.Mathlib.Omega.{arith}
-use borrow.Author.Rules.{rules}
-use Rattle.permutations.specs.Rows.{row_numbers}
-use Rattle.general_search.proofs.RepeatedRows.{rows_named, NoneUpTo, none_first, none-next, none-all}
+use Rattle.general_search.proofs.RepeatedRows.{rows_named, none_first, none-next, none-all}
 use Rattle.general_search.proofs.search.repeated.Goals as goal
 
 pub loop-s-init : goal.loop-s-init

@@ -1,10 +1,5 @@
 -- `settled` meets its contract: where it answers yes, it found the one or the other. The loop's measure is what is left of t.
-use mathlib.Core.Path.{sym, ◌∙◌}
-use mathlib.Core.Bool.{true≢false}
-use mathlib.Core.Logic.{inl, inr}
 use Prim.Native.Nat.{◌≤◌, ◌-◌}
-use native.Mathlib.Omega.{arith}
-use borrow.Author.Rules.{rules}
 use Rattle.general_search.proofs.search.settled.Given as goal
 
 abbrev pub invariant-loop-s : goal.invariant-loop-s

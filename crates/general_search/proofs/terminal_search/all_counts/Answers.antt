@@ -1,9 +1,6 @@
 use mathlib.Core.Path.{◌≡◌, refl, ◌∙◌}
-use Prim.Native.Nat.{◌-◌, ◌≤◌}
 use native.Mathlib.Omega.{arith}
-use lib.ListN.{length, length-set}
-use Rattle.permutations.specs.Rows.{row_numbers}
-use Rattle.general_search.specs.Counts.{CountsRows}
+use lib.ListN.{length-set}
 use Rattle.general_search.proofs.CountLaws.{rows_none, rows_next}
 use Rattle.general_search.proofs.terminal_search.all_counts.Goals as goal
 

@@ -1,11 +1,9 @@
 -- `all_counts` meets its contract. The loop's invariant: the rows before position t are counted. The measure is what is left of m.
-use mathlib.Core.Path.{◌≡◌, refl, ◌∙◌}
+use mathlib.Core.Path.{◌≡◌}
 use Prim.Native.Nat.{◌-◌, ◌≤◌}
-use native.Mathlib.Omega.{arith}
-use lib.ListN.{length, length-set}
+use lib.ListN.{length}
 use Rattle.permutations.specs.Rows.{row_numbers}
 use Rattle.general_search.specs.Counts.{CountsRows}
-use Rattle.general_search.proofs.CountLaws.{rows_none, rows_next}
 use Rattle.general_search.proofs.terminal_search.all_counts.Given as goal
 
 abbrev pub invariant-loop-t : goal.invariant-loop-t

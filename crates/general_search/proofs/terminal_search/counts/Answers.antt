@@ -1,6 +1,5 @@
-use Prim.Native.Nat.{◌-◌, ◌≤◌}
 use native.Mathlib.Omega.{arith}
-use Rattle.general_search.proofs.CountLaws.{weight-most, Counted, counted_none, counted_next, counted-all}
+use Rattle.general_search.proofs.CountLaws.{weight-most, counted_none, counted_next, counted-all}
 use Rattle.general_search.proofs.terminal_search.counts.Goals as goal
 
 pub loop-j-init : goal.loop-j-init

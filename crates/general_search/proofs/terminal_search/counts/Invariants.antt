@@ -1,8 +1,7 @@
 -- `counts` meets its contract. The loop's invariant: `sum` is the number of the cells before column j, of which each weighs at most
 -- 16 to the 14th. The measure is what is left of n.
 use Prim.Native.Nat.{◌-◌, ◌≤◌}
-use native.Mathlib.Omega.{arith}
-use Rattle.general_search.proofs.CountLaws.{weight-most, Counted, counted_none, counted_next, counted-all}
+use Rattle.general_search.proofs.CountLaws.{Counted}
 use Rattle.general_search.proofs.terminal_search.counts.Given as goal
 
 abbrev pub invariant-loop-j : goal.invariant-loop-j

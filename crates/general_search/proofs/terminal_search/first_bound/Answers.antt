@@ -2,7 +2,6 @@
 use mathlib.Core.Path.{refl, sym}
 use mathlib.Core.Bool.{true≢false}
 use native.Mathlib.Omega.{arith}
-use borrow.Author.Rules.{rules}
 use Rattle.general_search.proofs.FirstRows.{first-bound}
 use Rattle.general_search.proofs.terminal_search.first_bound.Goals as goal
 

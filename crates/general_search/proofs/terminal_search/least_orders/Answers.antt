@@ -1,6 +1,5 @@
 -- `least_orders` meets its contract. The search starts from the identities, with no row placed, and with the bound by the counts.
 use native.Mathlib.Omega.{arith}
-use borrow.Author.Rules.{rules}
 use Rattle.permutations.specs.Lists.{tabulate}
 use Rattle.general_search.proofs.BoundLaws.{bound-placed}
 use Rattle.general_search.proofs.PlaceLaws.{placed-all, start, searched-least, outcome-least}

@@ -1,6 +1,5 @@
 -- `looks_ahead` is safe and ends: the loop's measure is what is left of 5.
 use Prim.Native.Nat.{◌-◌, ◌≤◌}
-use native.Mathlib.Omega.{arith}
 use Rattle.general_search.proofs.terminal_search.looks_ahead.Given as goal
 
 abbrev pub invariant-loop-t : goal.invariant-loop-t

@@ -1,13 +1,11 @@
-use mathlib.Core.Path.{◌≡◌, refl, ◌∙◌}
-use mathlib.Core.Logic.{⊎_elim}
-use Prim.Native.Nat.{◌-◌, ◌≤◌}
+use mathlib.Core.Path.{refl, ◌∙◌}
 use native.Mathlib.Omega.{arith}
-use lib.ListN.{length, get_or, length-set}
+use lib.ListN.{length-set}
 use Rattle.permutations.specs.Lists.{tabulate}
-use Rattle.general_search.specs.Counts.{MarksLess}
 use Rattle.general_search.proofs.BoundLaws.{none-marked}
 use Rattle.general_search.proofs.CountLaws.{marks-none, marks-one}
 use Rattle.general_search.proofs.terminal_search.marked.Goals as goal
+use Rattle.general_search.proofs.terminal_search.marked.Goals.{then-all-t, else-all-t}
 
 pub loop-t-init : goal.loop-t-init
 unfolding tabulate
@@ -17,9 +15,9 @@ pub loop-t-preserved : goal.loop-t-preserved
 loop-t-preserved c =
     let l = c.loop-t.invariant in (
       omega arith,
-      ⊎_elim (λ w. rw w.1 (length-set c.loop-t.above _ _ ∙ l.1)) (λ w. rw w.1 l.1) c.if-all-t.branch,
+      elim c.if-all-t.branch [ then-all-t w ↦ rw w.above-is (length-set c.loop-t.above _ _ ∙ l.1) | else-all-t w ↦ rw w.above-is l.1 ],
       refl,
-      ⊎_elim (λ w. rw w.1 (marks-one _ _ _ _ w.0.taken l.3)) (λ w. rw w.1 l.3) c.if-all-t.branch,
+      elim c.if-all-t.branch [ then-all-t w ↦ rw w.above-is (marks-one _ _ _ _ w.if-all-t.true l.3) | else-all-t w ↦ rw w.above-is l.3 ],
     )
 
 pub returns : goal.returns

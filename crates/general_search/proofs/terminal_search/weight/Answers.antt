@@ -1,5 +1,4 @@
 -- `weight` meets its contract: a power of 2 by a shift, and nothing from rank 15 on.
-use native.Mathlib.Omega.{arith}
 use Rattle.general_search.proofs.CountLaws.{weight-shifted, weight-none}
 use Rattle.general_search.proofs.terminal_search.weight.Goals as goal
 

@@ -1,0 +1,7 @@
+-- `head_laid` meets its contract.
+use borrow.Author.Rules.{rules}
+use Rattle.validation.proofs.Question5Laws.{head-decides}
+use Rattle.validation.proofs.question5.head_laid.Goals as goal
+
+pub returns : goal.returns
+returns c = head-decides _ _ _ c.write_head.ensures c.begins_with.ensures
