@@ -1,0 +1,15 @@
+-- `ask_terminal_same` meets its contract: a no by 14 comes first; else the questions are those of same.
+use mathlib.Core.Path.{sym, ◌∙◌}
+use borrow.Author.Tests.{not-true, not-false}
+use borrow.Author.Rules.{rules}
+use Rattle.grids.proofs.TerminalLaws.{after-yes, terminal-no}
+use Rattle.canonical.specs.Same.{same_questions, terminal_same_questions}
+use Rattle.canonical.proofs.asking.ask_terminal_same.Goals as goal
+
+pub returns-then-not-fits_terminal : goal.returns-then-not-fits_terminal
+unfolding terminal_same_questions same_questions
+returns-then-not-fits_terminal c = sym (terminal-no _ _ (sym c.fits_terminal.ensures ∙ not-true _ c.if-not-fits_terminal.true-raw))
+
+pub returns : goal.returns
+unfolding terminal_same_questions
+returns c = c.ask_same.ensures ∙ sym (after-yes _ _ (sym c.fits_terminal.ensures ∙ not-false _ c.if-not-fits_terminal.false-raw))
