@@ -1,0 +1,23 @@
+-- `halved` meets its contract: the entry in the middle says in which half the place is.
+use native.Mathlib.Omega.{arith}
+use lib.ListN.{length-map}
+use borrow.Author.Rules.{rules}
+use Rattle.grids.proofs.ComparisonLaws.{less-yes, less-no}
+use Rattle.layout.specs.Layout.{Entry, decode}
+use Rattle.calls.proofs.ValidLaws.{valid-ascends, valid-count}
+use Rattle.register.proofs.PlaceSteps.{halved-low, halved-high}
+use Rattle.register.proofs.places.halved.Goals as goal
+
+pub compare_entry-found-requires : goal.compare_entry-found-requires
+compare_entry-found-requires c =
+    (c.requires.0, omega (arith, c.requires.2, c.requires.1.within, length-map (decode c.args.register.now).entries (λ (x : Entry). x.grid), valid-count c.requires.0))
+
+pub returns-then-is_less : goal.returns-then-is_less
+returns-then-is_less c =
+    let d = c.compare_entry-found in
+    halved-low c.args.span (valid-ascends c.requires.0) c.requires.1 c.requires.2 (less-yes _ _ _ _ d.ensures c.is_less.ensures c.if-is_less.true)
+
+pub returns : goal.returns
+returns c =
+    let d = c.compare_entry-found in
+    halved-high c.args.span (valid-ascends c.requires.0) c.requires.1 c.requires.2 (less-no _ _ _ _ d.ensures c.is_less.ensures c.if-is_less.false)
