@@ -1,5 +1,5 @@
 // The whole run.
-ghost use Rattle.std.specs.Prelude.{◌≡◌};
+ghost use Rattle.std.specs.Prelude.{◌≡◌, ◌≤◌, ◌++◌, length, take, drop};
 ghost use Rattle.protocol.specs.Programs.{transcribed, transcribing};
 ghost use Rattle.transcript.specs.Runs.{Ran, Ready};
 
@@ -7,6 +7,14 @@ use crate::reports::Report;
 use crate::starts::Start;
 use crate::{answers, reports, starts};
 use register::opening;
+
+// Copies a slice over the first bytes of another.
+fn copy(from: &[u8], to: &mut [u8])
+    requires { length from.now ≤ length to.old }
+    ensures { to.new ≡ take (length from.now) from.now ++ drop (length from.now) to.old }
+{
+    to[..from.len()].copy_from_slice(from);
+}
 
 // Opens the register over all of a slice of its length, answers the command lines, and writes what is printed over the first bytes of
 // another slice. Returns how many bytes that is.
@@ -22,7 +30,7 @@ fn run(input: &[u8], start: Start, register: &mut [u8], out: &mut [u8]) -> usize
         register,
     );
     let printed = answers::answer_lines(input, start.rows, start.columns, start.top, register, out);
-    bytes::copy(register, &mut out[printed..]);
+    copy(register, &mut out[printed..]);
     printed + register.len()
 }
 
