@@ -4,9 +4,9 @@
 --   apart-all        ==  all rows tell the same number of pairs apart, in whichever order they are placed
 --   apart-settled    ==  rows that tell as many apart as all rows do have told what there is to tell: whichever rows come next, each column has the same number after it
 --   apart-is         ==  all rows placed: the sum is the number of pairs that are told apart
-use mathlib.Core.Path.{◌≡◌, refl, sym, ap, ap₂, ◌∙◌}
+use mathlib.Core.Path.{◌≡◌, refl, sym, ap, ◌∙◌}
 use mathlib.Core.List.{List}
-use mathlib.Core.Bool.{Bool, true, false}
+use mathlib.Core.Bool.{true, false}
 use mathlib.Core.Logic.{◌⊎◌, inl, inr}
 use Prim.Native.Nat.{ℕ, zero, suc, ◌+◌, ◌-◌, ◌≤◌, ◌<◌}
 use native.Mathlib.Decide.{dec_lt}
@@ -18,7 +18,7 @@ use Rattle.permutations.specs.Sums.{sum_to, indicator, count}
 use Rattle.permutations.proofs.BoolLaws.{refuted}
 use Rattle.permutations.proofs.ListLaws.{length-tabulate, at-tabulate, tabulate-ext}
 use Rattle.permutations.proofs.PermutationLaws.{listed, identity-permutation}
-use Rattle.permutations.proofs.SumLaws.{sum-zero, sum-next, sum-ext, sum-wider, sum-tail, sum-tight}
+use Rattle.permutations.proofs.SumLaws.{sum-ext, sum-wider, sum-tail, sum-tight}
 use Rattle.grids.specs.Order.{◌≼◌, ◌≺◌, less}
 use Rattle.grids.specs.Grids.{cell}
 use Rattle.grids.specs.Sorted.{permuted_column}

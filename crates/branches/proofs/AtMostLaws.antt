@@ -5,7 +5,7 @@
 --   at-most-counted        ==  the same of cells in any order, told of their sorted order
 --   at-most-all            ==  where every cell is at most v, all are counted
 --   block_at               ==  the same of a block
-use mathlib.Core.Path.{◌≡◌, refl, sym, ap, ◌∙◌}
+use mathlib.Core.Path.{◌≡◌, refl, ap}
 use mathlib.Core.List.{List}
 use mathlib.Core.Bool.{Bool, true, false}
 use mathlib.Core.Logic.{◌↔◌}

@@ -12,7 +12,6 @@ use lib.ListN.{length, get_or}
 use lib.Arith.{digits_lt}
 use borrow.Author.Tests.{eq-eqb, ne_eqb}
 use Rattle.grids.specs.Order.{rank}
-use Rattle.grids.specs.Grids.{cell}
 use Rattle.grids.proofs.OrderLaws.{rank-injective}
 use Rattle.branches.specs.Keys.{TwoValued, bit}
 

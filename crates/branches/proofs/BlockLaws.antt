@@ -14,13 +14,13 @@ use Rattle.permutations.proofs.ListLaws.{length-tabulate, at-tabulate, tabulate-
 use Rattle.permutations.proofs.PermutationLaws.{position-within}
 use Rattle.grids.specs.Grids.{cell, arrangement}
 use Rattle.grids.specs.Sorted.{permuted_column, Ascending}
-use Rattle.branches.specs.SortedRows.{columns_after, places_after, PlacesBy, Sorts, column_order}
+use Rattle.branches.specs.SortedRows.{columns_after, PlacesBy, Sorts, column_order}
 use Rattle.branches.specs.Keys.{level}
 use Rattle.branches.specs.Sifting.{SortedBlock, Ascends, BlockEnds, Starts}
 use Rattle.branches.proofs.LeadingRows.{leading-cells}
 use Rattle.branches.proofs.LevelLaws.{level-ascends}
 use Rattle.branches.proofs.SortedRows.{order-permutation, order-ascending, fewer-ascend, sorted-any}
-use Rattle.branches.proofs.RefinedLaws.{places-in, places-equal, places-are, sorts-ascending}
+use Rattle.branches.proofs.RefinedLaws.{places-equal, places-are, sorts-ascending}
 use Rattle.branches.proofs.KeyLaws.{places_is, after-room, same_block, block-after, row-ascends}
 
 module _ (k n : ℕ) (g p a q : List ℕ) (n16 : n ≤ 16) (by : PlacesBy k n g p a) (sorts : Sorts n a q) where

@@ -21,7 +21,7 @@ use Rattle.grids.proofs.OrderLaws.{≼-dec, ≼-antisymm}
 use Rattle.branches.proofs.LeadingRows.{leading-fewer, leading-row}
 use Rattle.branches.proofs.BranchLaws.{placed-stay}
 use Rattle.branches.specs.SortedRows.{columns_after, column_order, sorted_rows}
-use Rattle.branches.specs.Keys.{Small, TwoValued, bit, bit_key, digit_key, key, Valued}
+use Rattle.branches.specs.Keys.{Small, bit, bit_key, digit_key, key, Valued}
 use Rattle.branches.proofs.CountLaws.{count-ext}
 use Rattle.permutations.proofs.SumLaws.{sum-ext}
 use Rattle.branches.proofs.SortedRows.{order-permutation, order-ascending, sorted-fewer, sorted-agree, sorted-next, sorted-lower, columns-agree, order-agree}

@@ -4,7 +4,7 @@
 --   next-rows      ==  of two orders with the same rows placed, the levels of the next rows are in the order of the sorted rows
 --   sifted-within  ==  sifting leaves rows of those that are sifted
 --   sifted-next    ==  the rows that sifting leaves are those that give the least next row
-use mathlib.Core.Path.{◌≡◌, refl, sym, ap, ◌∙◌}
+use mathlib.Core.Path.{◌≡◌, sym, ap, ◌∙◌}
 use mathlib.Core.List.{List}
 use mathlib.Core.Logic.{◌↔◌}
 use Prim.Native.Nat.{ℕ, suc, ◌+◌, ◌-◌, ◌*◌, ◌≤◌, ◌<◌}
@@ -13,15 +13,15 @@ use native.Mathlib.Omega.{arith}
 use lib.ListN.{length, get_or, set}
 use lib.Seq.{get_or-set_same, get_or-set_other}
 use Rattle.permutations.specs.Lists.{tabulate}
-use Rattle.permutations.specs.Permutations.{IsPermutation, swapped}
+use Rattle.permutations.specs.Permutations.{swapped}
 use Rattle.permutations.specs.Padded.{IsPadded}
 use Rattle.permutations.proofs.SwapLaws.{at-whole, length_whole}
-use Rattle.grids.specs.Order.{rank, ◌≼◌}
+use Rattle.grids.specs.Order.{◌≼◌}
 use Rattle.grids.specs.Grids.{cell, permuted_row, arrangement}
 use Rattle.grids.specs.Sorted.{Ascending}
 use Rattle.grids.proofs.OrderLaws.{≼-dec, tabulate-at, tabulate-by-index}
 use Rattle.branches.specs.Branches.{IsNext}
-use Rattle.branches.specs.SortedRows.{places_after, PlacesBy, Sorts, column_order, sorted_rows}
+use Rattle.branches.specs.SortedRows.{PlacesBy, Sorts, column_order, sorted_rows}
 use Rattle.branches.specs.Keys.{level, Small, number, digit_key}
 use Rattle.branches.specs.Sifting.{NoLater, Leads, SortedBlock, Starts, Sifts}
 use Rattle.branches.proofs.LeadingRows.{leading-cells, leading-fewer, leading-lower}
@@ -29,7 +29,7 @@ use Rattle.branches.proofs.BranchLaws.{placed-stay, placed-next}
 use Rattle.branches.proofs.BitLaws.{cell-inside}
 use Rattle.branches.proofs.LevelLaws.{level-same, level-ascends, level-no-higher}
 use Rattle.branches.proofs.DigitLaws.{number-ext}
-use Rattle.branches.proofs.SortedRows.{order-permutation, order-ascending, order-agree, sorted-fewer, sorted-any, sorted-agree, sorted-lower}
+use Rattle.branches.proofs.SortedRows.{order-permutation, order-ascending, sorted-fewer, sorted-any, sorted-agree, sorted-lower}
 use Rattle.branches.proofs.RefinedLaws.{places-agree, sorts-ascending}
 use Rattle.branches.proofs.BlockLaws.{block-sorted}
 

@@ -2,19 +2,17 @@
 --
 --   places-sum  ==  of numbers that rise with the places, the sum is at most that of columns that are all told apart
 --   powers-fit  ==  so of the powers of 2
-use mathlib.Core.Path.{◌≡◌, refl, sym, ap, ◌∙◌}
+use mathlib.Core.Path.{◌≡◌, refl, ap}
 use mathlib.Core.List.{List}
-use Prim.Native.Nat.{ℕ, suc, ◌-◌, ◌^◌, ◌≤◌, ◌<◌}
-use native.Mathlib.Decide.{dec_lt}
+use Prim.Native.Nat.{ℕ, ◌-◌, ◌^◌, ◌≤◌, ◌<◌}
 use native.Mathlib.Omega.{arith}
 use lib.ListN.{get_or}
 use lib.Pow.{pow_mono}
 use Rattle.permutations.specs.Permutations.{IsPermutation}
-use Rattle.permutations.proofs.PermutationLaws.{listed}
 use Rattle.permutations.specs.Sums.{sum_to}
 use Rattle.branches.specs.SortedRows.{column_order}
 use Rattle.branches.specs.SortedRows.{PlacesBy, Places}
-use Rattle.permutations.proofs.SumLaws.{sum-wider, sum-tail, sum-tight, sum-permuted}
+use Rattle.permutations.proofs.SumLaws.{sum-wider, sum-tail, sum-permuted}
 use Rattle.branches.proofs.SortedRows.{order-permutation, order-ascending}
 use Rattle.branches.proofs.RefinedLaws.{places-are}
 use Rattle.branches.proofs.KeyLaws.{places_is, after-room}

@@ -14,7 +14,7 @@ use native.Mathlib.Decide.{ℕ_discrete, dec_le, dec_lt}
 use native.Mathlib.Nat.{not-suc-le-zero}
 use native.Mathlib.Omega.{arith}
 use Rattle.branches.specs.Sifting.{at_most, SortedBlock, NoLater, Leads, Threshold, sifted, Starts, Sifts}
-use Rattle.branches.proofs.AtMostLaws.{block_at, at-most-all}
+use Rattle.branches.proofs.AtMostLaws.{block_at}
 
 pub no-later-same : (p : ℕ) (f : ℕ → ℕ) → NoLater p f f
 unfolding NoLater

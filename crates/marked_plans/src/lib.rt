@@ -1,3 +1,2 @@
 // The marked plans M1 to M10: a table about the definitions, proved.
 #![tactic(auto)]
-

@@ -2,36 +2,30 @@
 // that are none.
 #![tactic(auto)]
 
-use libc::STDOUT_FILENO;
 use permutations::columns::{ColumnNumber, ColumnPermutation};
 use permutations::rows::{RowNumber, RowPermutation};
 use permutations::terminal_rows::TerminalRowPermutation;
+use std::io;
 
 // Prints a line: a label, and the numbers after it.
-fn print_numbers(label: &[u8], numbers: &[u8]) {
-    io::write_all(STDOUT_FILENO, label);
-    let mut i = 0;
-    while i < numbers.len() {
-        io::write_all(STDOUT_FILENO, b" ");
-        io::print_decimal(STDOUT_FILENO, numbers[i] as u64);
-        i += 1;
+fn print_numbers(rt: &impl Print, label: &str, numbers: &[u8]) -> io::Result<()> {
+    print!(rt; "{label}")?;
+    for number in numbers {
+        print!(rt; " {number}")?;
     }
-    io::write_all(STDOUT_FILENO, b"\n");
+    println!(rt; "")
 }
 
-fn print_rows(label: &[u8], p: RowPermutation) {
-    let numbers = p.bytes();
-    print_numbers(label, &numbers);
+fn print_rows(rt: &impl Print, label: &str, p: RowPermutation) -> io::Result<()> {
+    print_numbers(rt, label, &p.bytes())
 }
 
-fn print_terminal_rows(label: &[u8], p: TerminalRowPermutation) {
-    let numbers = p.bytes();
-    print_numbers(label, &numbers);
+fn print_terminal_rows(rt: &impl Print, label: &str, p: TerminalRowPermutation) -> io::Result<()> {
+    print_numbers(rt, label, &p.bytes())
 }
 
-fn print_columns(label: &[u8], q: ColumnPermutation) {
-    let numbers = q.bytes();
-    print_numbers(label, &numbers);
+fn print_columns(rt: &impl Print, label: &str, q: ColumnPermutation) -> io::Result<()> {
+    print_numbers(rt, label, &q.bytes())
 }
 
 fn rows(a: u8, b: u8, size: usize) -> RowPermutation {
@@ -52,49 +46,68 @@ fn columns(a: u8, b: u8, c: u8, size: usize) -> ColumnPermutation {
         .with(2, ColumnNumber(c))
 }
 
-fn main() {
+fn main(rt: HostRuntime) -> io::Result<()> {
+    let rt = &rt;
     let p = rows(1, 0, 2);
-    print_rows(b"P                       ", p);
-    print_rows(b"P inverse               ", p.inverse());
-    print_rows(b"P followed by P         ", p.composed(p));
-    print_rows(b"a row twice, inverse    ", rows(1, 1, 2).inverse());
-    print_rows(b"a row too large, inverse", rows(2, 0, 2).inverse());
-    print_rows(b"sizes that differ       ", p.composed(rows(1, 0, 3)));
+    print_rows(rt, "P                       ", p)?;
+    print_rows(rt, "P inverse               ", p.inverse())?;
+    print_rows(rt, "P followed by P         ", p.composed(p))?;
+    print_rows(rt, "a row twice, inverse    ", rows(1, 1, 2).inverse())?;
+    print_rows(rt, "a row too large, inverse", rows(2, 0, 2).inverse())?;
+    print_rows(rt, "sizes that differ       ", p.composed(rows(1, 0, 3)))?;
     let q = columns(2, 0, 1, 3);
-    print_columns(b"Q                       ", q);
-    print_columns(b"Q inverse               ", q.inverse());
-    print_columns(b"Q followed by Q         ", q.composed(q));
-    print_columns(b"Q followed by Q inverse ", q.composed(q.inverse()));
-    print_columns(b"Q, then 1 0 2           ", q.composed(columns(1, 0, 2, 3)));
-    print_columns(b"1 0 2, then Q           ", columns(1, 0, 2, 3).composed(q));
-    print_columns(b"size 17                 ", columns(2, 0, 1, 17).inverse());
+    print_columns(rt, "Q                       ", q)?;
+    print_columns(rt, "Q inverse               ", q.inverse())?;
+    print_columns(rt, "Q followed by Q         ", q.composed(q))?;
+    print_columns(rt, "Q followed by Q inverse ", q.composed(q.inverse()))?;
+    print_columns(
+        rt,
+        "Q, then 1 0 2           ",
+        q.composed(columns(1, 0, 2, 3)),
+    )?;
+    print_columns(
+        rt,
+        "1 0 2, then Q           ",
+        columns(1, 0, 2, 3).composed(q),
+    )?;
+    print_columns(
+        rt,
+        "size 17                 ",
+        columns(2, 0, 1, 17).inverse(),
+    )?;
     let t = terminal_rows(2, 0, 1, 3);
-    print_terminal_rows(b"T, at a terminal        ", t);
-    print_terminal_rows(b"T inverse               ", t.inverse());
-    print_terminal_rows(b"T followed by T         ", t.composed(t));
-    print_terminal_rows(b"T followed by T inverse ", t.composed(t.inverse()));
+    print_terminal_rows(rt, "T, at a terminal        ", t)?;
+    print_terminal_rows(rt, "T inverse               ", t.inverse())?;
+    print_terminal_rows(rt, "T followed by T         ", t.composed(t))?;
+    print_terminal_rows(rt, "T followed by T inverse ", t.composed(t.inverse()))?;
     print_terminal_rows(
-        b"T, then 1 0 2           ",
+        rt,
+        "T, then 1 0 2           ",
         t.composed(terminal_rows(1, 0, 2, 3)),
-    );
+    )?;
     print_terminal_rows(
-        b"sizes that differ       ",
+        rt,
+        "sizes that differ       ",
         t.composed(terminal_rows(2, 0, 1, 4)),
-    );
+    )?;
     print_terminal_rows(
-        b"a row too large, inverse",
+        rt,
+        "a row too large, inverse",
         terminal_rows(3, 0, 1, 3).inverse(),
-    );
+    )?;
     print_terminal_rows(
-        b"size 5, inverse         ",
+        rt,
+        "size 5, inverse         ",
         terminal_rows(2, 0, 1, 5).inverse(),
-    );
+    )?;
     print_terminal_rows(
-        b"size 6                  ",
+        rt,
+        "size 6                  ",
         terminal_rows(2, 0, 1, 6).inverse(),
-    );
+    )?;
     print_terminal_rows(
-        b"starting                ",
+        rt,
+        "starting                ",
         TerminalRowPermutation::identity(5),
-    );
+    )
 }

@@ -7,4 +7,4 @@ use Rattle.planbook.specs.declared.reading.Reading.TheVariants.{Whole, Failed}
 
 abbrev pub ReadWithin : Reading → List ℕ → Type 0
 ReadWithin (Whole n) l = n ≤ length l
-ReadWithin Failed l = Unit {0}
+ReadWithin (Failed e) l = Unit {0}

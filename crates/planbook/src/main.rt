@@ -7,10 +7,15 @@ mod waiting;
 mod writing;
 
 ghost use Rattle.std.specs.Prelude.{◌≡◌, true, ◌≤◌, length, take};
+ghost use Rattle.std.specs.Process.{exit_status};
 ghost use Rattle.protocol.specs.Transcript.{transcript};
 ghost use Rattle.protocol.specs.Programs.{has_room};
 
 use reading::{Reading, read_input};
+use std::alloc::{AllocError, Global};
+use std::io;
+use std::process::ExitCode;
+use std::time::Clock;
 use transcript::run;
 use writing::write_output;
 
@@ -19,6 +24,13 @@ fn input_buffer() -> [u8; 65537]
     ensures { 65537 ≡ length result }
 {
     [0; 65537]
+}
+
+// Room for the register.
+fn register_buffer() -> [u8; 65536]
+    ensures { 65536 ≡ length result }
+{
+    [0; 65536]
 }
 
 // Room for all that is printed.
@@ -36,23 +48,50 @@ fn print_into(input: &[u8], register: &mut [u8], out: &mut [u8]) -> usize
     run::transcribe(input, register, out)
 }
 
-// Writes what is printed for the input to standard output, or says why it cannot.
-fn print(input: &[u8]) {
-    let mut register = io::large_buffer();
-    let mut out = output_buffer();
-    let printed = print_into(input, &mut register, &mut out);
-    if !write_output(&out[..printed]) {
-        os::fail(b"planbook: standard output could not be written, what was printed is not whole");
+// The reason that the system gives for a failure, in words alone, without its number.
+fn reason(alloc: Global, error: io::Error) -> Result<String, AllocError> {
+    let text = format!(in alloc; "{error}")?;
+    match text.split_once(" (os error ") {
+        Some((words, _)) => String::from_str(alloc, words),
+        None => Ok(text),
     }
 }
 
-fn main() {
+// Says on standard error what failed, and why. Where that fails, there is nobody left to tell.
+fn fail(rt: &(impl Eprint + AllocGlobal), what: &str, error: io::Error) -> ExitCode
+    ensures { exit_status result ≡ 1 }
+{
+    let _ = match reason(rt.alloc(), error) {
+        Ok(why) => eprintln!(rt; "{what}: {why}"),
+        Err(_) => eprintln!(rt; "{what}: {error}"),
+    };
+    ExitCode::FAILURE
+}
+
+// Writes what is printed for the input to standard output, or says why it cannot.
+fn print(rt: &(impl Print + Eprint + Clock + AllocGlobal), input: &[u8]) -> ExitCode {
+    let mut register = register_buffer();
+    let mut out = output_buffer();
+    let printed = print_into(input, &mut register, &mut out);
+    match write_output(rt, &out[..printed]) {
+        Ok(()) => ExitCode::SUCCESS,
+        Err(error) => fail(
+            rt,
+            "planbook: standard output could not be written, what was printed is not whole",
+            error,
+        ),
+    }
+}
+
+fn main(rt: HostRuntime) -> ExitCode {
     let mut input = input_buffer();
-    let reading = read_input(&mut input);
+    let reading = read_input(&rt, &mut input);
     match reading {
-        Reading::Whole(got) => print(&input[..got]),
-        Reading::Failed => os::fail(
-            b"planbook: standard input could not be read, nothing is printed",
+        Reading::Whole(got) => print(&rt, &input[..got]),
+        Reading::Failed(error) => fail(
+            &rt,
+            "planbook: standard input could not be read, nothing is printed",
+            error,
         ),
     }
 }

@@ -1,26 +1,26 @@
 // Standard output, written whole.
 use crate::waiting::{TRIES, try_again};
-use libc::STDOUT_FILENO;
+use std::io;
+use std::io::{ErrorKind, Write};
+use std::time::Clock;
 
-// Writes all of a slice to standard output and returns true, or returns false where a write failed, and was not or no
-// longer to be made again.
-pub fn write_output(out: &[u8]) -> bool {
+// Writes all of a slice to standard output, or returns the error of a write that failed, and was not or no longer to be
+// made again.
+pub fn write_output(rt: &(impl Print + Clock), out: &[u8]) -> io::Result<()> {
+    let mut writer = io::writer(rt);
     let mut put = 0;
     let mut tries = TRIES;
     while put < out.len() {
-        let written = libc::write(STDOUT_FILENO, &out[put..]);
-        let more = io::count(written, &out[put..]);
-        if more > 0 {
-            put += more;
-            continue;
+        match writer.write(&out[put..]) {
+            Ok(0) => return Err(io::Error::new(ErrorKind::WriteZero, "nothing more was written")),
+            Ok(more) => put += more,
+            Err(error) => {
+                if tries == 0 || !try_again(rt, &error) {
+                    return Err(error);
+                }
+                tries -= 1;
+            }
         }
-        if tries == 0 {
-            return false;
-        }
-        if !try_again() {
-            return false;
-        }
-        tries -= 1;
     }
-    true
+    Ok(())
 }

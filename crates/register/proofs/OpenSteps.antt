@@ -26,7 +26,7 @@ use Rattle.grids.proofs.QuestionLaws.{first_no-pass, first_no-stop, first-no-sta
 use Rattle.layout.specs.Layout.{Shape, grid_size, head_length, line_length, line_start, head_line, blank_line, layout, layout_length, InLimits}
 use Rattle.layout.proofs.LineLaws.{start-zero, next_start, line-short}
 use Rattle.layout.proofs.MoveLaws.{Opened, opened-head-part, opened-next, opened-all}
-use Rattle.calls.specs.Calls.{answered, open_questions, opened, placed, shape}
+use Rattle.calls.specs.Calls.{answered, open_questions, opened, placed}
 use Rattle.calls.specs.Valid.{open_no}
 use Rattle.calls.proofs.AskedLaws.{number_questions, number-numbered, numbers-pass, open-pass}
 use Rattle.calls.proofs.LeastSteps.{answered-refusal}

@@ -10,11 +10,9 @@
 --   fresh-next, known_next  ==  so are they handed on: without a key, and with it, from the columns sorted with one of these rows placed
 --   first-after     ==  how many columns come after each with that row placed
 --   rest-without    ==  the rows left once one is placed
-use Rattle.std.proofs.Common.{◌≡◌, ℕ, suc, ◌+◌, ◌-◌, ◌*◌, ◌^◌, ◌<◌, ◌≤◌, Bool, true, false, ◌⊎◌, ◌↔◌, List, length, get_or, take, sym, refl, ap, ◌∙◌, inl, inr, true≢false, arith, get_or-take}
+use Rattle.std.proofs.Common.{◌≡◌, ℕ, suc, ◌+◌, ◌-◌, ◌*◌, ◌^◌, ◌<◌, ◌≤◌, Bool, true, false, ◌↔◌, List, length, get_or, sym, ap, ◌∙◌, true≢false, arith, get_or-take}
 use native.Mathlib.Decide.{ℕ_discrete, dec_lt}
-use Rattle.permutations.specs.Lists.{tabulate}
 use Rattle.permutations.specs.Permutations.{swapped}
-use Rattle.permutations.specs.Padded.{IsPadded}
 use Rattle.permutations.specs.Sums.{sum_to}
 use Rattle.permutations.proofs.ListLaws.{at-tabulate}
 use Rattle.permutations.proofs.SwapLaws.{at-whole, rest-whole, at-swapped, swapped_other, length_whole}
@@ -24,7 +22,7 @@ use Rattle.grids.specs.Grids.{cell}
 use Rattle.grids.proofs.OrderLaws.{≼_refl, ≺-≼, ≼-antisymm}
 use Rattle.branches.specs.Branches.{IsNext}
 use Rattle.branches.specs.SortedRows.{places_after, PlacesBy, After, Places, sorted_rows, Refined}
-use Rattle.branches.specs.Keys.{level, Small, number, bit, digit_key, key}
+use Rattle.branches.specs.Keys.{level, Small, number, bit, key}
 use Rattle.branches.specs.Sifting.{BlockEnds, Sifts}
 use Rattle.branches.proofs.BranchLaws.{placed-stay, placed-next}
 use Rattle.branches.proofs.BitLaws.{cell-inside}
@@ -38,7 +36,7 @@ use Rattle.branches.proofs.KeyedRows.{key-lower, key-same, same_key, rows-swappe
 use Rattle.search.specs.declared.node.Node.{Node}
 use Rattle.search.specs.declared.node.Candidates.{Candidates}
 use Rattle.search.specs.declared.found.Found.{Found}
-use Rattle.search.specs.RowSets.{lane, IsRowSet, HasRow, RowsFrom}
+use Rattle.search.specs.RowSets.{IsRowSet, HasRow, RowsFrom}
 use Rattle.search.specs.ColumnLists.{column_at, columns_of, Lists, end_of, levels_of}
 use Rattle.search.specs.Tables.{entry, RowKeys}
 use Rattle.search.specs.Keys.{RowsWithin, Lowest, WithKey}

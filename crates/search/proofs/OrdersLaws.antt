@@ -4,12 +4,12 @@
 --   rows-first      ==  the rows left at first: all
 --   listed-columns  ==  a list of the columns as a permutation
 --   searched-least  ==  what the search found from its start, with the columns sorted, is the least arrangement
-use Rattle.std.proofs.Common.{◌≡◌, ℕ, ◌-◌, ◌*◌, ◌<◌, ◌≤◌, Bool, true, false, ltb, ◌⊎◌, ◌↔◌, List, length, get_or, take, sym, refl, ap, ◌∙◌, inl, true≢false, not-suc-le-zero, arith, length-take-le, get_or-take, le-ltb, lt-ltb}
+use Rattle.std.proofs.Common.{◌≡◌, ℕ, ◌-◌, ◌*◌, ◌<◌, ◌≤◌, Bool, true, false, ltb, ◌↔◌, List, length, get_or, take, sym, ap, ◌∙◌, inl, true≢false, arith, length-take-le, get_or-take, le-ltb, lt-ltb}
 use native.Mathlib.Decide.{dec_lt}
 use Rattle.permutations.specs.declared.columns.ColumnPermutation.{ColumnPermutation}
 use Rattle.permutations.specs.Lists.{tabulate}
-use Rattle.permutations.specs.Permutations.{IsPermutation, identity}
-use Rattle.permutations.specs.Padded.{IsPadded, padded}
+use Rattle.permutations.specs.Permutations.{identity}
+use Rattle.permutations.specs.Padded.{padded}
 use Rattle.permutations.specs.Columns.{column_numbers, IsColumnPermutation, ListsColumns}
 use Rattle.permutations.proofs.ListLaws.{length-tabulate, at-tabulate, tabulate-is, tabulate-ext}
 use Rattle.permutations.proofs.PermutationLaws.{at-identity}

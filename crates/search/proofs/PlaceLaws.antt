@@ -11,7 +11,7 @@
 --   followed-back   ==  what is returned where the search goes back to where a symmetry began
 --   following-next  ==  past a row whose branch was searched
 --   followed-all    ==  at the end: the branch is searched
-use Rattle.std.proofs.Common.{◌≡◌, ℕ, suc, ◌+◌, ◌<◌, ◌≤◌, Bool, true, false, ◌⊎◌, List, length, get_or, take, set, sym, refl, ap, ◌∙◌, inl, inr, true≢false, arith, length-set, get_or-set_other, get_or-take, get_or-set_same}
+use Rattle.std.proofs.Common.{◌≡◌, ℕ, suc, ◌+◌, ◌<◌, ◌≤◌, Bool, true, false, ◌⊎◌, List, length, get_or, take, set, sym, refl, ap, ◌∙◌, inl, inr, true≢false, arith, get_or-set_other, get_or-take, get_or-set_same}
 use native.Mathlib.Decide.{ℕ_discrete, dec_lt}
 use Rattle.permutations.specs.declared.rows.RowNumber.{RowNumber}
 use Rattle.permutations.specs.Permutations.{swapped}
@@ -21,8 +21,8 @@ use Rattle.grids.specs.Order.{◌≼◌, ◌≺◌}
 use Rattle.grids.specs.Grids.{cell, arrangement}
 use Rattle.grids.proofs.OrderLaws.{≼_refl, ≼_trans, ≼-antisymm, ≼-dec}
 use Rattle.branches.specs.Branches.{Begins, Covers, Next, IsNext}
-use Rattle.branches.specs.SortedRows.{places_after, PlacesBy, column_order, sorted_rows, Refined, IsApart}
-use Rattle.branches.specs.Keys.{level, Small, key}
+use Rattle.branches.specs.SortedRows.{places_after, column_order, sorted_rows, Refined, IsApart}
+use Rattle.branches.specs.Keys.{Small, key}
 use Rattle.branches.proofs.BranchLaws.{covers-next, covers-agree, covers-lower, placed-stay, placed-next}
 use Rattle.branches.proofs.BranchSymmetry.{covers-alike}
 use Rattle.branches.proofs.LeadingRows.{leading-is}

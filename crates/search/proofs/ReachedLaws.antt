@@ -4,13 +4,12 @@
 --   reached-copy     ==  an arrangement that equals the best: where the two row orders part, and the symmetries known
 --   last-equal       ==  where one row is left and the best's last row is the least, the two arrangements are equal
 --   last-copy        ==  so that the branch is searched
-use Rattle.std.proofs.Common.{◌≡◌, ℕ, suc, ◌+◌, ◌<◌, ◌≤◌, Bool, true, false, ◌⊎◌, List, get_or, take, sym, refl, ap, ◌∙◌, inl, inr, true≢false, arith, get_or-take}
+use Rattle.std.proofs.Common.{◌≡◌, ℕ, suc, ◌+◌, ◌<◌, ◌≤◌, Bool, true, false, List, get_or, take, sym, refl, ap, ◌∙◌, inl, inr, true≢false, arith, get_or-take}
 use native.Mathlib.Decide.{ℕ_discrete}
 use Rattle.permutations.specs.declared.rows.RowNumber.{RowNumber}
 use Rattle.permutations.specs.Permutations.{swapped}
 use Rattle.permutations.specs.Padded.{IsPadded}
 use Rattle.permutations.specs.Sums.{sum_to}
-use Rattle.grids.specs.Order.{◌≼◌}
 use Rattle.grids.proofs.OrderLaws.{≼_refl}
 use Rattle.branches.specs.Branches.{Begins, Covers, IsNext}
 use Rattle.branches.specs.SortedRows.{PlacesBy, sorted_rows, IsApart}

@@ -6,13 +6,13 @@
 --   some_next       ==  the set of the rows that give the least next row is not empty
 --   keyed_at f k key ==  f with a key written at row k
 --   Begun           ==  all that holds before the loop, of what is found so far, whatever was the best before it
---   begun_kept, begun-written  ==  so it is: where no key is written, and where the next one is
+--   begun_kept, begun-written, begun-either  ==  so it is: where no key is written, where the next one is, and in either case
 --   begun-order, begun-equal, begun-copy  ==  where one row is left that makes no difference, the best's row order is one of all rows, the two arrangements are equal, and the branch is searched
 --   back_at f m      ==  f that goes back to m
 --   Turn            ==  all that holds before a turn of the loop, whatever was the best before it
 --   turn-row, turn-row-below  ==  the number of the row at position t, and that it is below 8
 --   turn-first, turn-skip, turn-stands, turn-back, turn-next, turn-all  ==  the steps of PlaceLaws, of a turn
-use Rattle.std.proofs.Common.{◌≡◌, ℕ, suc, ◌+◌, ◌<◌, ◌≤◌, Bool, true, false, not, List, get_or, set, sym, refl, ◌∙◌, true≢false, length-set}
+use Rattle.std.proofs.Common.{◌≡◌, ℕ, suc, ◌+◌, ◌<◌, ◌≤◌, Bool, true, false, not, ◌⊎◌, List, get_or, set, sym, refl, ◌∙◌, inl, inr, true≢false, length-set}
 use borrow.Author.Tests.{not-false}
 use Rattle.permutations.specs.declared.rows.RowNumber.{RowNumber}
 use Rattle.permutations.specs.Permutations.{swapped}
@@ -100,6 +100,10 @@ module _ {m n : ℕ} {g : List ℕ} {two : Bool} {low : ℕ} {y w x : List ℕ} 
     following = λ chosen. following-first s km c next chosen known b new (keyed_at before node.placed c.key) 0 ready e cuts uncut lowers refl refl refl refl refl refl refl
         (λ v. absurd (true≢false (sym (writes.0 z) ∙ v))) (λ v u. refl) (length-set before.keys node.placed c.key ∙ s.keys-size) (λ r. none-of-zero 0 r refl);
   }
+
+  pub begun-either : {now : Found} → ((written ≡ true) × (now ≡ keyed_at before node.placed c.key)) ⊎ ((written ≡ false) × (now ≡ before)) → Begun m n g two low y w x node c old new now
+  begun-either (inl h) = rw h.1 (begun-written h.0)
+  begun-either (inr h) = rw h.1 (begun_kept h.0)
 
 module _ {m n : ℕ} {g : List ℕ} {two : Bool} {low : ℕ} {y w x : List ℕ} {node : Node} {c : Candidates} {old : Found} {new : Bool} {now : Found} (h : Begun m n g two low y w x node c old new now) (one : node.placed + 1 ≡ m) (z : new ≡ false) where
   begun : Following m n g two low node.placed (rows_of node.rows) node.fresh h.before 0 node.placed false now 0

@@ -4,7 +4,7 @@
 --   at_most_one v x    ==  1 where x is at most v, else 0
 --   tally v w l i s k  ==  how many of the k columns from place s of the list l on have a level of at most v in row i
 --   LeadsTo s w i c rest r  ==  if rest has the rows that lead up to place s, r has those that lead for i places more of the sorted block
-use Rattle.std.specs.Prelude.{◌≡◌, ℕ, zero, suc, ◌+◌, ◌^◌, ◌<◌, ◌≤◌, true, false, ◌↔◌, List, nat_le}
+use Rattle.std.specs.Prelude.{ℕ, zero, suc, ◌+◌, ◌^◌, ◌<◌, ◌≤◌, true, false, ◌↔◌, List, nat_le}
 use Rattle.branches.specs.Sifting.{SortedBlock, Leads}
 use Rattle.search.specs.RowSets.{lane, HasRow}
 use Rattle.search.specs.ColumnLists.{levels_of}

@@ -26,7 +26,7 @@ use Rattle.permutations.proofs.ListLaws.{all_append}
 use Rattle.grids.specs.Order.{rank, leq, equal}
 use Rattle.grids.proofs.LentLaws.{small_word, is_slice, tested-bytes}
 use Rattle.layout.specs.Decimal.{lead, field, digit, value_from, value}
-use Rattle.layout.specs.Layout.{clients, fields, entry_width, line_length, entry_line, blank_line, head_line, layout, number_at, cells_of, holdings_of, holding, changed, count, entry_at, decode_shape, decode, laid_out}
+use Rattle.layout.specs.Layout.{clients, fields, entry_width, line_length, entry_line, blank_line, head_line, layout, number_at, cells_of, holdings_of, holding, count, entry_at, decode_shape, decode, laid_out}
 use Rattle.calls.specs.Entries.{holdings_in, held_by, insert}
 use Rattle.calls.specs.Calls.{Outcome, placed}
 use Rattle.machine.specs.CallLists.{Call, count_in, Implementation, LentCall, called}

@@ -31,7 +31,6 @@ use Rattle.turned_down.specs.Faults.{fault, Turned}
 use Rattle.turned_down.proofs.Differences.{unequal}
 use Rattle.turned_down.proofs.Plans.{m5, three, sending, fitting}
 use Rattle.turned_down.proofs.Represent.{handed-back}
-use Rattle.turned_down.proofs.RegisterCases.{zero}
 
 -- calls of 6 rows and too many columns, of 5 rows, and of 9
 

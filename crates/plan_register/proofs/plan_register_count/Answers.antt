@@ -1,5 +1,4 @@
 -- `plan_register_count` meets its contract: it exports count's answer.
-use borrow.Author.Rules.{rules}
 use Rattle.plan_register.proofs.plan_register_count.Goals as goal
 
 pub returns : goal.returns

@@ -1,5 +1,4 @@
 -- `plan_register_enter` meets its contract: it exports enter's answer.
-use borrow.Author.Rules.{rules}
 use Rattle.plan_register.proofs.plan_register_enter.Goals as goal
 
 pub returns : goal.returns

@@ -1,5 +1,4 @@
 -- `plan_register_open` meets its contract: it exports open's answer.
-use borrow.Author.Rules.{rules}
 use Rattle.plan_register.proofs.plan_register_open.Goals as goal
 
 pub returns : goal.returns

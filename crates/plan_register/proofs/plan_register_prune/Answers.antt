@@ -1,5 +1,4 @@
 -- `plan_register_prune` meets its contract: it exports prune's answer.
-use borrow.Author.Rules.{rules}
 use Rattle.plan_register.proofs.plan_register_prune.Goals as goal
 
 pub returns : goal.returns

@@ -1,5 +1,4 @@
 -- `plan_register_represent` meets its contract: it exports represent's answer.
-use borrow.Author.Rules.{rules}
 use Rattle.plan_register.proofs.plan_register_represent.Goals as goal
 
 pub returns : goal.returns

@@ -1,5 +1,4 @@
 -- `plan_register_same` meets its contract: it exports same's answer.
-use borrow.Author.Rules.{rules}
 use Rattle.plan_register.proofs.plan_register_same.Goals as goal
 
 pub returns : goal.returns

@@ -1,5 +1,4 @@
 -- `plan_register_strike` meets its contract: it exports strike's answer.
-use borrow.Author.Rules.{rules}
 use Rattle.plan_register.proofs.plan_register_strike.Goals as goal
 
 pub returns : goal.returns

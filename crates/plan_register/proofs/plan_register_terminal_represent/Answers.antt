@@ -1,5 +1,4 @@
 -- `plan_register_terminal_represent` meets its contract: it exports the answer of a terminal's represent.
-use borrow.Author.Rules.{rules}
 use Rattle.plan_register.proofs.plan_register_terminal_represent.Goals as goal
 
 pub returns : goal.returns

@@ -2,10 +2,8 @@
 use mathlib.Core.Path.{◌≡◌, sym, ◌∙◌}
 use mathlib.Core.List.{[], ◌∷◌}
 use mathlib.Core.Bool.{true}
-use native.Mathlib.Omega.{arith}
 use lib.ListN.{length}
 use borrow.Author.Tests.{not-true, not-false}
-use borrow.Author.Rules.{rules}
 use Rattle.grids.specs.Questions.{question7}
 use Rattle.grids.proofs.QuestionLaws.{two-capped, first-cells-no, second-cells-no}
 use Rattle.bounds.proofs.PruneSteps.{bounds-lengths-no, bounds-cells-no, bounds-order-no, bounds-yes}

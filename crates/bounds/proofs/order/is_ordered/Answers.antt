@@ -1,9 +1,6 @@
 use mathlib.Core.Path.{◌≡◌, sym, ◌∙◌}
-use Prim.Native.Nat.{◌≤◌, ◌-◌}
 use native.Mathlib.Omega.{arith}
-use borrow.Author.Rules.{rules}
 use lib.ListN.{length}
-use Rattle.bounds.specs.Prune.{question8}
 use Rattle.bounds.proofs.PruneSteps.{ordered-none, ordered-next}
 use Rattle.bounds.proofs.order.is_ordered.Goals as goal
 

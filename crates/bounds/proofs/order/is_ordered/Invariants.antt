@@ -1,12 +1,9 @@
 -- `is_ordered` meets its contract. The loop's invariant: `ordered` is the answer to question 8, asked of the cells before `k`.
 -- The measure is what is left of the length.
-use mathlib.Core.Path.{◌≡◌, sym, ◌∙◌}
+use mathlib.Core.Path.{◌≡◌}
 use Prim.Native.Nat.{◌≤◌, ◌-◌}
-use native.Mathlib.Omega.{arith}
-use borrow.Author.Rules.{rules}
 use lib.ListN.{length}
 use Rattle.bounds.specs.Prune.{question8}
-use Rattle.bounds.proofs.PruneSteps.{ordered-none, ordered-next}
 use Rattle.bounds.proofs.order.is_ordered.Given as goal
 
 abbrev pub invariant-loop-k : goal.invariant-loop-k

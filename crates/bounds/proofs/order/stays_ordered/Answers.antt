@@ -1,6 +1,5 @@
 -- `stays_ordered` meets its contract: the ranks decide.
 use native.Mathlib.Omega.{arith}
-use borrow.Author.Rules.{rules}
 use Rattle.grids.specs.Order.{rank}
 use Rattle.bounds.proofs.PruneSteps.{order-fails, order-holds}
 use Rattle.bounds.proofs.order.stays_ordered.Goals as goal

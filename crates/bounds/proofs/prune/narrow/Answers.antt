@@ -1,9 +1,7 @@
 use mathlib.Core.Path.{sym, ◌∙◌}
-use Prim.Native.Nat.{◌-◌}
 use native.Mathlib.Omega.{arith}
 use borrow.Author.Tests.{not-true, not-false}
-use borrow.Author.Rules.{rules}
-use Rattle.bounds.proofs.NarrowSteps.{Progress, row_fits, row-sizes, row-values, narrow-none, narrow_next, narrow-all, narrow-fails}
+use Rattle.bounds.proofs.NarrowSteps.{row_fits, row-sizes, row-values, narrow-none, narrow_next, narrow-all, narrow-fails}
 use Rattle.bounds.proofs.prune.narrow.Goals as goal
 
 pub copy_from_slice-requires : goal.copy_from_slice-requires

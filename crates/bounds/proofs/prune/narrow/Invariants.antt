@@ -1,10 +1,6 @@
 -- `narrow` meets its contract. The loop's invariant: the rows before row i are pruned with row 0. The measure is what is left of the rows.
-use mathlib.Core.Path.{sym, ◌∙◌}
 use Prim.Native.Nat.{◌-◌}
-use native.Mathlib.Omega.{arith}
-use borrow.Author.Tests.{not-true, not-false}
-use borrow.Author.Rules.{rules}
-use Rattle.bounds.proofs.NarrowSteps.{Progress, row_fits, row-sizes, row-values, narrow-none, narrow_next, narrow-all, narrow-fails}
+use Rattle.bounds.proofs.NarrowSteps.{Progress}
 use Rattle.bounds.proofs.prune.narrow.Given as goal
 
 abbrev pub invariant-loop-i : goal.invariant-loop-i

@@ -1,6 +1,6 @@
 -- `prune` meets its contract: a refusal has the number of the first no; past the questions the rows are narrowed in copies,
 -- and where some grid has allperm the copies are the new bounds.
-use mathlib.Core.Path.{◌≡◌, refl, sym, ◌∙◌}
+use mathlib.Core.Path.{◌≡◌, refl, sym}
 use mathlib.Core.List.{[]}
 use native.Mathlib.Omega.{arith}
 use borrow.Author.Tests.{not-true, not-false}

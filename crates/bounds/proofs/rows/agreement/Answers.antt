@@ -1,8 +1,4 @@
-use mathlib.Core.Path.{◌≡◌}
-use Prim.Native.Nat.{ℕ, ◌-◌, ◌≤◌, ◌<◌}
 use native.Mathlib.Omega.{arith}
-use lib.ListN.{length}
-use Rattle.bounds.specs.Rows.{cell_at}
 use Rattle.bounds.proofs.RowSteps.{agree-more}
 use Rattle.bounds.proofs.rows.agreement.Goals as goal
 

@@ -1,10 +1,8 @@
 -- `agreement` meets its contract. The loop's invariant: x and the sorted row agree from `from` up to `t`. The measure is what is left of the columns.
 use mathlib.Core.Path.{◌≡◌}
 use Prim.Native.Nat.{ℕ, ◌-◌, ◌≤◌, ◌<◌}
-use native.Mathlib.Omega.{arith}
 use lib.ListN.{length}
 use Rattle.bounds.specs.Rows.{cell_at}
-use Rattle.bounds.proofs.RowSteps.{agree-more}
 use Rattle.bounds.proofs.rows.agreement.Given as goal
 
 abbrev pub invariant-loop-t : goal.invariant-loop-t

@@ -1,6 +1,5 @@
 -- `cap` meets its contract: what follows the column where the rows part decides.
 use native.Mathlib.Omega.{arith}
-use borrow.Author.Rules.{rules}
 use Rattle.bounds.specs.Rows.{SaysNoLater}
 use Rattle.bounds.proofs.CapLaws.{cap-equal, cap-below}
 use Rattle.bounds.proofs.rows.cap.Goals as goal

@@ -1,7 +1,6 @@
 -- `higher` meets its contract: the ranks decide.
 use mathlib.Core.Path.{◌≡◌, refl}
 use native.Mathlib.Omega.{arith}
-use borrow.Author.Rules.{rules}
 use Rattle.bounds.proofs.CapLaws.{higher-all}
 use Rattle.bounds.proofs.rows.higher.Goals as goal
 

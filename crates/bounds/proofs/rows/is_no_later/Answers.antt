@@ -1,5 +1,4 @@
 -- `is_no_later` meets its contract: the first column where the rows differ decides.
-use borrow.Author.Rules.{rules}
 use Rattle.bounds.proofs.RowSteps.{agree-decided}
 use Rattle.bounds.proofs.rows.is_no_later.Goals as goal
 

@@ -1,7 +1,6 @@
 -- `low_for` meets its contract: the ranks of the high, the floor and the limit decide.
 use mathlib.Core.Path.{sym}
 use native.Mathlib.Omega.{arith}
-use borrow.Author.Rules.{rules}
 use Rattle.bounds.proofs.RowLowsLaws.{low_for-high, low_for-least, low_for-raised}
 use Rattle.bounds.proofs.rows.low_for.Goals as goal
 

@@ -1,7 +1,6 @@
 -- `lower` meets its contract: the ranks decide.
 use mathlib.Core.Path.{◌≡◌, refl}
 use native.Mathlib.Omega.{arith}
-use borrow.Author.Rules.{rules}
 use Rattle.bounds.proofs.CapLaws.{lower-all}
 use Rattle.bounds.proofs.rows.lower.Goals as goal
 

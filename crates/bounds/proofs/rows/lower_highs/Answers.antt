@@ -1,9 +1,7 @@
 use mathlib.Core.Path.{◌≡◌, ◌∙◌}
-use Prim.Native.Nat.{◌-◌, ◌≤◌}
 use native.Mathlib.Omega.{arith}
 use lib.ListN.{length-set}
-use borrow.Author.Rules.{rules}
-use Rattle.bounds.proofs.RowSteps.{LoweredTo, lowered_none, lowered-next, lowered-all, lowered-capped}
+use Rattle.bounds.proofs.RowSteps.{lowered_none, lowered-next, lowered-all, lowered-capped}
 use Rattle.bounds.proofs.rows.lower_highs.Goals as goal
 
 pub loop-c-init : goal.loop-c-init

@@ -1,10 +1,6 @@
 -- `lower_highs` meets its contract. The loop's invariant: before column `c` the highs have become the lows. The measure is what is left up to `at`.
-use mathlib.Core.Path.{◌≡◌, ◌∙◌}
 use Prim.Native.Nat.{◌-◌, ◌≤◌}
-use native.Mathlib.Omega.{arith}
-use lib.ListN.{length-set}
-use borrow.Author.Rules.{rules}
-use Rattle.bounds.proofs.RowSteps.{LoweredTo, lowered_none, lowered-next, lowered-all, lowered-capped}
+use Rattle.bounds.proofs.RowSteps.{LoweredTo}
 use Rattle.bounds.proofs.rows.lower_highs.Given as goal
 
 abbrev pub invariant-loop-c : goal.invariant-loop-c

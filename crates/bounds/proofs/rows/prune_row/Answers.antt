@@ -2,7 +2,6 @@
 use mathlib.Core.Path.{sym, ◌∙◌}
 use native.Mathlib.Omega.{arith}
 use borrow.Author.Tests.{not-true, not-false}
-use borrow.Author.Rules.{rules}
 use Rattle.bounds.proofs.RowSteps.{parted-at, sorted-within, row-none, row-pruned}
 use Rattle.bounds.proofs.rows.prune_row.Goals as goal
 

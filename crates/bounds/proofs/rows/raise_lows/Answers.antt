@@ -1,8 +1,7 @@
 use mathlib.Core.Path.{◌≡◌, ap, ◌∙◌}
-use Prim.Native.Nat.{ℕ, ◌-◌, ◌≤◌}
+use Prim.Native.Nat.{ℕ}
 use native.Mathlib.Omega.{arith}
 use lib.ListN.{length, length-set}
-use borrow.Author.Rules.{rules}
 use Rattle.bounds.specs.Rows.{cell_at, higher, RaisedTo}
 use Rattle.bounds.proofs.RowSteps.{raised-next}
 use Rattle.bounds.proofs.rows.raise_lows.Goals as goal

@@ -1,11 +1,8 @@
 -- `raise_lows` meets its contract. The loop's invariant: the new lows are written before column `c`. The measure is what is left of the columns.
-use mathlib.Core.Path.{◌≡◌, ap, ◌∙◌}
-use Prim.Native.Nat.{ℕ, ◌-◌, ◌≤◌}
-use native.Mathlib.Omega.{arith}
-use lib.ListN.{length, length-set}
-use borrow.Author.Rules.{rules}
-use Rattle.bounds.specs.Rows.{cell_at, higher, RaisedTo}
-use Rattle.bounds.proofs.RowSteps.{raised-next}
+use mathlib.Core.Path.{◌≡◌}
+use Prim.Native.Nat.{◌-◌, ◌≤◌}
+use lib.ListN.{length}
+use Rattle.bounds.specs.Rows.{cell_at, RaisedTo}
 use Rattle.bounds.proofs.rows.raise_lows.Given as goal
 
 abbrev pub invariant-loop-c : goal.invariant-loop-c

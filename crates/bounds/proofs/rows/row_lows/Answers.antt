@@ -2,7 +2,6 @@
 use Prim.Native.Nat.{◌<◌}
 use native.Mathlib.Omega.{arith}
 use lib.ListN.{length}
-use borrow.Author.Rules.{rules}
 use Rattle.bounds.specs.Rows.{SaysBelow, SaysUnder, SaysNoLater}
 use Rattle.bounds.proofs.RowSteps.{above_at}
 use Rattle.bounds.proofs.RowLowsLaws.{lows-last, lows-equal, lows-reached, lows-passed}

@@ -1,11 +1,8 @@
 use mathlib.Core.Path.{◌≡◌, ◌∙◌}
-use mathlib.Core.List.{List}
-use Prim.Native.Nat.{ℕ, ◌*◌, ◌-◌, ◌≤◌}
+use Prim.Native.Nat.{◌≤◌}
 use native.Mathlib.Omega.{arith}
 use lib.ListN.{length}
-use Rattle.bounds.specs.Narrowed.{Inside, removed_by}
 use Rattle.bounds.proofs.PruneSteps.{removed-at-first, span-falls, cell-removed}
-use Rattle.bounds.proofs.values.removed.Invariants.{SoFar}
 use Rattle.bounds.proofs.values.removed.Goals as goal
 use Rattle.bounds.proofs.values.removed.Goals.{After-span-in-loop-k}
 

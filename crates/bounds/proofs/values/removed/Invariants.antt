@@ -1,12 +1,10 @@
 -- `removed` meets its contract. The loop's invariant: the count is that of the cells before `k`, at most 16 for each.
 -- The measure is what is left of the length.
-use mathlib.Core.Path.{◌≡◌, ◌∙◌}
+use mathlib.Core.Path.{◌≡◌}
 use mathlib.Core.List.{List}
 use Prim.Native.Nat.{ℕ, ◌*◌, ◌-◌, ◌≤◌}
-use native.Mathlib.Omega.{arith}
 use lib.ListN.{length}
 use Rattle.bounds.specs.Narrowed.{Inside, removed_by}
-use Rattle.bounds.proofs.PruneSteps.{removed-at-first, span-falls, cell-removed}
 use Rattle.bounds.proofs.values.removed.Given as goal
 
 pub record SoFar (low high lows highs : List ℕ) (count k : ℕ) : Type 0 where

@@ -1,5 +1,4 @@
 -- `span` meets its contract: by number, the values from low to high are one more than their difference.
-use borrow.Author.Rules.{rules}
 use Rattle.bounds.proofs.PruneSteps.{span_counts}
 use Rattle.bounds.proofs.values.span.Goals as goal
 

@@ -1,7 +1,6 @@
 -- `ask_represent` meets its contract: each return has passed the questions before it.
 use mathlib.Core.Path.{refl, sym, ◌∙◌}
 use borrow.Author.Tests.{not-true, not-false}
-use borrow.Author.Rules.{rules}
 use Rattle.refusals.proofs.NumberLaws.{no-some, no-is, yes-is}
 use Rattle.grids.proofs.QuestionLaws.{shape-refuses, cells-refuse, one-capped, first-cells-no}
 use Rattle.canonical.specs.Represent.{represent_questions}

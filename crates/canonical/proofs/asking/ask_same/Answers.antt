@@ -2,7 +2,6 @@
 use mathlib.Core.Path.{refl, sym, ◌∙◌}
 use mathlib.Core.List.{[]}
 use borrow.Author.Tests.{not-true, not-false}
-use borrow.Author.Rules.{rules}
 use Rattle.refusals.proofs.NumberLaws.{no-some, no-is, yes-is}
 use Rattle.grids.specs.Questions.{first_no, question7}
 use Rattle.grids.proofs.QuestionLaws.{first_no-pass, first_no-stop, one-capped, first-cells-no}

@@ -1,7 +1,6 @@
 -- `ask_terminal_represent` meets its contract: a no by 14 comes first; else the questions are those of represent.
 use mathlib.Core.Path.{sym, ◌∙◌}
 use borrow.Author.Tests.{not-true, not-false}
-use borrow.Author.Rules.{rules}
 use Rattle.grids.proofs.TerminalLaws.{after-yes, terminal-no}
 use Rattle.canonical.specs.Represent.{represent_questions, terminal_represent_questions}
 use Rattle.canonical.proofs.asking.ask_terminal_represent.Goals as goal

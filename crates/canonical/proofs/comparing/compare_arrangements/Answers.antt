@@ -1,6 +1,5 @@
 -- `compare_arrangements` meets its contract: the two arrangements are written side by side, each at its array's beginning, and compared.
 use native.Mathlib.Omega.{arith}
-use borrow.Author.Rules.{rules}
 use Rattle.grids.proofs.QuestionLaws.{size_fits}
 use Rattle.canonical.proofs.CallSteps.{written-within, arrangements-compared}
 use Rattle.canonical.proofs.comparing.compare_arrangements.Goals as goal

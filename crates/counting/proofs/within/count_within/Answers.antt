@@ -1,9 +1,7 @@
 use mathlib.Core.Path.{refl}
-use Prim.Native.Nat.{◌-◌}
 use native.Mathlib.Omega.{arith}
-use borrow.Author.Rules.{rules}
 use Rattle.calls.proofs.ValidLaws.{valid-sizes}
-use Rattle.counting.proofs.CountLaws.{CountedBefore, parts-fit, bounds-ordered, counting-none, counting-room, counting-next, counting-all}
+use Rattle.counting.proofs.CountLaws.{parts-fit, bounds-ordered, counting-none, counting-room, counting-next, counting-all}
 use Rattle.counting.proofs.within.count_within.Goals as goal
 
 pub overflow_mul-width : goal.overflow_mul-width

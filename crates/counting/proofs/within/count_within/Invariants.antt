@@ -1,11 +1,7 @@
 -- `count_within` meets its contract. The loop's invariant: `found` is the count of the entries before entry `e`, whose line begins at `from`.
 -- The measure is what is left of the entries.
-use mathlib.Core.Path.{refl}
 use Prim.Native.Nat.{◌-◌}
-use native.Mathlib.Omega.{arith}
-use borrow.Author.Rules.{rules}
-use Rattle.calls.proofs.ValidLaws.{valid-sizes}
-use Rattle.counting.proofs.CountLaws.{CountedBefore, parts-fit, bounds-ordered, counting-none, counting-room, counting-next, counting-all}
+use Rattle.counting.proofs.CountLaws.{CountedBefore}
 use Rattle.counting.proofs.within.count_within.Given as goal
 
 abbrev pub invariant-loop-e : goal.invariant-loop-e

@@ -1,10 +1,7 @@
 use mathlib.Core.Path.{◌≡◌, ap, ◌∙◌}
-use Prim.Native.Nat.{◌≤◌, ◌-◌}
 use native.Mathlib.Omega.{arith}
-use borrow.Author.Rules.{rules}
 use lib.ListN.{length}
 use Rattle.lines.proofs.TableLaws.{length-put}
-use Rattle.counting.specs.Within.{BoundTables}
 use Rattle.counting.proofs.TableLaws.{tables-none, tables-next}
 use Rattle.counting.proofs.within.fill_tables.Goals as goal
 

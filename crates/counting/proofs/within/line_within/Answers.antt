@@ -1,9 +1,6 @@
-use Prim.Native.Nat.{◌≤◌, ◌-◌}
 use native.Mathlib.Omega.{arith}
-use borrow.Author.Rules.{rules}
 use lib.ListN.{length}
 use mathlib.Core.Path.{◌≡◌}
-use Rattle.counting.specs.Within.{LineOutcome}
 use Rattle.counting.proofs.PassLaws.{outcome-none, outcome-next}
 use Rattle.counting.proofs.within.line_within.Goals as goal
 

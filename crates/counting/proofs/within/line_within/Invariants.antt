@@ -1,11 +1,7 @@
 -- `line_within` meets its contract. The loop's invariant: `within` is the answer for the bytes before `k`. The measure is what is left of the line.
 use Prim.Native.Nat.{◌≤◌, ◌-◌}
-use native.Mathlib.Omega.{arith}
-use borrow.Author.Rules.{rules}
 use lib.ListN.{length}
-use mathlib.Core.Path.{◌≡◌}
 use Rattle.counting.specs.Within.{LineOutcome}
-use Rattle.counting.proofs.PassLaws.{outcome-none, outcome-next}
 use Rattle.counting.proofs.within.line_within.Given as goal
 
 abbrev pub invariant-loop-k : goal.invariant-loop-k

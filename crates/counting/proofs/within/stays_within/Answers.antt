@@ -1,6 +1,5 @@
 -- `stays_within` meets its contract, by those of its parts; the rank is a byte, since `rank` returns one.
 use native.Mathlib.Omega.{arith}
-use borrow.Author.Rules.{rules}
 use Rattle.counting.proofs.PassLaws.{passes-not, passes-yes, ranks-byte}
 use Rattle.counting.proofs.within.stays_within.Goals as goal
 

@@ -1,15 +1,11 @@
-use mathlib.Core.Path.{◌≡◌, sym, ap₂, ◌∙◌}
-use mathlib.Core.List.{map}
-use Prim.Native.Nat.{ℕ, ◌-◌}
+use mathlib.Core.Path.{sym, ap₂, ◌∙◌}
+use Prim.Native.Nat.{ℕ}
 use native.Mathlib.Omega.{arith}
-use borrow.Author.Rules.{rules}
-use lib.ListN.{length}
 use Rattle.permutations.specs.declared.columns.ColumnNumber.{ColumnNumber}
-use Rattle.permutations.specs.Rows.{row_numbers}
 use Rattle.permutations.specs.Columns.{column_number, column_numbers}
-use Rattle.permutations.proofs.ArrayLaws.{map-length, map_at}
+use Rattle.permutations.proofs.ArrayLaws.{map_at}
 use Rattle.grids.specs.Grids.{cell}
-use Rattle.grids.proofs.ArrangementSteps.{WrittenTo, written_none, written-cell, written_row, written_all, cell-index}
+use Rattle.grids.proofs.ArrangementSteps.{written_none, written-cell, written_row, written_all, cell-index}
 use Rattle.grids.proofs.arrangements.write_arrangement.Goals as goal
 
 pub loop-i-init : goal.loop-i-init

@@ -1,17 +1,12 @@
 -- `write_arrangement` meets its contract. The loops' invariant: the cells before column `j` of row `i` are the arrangement's.
 -- The measures are what is left of the rows, and of the columns. That the array has 16 elements is told by `.good`, of `columns`.
-use mathlib.Core.Path.{◌≡◌, sym, ap₂, ◌∙◌}
+use mathlib.Core.Path.{◌≡◌}
 use mathlib.Core.List.{map}
-use Prim.Native.Nat.{ℕ, ◌-◌}
-use native.Mathlib.Omega.{arith}
-use borrow.Author.Rules.{rules}
+use Prim.Native.Nat.{◌-◌}
 use lib.ListN.{length}
-use Rattle.permutations.specs.declared.columns.ColumnNumber.{ColumnNumber}
 use Rattle.permutations.specs.Rows.{row_numbers}
-use Rattle.permutations.specs.Columns.{column_number, column_numbers}
-use Rattle.permutations.proofs.ArrayLaws.{map-length, map_at}
-use Rattle.grids.specs.Grids.{cell}
-use Rattle.grids.proofs.ArrangementSteps.{WrittenTo, written_none, written-cell, written_row, written_all, cell-index}
+use Rattle.permutations.specs.Columns.{column_number}
+use Rattle.grids.proofs.ArrangementSteps.{WrittenTo}
 use Rattle.grids.proofs.arrangements.write_arrangement.Given as goal
 
 abbrev pub invariant-loop-j : goal.invariant-loop-j

@@ -1,6 +1,5 @@
 -- `compare_cells` meets its contract: the ranks of the two cells decide.
 use mathlib.Core.Path.{refl}
-use borrow.Author.Rules.{rules}
 use Rattle.grids.proofs.ComparisonSteps.{cell-rank, cells-less, cells-greater, cells-equal}
 use Rattle.grids.proofs.comparisons.compare_cells.Goals as goal
 

@@ -1,13 +1,7 @@
 use mathlib.Core.Path.{refl, sym, ◌∙◌}
-use Prim.Native.Nat.{◌-◌}
-use native.Mathlib.Omega.{arith}
-use borrow.Author.Rules.{rules}
 use borrow.Author.Tests.{not-true, not-false}
-use lib.ListN.{get_or}
-use Rattle.permutations.specs.Rows.{row_numbers}
 use Rattle.grids.specs.Sorted.{part_of_column}
-use Rattle.grids.specs.Grids.{cell}
-use Rattle.grids.proofs.ComparisonSteps.{cells_at, LeftFrom, left-decided, left_passed, left-equal}
+use Rattle.grids.proofs.ComparisonSteps.{cells_at, left-decided, left_passed, left-equal}
 use Rattle.grids.proofs.comparisons.compare_columns.Goals as goal
 
 pub loop-i-init : goal.loop-i-init

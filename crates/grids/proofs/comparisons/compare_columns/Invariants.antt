@@ -1,15 +1,11 @@
 -- `compare_columns` meets its contract. The loop's invariant: what is left of the two columns from row position `i` on decides.
 -- The measure is what is left of `to`.
-use mathlib.Core.Path.{refl, sym, ◌∙◌}
 use Prim.Native.Nat.{◌-◌}
-use native.Mathlib.Omega.{arith}
-use borrow.Author.Rules.{rules}
-use borrow.Author.Tests.{not-true, not-false}
 use lib.ListN.{get_or}
 use Rattle.permutations.specs.Rows.{row_numbers}
 use Rattle.grids.specs.Sorted.{part_of_column}
 use Rattle.grids.specs.Grids.{cell}
-use Rattle.grids.proofs.ComparisonSteps.{cells_at, LeftFrom, left-decided, left_passed, left-equal}
+use Rattle.grids.proofs.ComparisonSteps.{LeftFrom}
 use Rattle.grids.proofs.comparisons.compare_columns.Given as goal
 
 abbrev pub invariant-loop-i : goal.invariant-loop-i

@@ -1,8 +1,5 @@
-use Prim.Native.Nat.{◌-◌}
 use native.Mathlib.Omega.{arith}
-use borrow.Author.Rules.{rules}
-use lib.ListN.{length}
-use Rattle.grids.proofs.ComparisonSteps.{Passed, passed_none, passed-less, passed-greater, passed-same, passed-equal, passed-shorter, passed-longer}
+use Rattle.grids.proofs.ComparisonSteps.{passed_none, passed-less, passed-greater, passed-same, passed-equal, passed-shorter, passed-longer}
 use Rattle.grids.proofs.comparisons.compare_grids.Goals as goal
 
 pub loop-i-init : goal.loop-i-init

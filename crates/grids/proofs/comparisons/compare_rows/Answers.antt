@@ -1,24 +1,19 @@
-use mathlib.Core.Path.{◌≡◌, refl}
-use mathlib.Core.List.{map}
-use Prim.Native.Nat.{◌-◌}
+use mathlib.Core.Path.{refl}
 use native.Mathlib.Omega.{arith}
-use borrow.Author.Rules.{rules}
-use lib.ListN.{length, get_or}
 use Rattle.permutations.specs.declared.columns.ColumnNumber.{ColumnNumber}
 use Rattle.permutations.specs.Columns.{column_number, column_numbers}
-use Rattle.permutations.proofs.ArrayLaws.{map-length, map_at}
-use Rattle.grids.specs.Grids.{cell, permuted_row}
-use Rattle.grids.proofs.ComparisonSteps.{cell-rank, LeftFrom, left-tabulated, left_less, left-greater, left-same, left-equal}
+use Rattle.permutations.proofs.ArrayLaws.{map_at}
+use Rattle.grids.specs.Grids.{permuted_row}
+use Rattle.grids.proofs.ComparisonSteps.{cell-rank, left-tabulated, left_less, left-greater, left-same, left-equal}
 use Rattle.grids.proofs.comparisons.compare_rows.Goals as goal
 
 pub loop-j-init : goal.loop-j-init
 unfolding permuted_row
-loop-j-init c =
-    (
-      c.well_formed.1.1.1.0.1.1.0.1.0.1,
-      c.well_formed.1.1.1.1.1.0.1.1.0.1.0.1,
-      left-tabulated _ _ _ _,
-    )
+loop-j-init c = (
+  c.well_formed.1.1.1.0.1.1.0.1.0.1,
+  c.well_formed.1.1.1.1.1.0.1.1.0.1.0.1,
+  left-tabulated _ _ _ _,
+)
 
 pub returns-then-x-y : goal.returns-then-x-y
 unfolding column_numbers

@@ -1,16 +1,12 @@
 -- `compare_rows` meets its contract. The loop's invariant: what is left of the two rows from `j` on decides.
 -- The measure is what is left of `n`. That each array has 16 elements is told by `.good`, of the two permutations.
-use mathlib.Core.Path.{◌≡◌, refl}
+use mathlib.Core.Path.{◌≡◌}
 use mathlib.Core.List.{map}
 use Prim.Native.Nat.{◌-◌}
-use native.Mathlib.Omega.{arith}
-use borrow.Author.Rules.{rules}
 use lib.ListN.{length, get_or}
-use Rattle.permutations.specs.declared.columns.ColumnNumber.{ColumnNumber}
-use Rattle.permutations.specs.Columns.{column_number, column_numbers}
-use Rattle.permutations.proofs.ArrayLaws.{map-length, map_at}
+use Rattle.permutations.specs.Columns.{column_number}
 use Rattle.grids.specs.Grids.{cell, permuted_row}
-use Rattle.grids.proofs.ComparisonSteps.{cell-rank, LeftFrom, left-tabulated, left_less, left-greater, left-same, left-equal}
+use Rattle.grids.proofs.ComparisonSteps.{LeftFrom}
 use Rattle.grids.proofs.comparisons.compare_rows.Given as goal
 
 abbrev pub invariant-loop-j : goal.invariant-loop-j

@@ -1,6 +1,5 @@
 -- `ask_numbers` meets its contract: the first no of questions 1 to 3, or else that of the capacity.
 use native.Mathlib.Omega.{arith}
-use borrow.Author.Rules.{rules}
 use Rattle.refusals.proofs.NumberLaws.{no-some, no-is, yes-is}
 use Rattle.grids.proofs.QuestionSteps.{numbers-limits, capacity-no, numbers-yes}
 use Rattle.grids.proofs.questions.ask_numbers.Goals as goal

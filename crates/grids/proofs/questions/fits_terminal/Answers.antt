@@ -1,7 +1,6 @@
 -- `fits_terminal` meets its contract: rows below 6, and rows above 8, get a yes.
 use mathlib.Core.Path.{sym}
 use native.Mathlib.Omega.{arith}
-use borrow.Author.Rules.{rules}
 use Rattle.grids.proofs.TerminalLaws.{few-rows, rows_above}
 use Rattle.grids.proofs.questions.fits_terminal.Goals as goal
 

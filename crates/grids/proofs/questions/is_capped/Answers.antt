@@ -1,9 +1,7 @@
 use mathlib.Core.Path.{◌≡◌}
-use Prim.Native.Nat.{◌≤◌, ◌<◌, ◌-◌}
 use native.Mathlib.Omega.{arith}
-use borrow.Author.Rules.{rules}
 use lib.ListN.{length}
-use Rattle.grids.proofs.QuestionSteps.{Greatest, greatest-none, greatest-next, greatest-capped}
+use Rattle.grids.proofs.QuestionSteps.{greatest-none, greatest-next, greatest-capped}
 use Rattle.grids.proofs.questions.is_capped.Goals as goal
 
 pub loop-i-init : goal.loop-i-init

@@ -1,11 +1,8 @@
 -- `is_capped` meets its contract. The loop's invariant: `greatest` is the greatest of the cells before `i`.
 -- The measure is what is left of the length.
-use mathlib.Core.Path.{◌≡◌}
 use Prim.Native.Nat.{◌≤◌, ◌<◌, ◌-◌}
-use native.Mathlib.Omega.{arith}
-use borrow.Author.Rules.{rules}
 use lib.ListN.{length}
-use Rattle.grids.proofs.QuestionSteps.{Greatest, greatest-none, greatest-next, greatest-capped}
+use Rattle.grids.proofs.QuestionSteps.{Greatest}
 use Rattle.grids.proofs.questions.is_capped.Given as goal
 
 abbrev pub invariant-loop-i : goal.invariant-loop-i

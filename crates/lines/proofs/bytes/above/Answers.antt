@@ -1,5 +1,5 @@
 -- `above` meets its contract.
-use Rattle.std.proofs.Common.{arith, rules}
+use Rattle.std.proofs.Common.{arith}
 use Rattle.lines.proofs.ByteLaws.{above-is}
 use Rattle.lines.proofs.bytes.above.Goals as goal
 

@@ -1,5 +1,4 @@
 -- `stated` meets its contract, by those of its parts.
-use Rattle.std.proofs.Common.{rules}
 use Rattle.lines.proofs.ByteLaws.{stated-is}
 use Rattle.lines.proofs.bytes.stated.Goals as goal
 

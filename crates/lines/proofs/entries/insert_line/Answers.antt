@@ -1,5 +1,5 @@
 -- `insert_line` meets its contract.
-use Rattle.std.proofs.Common.{length, arith, rules}
+use Rattle.std.proofs.Common.{length, arith}
 use Rattle.layout.specs.Layout.{line_length, entry_line}
 use Rattle.layout.specs.Lines.{first_entry}
 use Rattle.lines.proofs.LineLaws.{inserted}

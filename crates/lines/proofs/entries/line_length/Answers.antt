@@ -1,5 +1,5 @@
 -- `line_length` meets its contract.
-use Rattle.std.proofs.Common.{arith, rules}
+use Rattle.std.proofs.Common.{arith}
 use Rattle.layout.specs.Layout.{entry_width, line_length}
 use Rattle.lines.proofs.entries.line_length.Goals as goal
 

@@ -1,5 +1,5 @@
-use Rattle.std.proofs.Common.{◌-◌, arith}
-use Rattle.lines.proofs.LineLaws.{MovedBack, back_none, back-next, back-all}
+use Rattle.std.proofs.Common.{arith}
+use Rattle.lines.proofs.LineLaws.{back_none, back-next, back-all}
 use Rattle.lines.proofs.entries.move_back.Goals as goal
 
 pub loop-k-init : goal.loop-k-init

@@ -1,6 +1,6 @@
 -- `move_back` meets its contract. The loop's invariant: the first `k` bytes are moved. The measure is what is left of them.
-use Rattle.std.proofs.Common.{◌-◌, arith}
-use Rattle.lines.proofs.LineLaws.{MovedBack, back_none, back-next, back-all}
+use Rattle.std.proofs.Common.{◌-◌}
+use Rattle.lines.proofs.LineLaws.{MovedBack}
 use Rattle.lines.proofs.entries.move_back.Given as goal
 
 abbrev pub invariant-loop-k : goal.invariant-loop-k

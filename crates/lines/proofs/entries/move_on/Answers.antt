@@ -1,5 +1,5 @@
 use Rattle.std.proofs.Common.{arith}
-use Rattle.lines.proofs.LineLaws.{MovedOn, on_none, on-next, on-all}
+use Rattle.lines.proofs.LineLaws.{on_none, on-next, on-all}
 use Rattle.lines.proofs.entries.move_on.Goals as goal
 
 pub loop-k-init : goal.loop-k-init

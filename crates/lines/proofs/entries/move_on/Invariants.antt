@@ -1,6 +1,5 @@
 -- `move_on` meets its contract. The loop's invariant: the bytes from `k` on are moved. The measure is `k`.
-use Rattle.std.proofs.Common.{arith}
-use Rattle.lines.proofs.LineLaws.{MovedOn, on_none, on-next, on-all}
+use Rattle.lines.proofs.LineLaws.{MovedOn}
 use Rattle.lines.proofs.entries.move_on.Given as goal
 
 abbrev pub invariant-loop-k : goal.invariant-loop-k

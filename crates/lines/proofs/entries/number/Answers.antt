@@ -1,5 +1,5 @@
 -- `number` meets its contract.
-use Rattle.std.proofs.Common.{arith, rules}
+use Rattle.std.proofs.Common.{arith}
 use Rattle.lines.proofs.FirstLaws.{first_cell, first_one, first-none}
 use Rattle.lines.proofs.entries.number.Goals as goal
 

@@ -1,6 +1,6 @@
-use Rattle.std.proofs.Common.{◌-◌, length, arith}
+use Rattle.std.proofs.Common.{length, arith}
 use Rattle.layout.proofs.LineLaws.{cells-inside}
-use Rattle.lines.proofs.LineLaws.{length-line, cell-small, ReadTo, read_none, read_next, read_all}
+use Rattle.lines.proofs.LineLaws.{length-line, cell-small, read_none, read_next, read_all}
 use Rattle.lines.proofs.entries.read_line.Goals as goal
 
 pub loop-k-init : goal.loop-k-init

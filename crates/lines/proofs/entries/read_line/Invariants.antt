@@ -1,7 +1,6 @@
 -- `read_line` meets its contract. The loop's invariant: the first `k` cells are read. The measure is what is left of the cells.
-use Rattle.std.proofs.Common.{◌-◌, length, arith}
-use Rattle.layout.proofs.LineLaws.{cells-inside}
-use Rattle.lines.proofs.LineLaws.{length-line, cell-small, ReadTo, read_none, read_next, read_all}
+use Rattle.std.proofs.Common.{◌-◌, length}
+use Rattle.lines.proofs.LineLaws.{ReadTo}
 use Rattle.lines.proofs.entries.read_line.Given as goal
 
 abbrev pub invariant-loop-k : goal.invariant-loop-k

@@ -1,5 +1,4 @@
 -- `remove_line` meets its contract.
-use Rattle.std.proofs.Common.{rules}
 use Rattle.layout.specs.Layout.{line_length, blank_line}
 use Rattle.lines.proofs.LineLaws.{removed}
 use Rattle.lines.proofs.entries.remove_line.Goals as goal

@@ -1,6 +1,6 @@
-use Rattle.std.proofs.Common.{◌≡◌, ◌-◌, ◌≤◌, arith, length-set}
+use Rattle.std.proofs.Common.{◌≡◌, ◌-◌, arith, length-set}
 use Rattle.layout.specs.Layout.{line_length}
-use Rattle.lines.proofs.LineLaws.{BlankTo, blank_none, blank-next, blank-all}
+use Rattle.lines.proofs.LineLaws.{blank_none, blank-next, blank-all}
 use Rattle.lines.proofs.entries.write_blank.Goals as goal
 
 pub overflow_sub-end : goal.overflow_sub-end

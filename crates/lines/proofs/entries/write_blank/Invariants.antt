@@ -1,7 +1,6 @@
 -- `write_blank` meets its contract. The loop's invariant: the first `k` bytes are spaces. The measure is what is left of the line's spaces.
-use Rattle.std.proofs.Common.{◌≡◌, ◌-◌, ◌≤◌, arith, length-set}
-use Rattle.layout.specs.Layout.{line_length}
-use Rattle.lines.proofs.LineLaws.{BlankTo, blank_none, blank-next, blank-all}
+use Rattle.std.proofs.Common.{◌-◌, ◌≤◌}
+use Rattle.lines.proofs.LineLaws.{BlankTo}
 use Rattle.lines.proofs.entries.write_blank.Given as goal
 
 abbrev pub invariant-loop-k : goal.invariant-loop-k

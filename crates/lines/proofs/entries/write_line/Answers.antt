@@ -1,9 +1,9 @@
-use Rattle.std.proofs.Common.{◌-◌, ◌++◌, arith, length-set}
-use Rattle.layout.specs.Layout.{no_holdings, changed, entry_width, line_length}
+use Rattle.std.proofs.Common.{arith, length-set}
+use Rattle.layout.specs.Layout.{entry_width, line_length}
 use Rattle.layout.specs.Lines.{first_entry}
 use Rattle.layout.proofs.HoldingLaws.{first-fitted}
 use Rattle.lines.proofs.FirstLaws.{length-first}
-use Rattle.lines.proofs.LineLaws.{EntryTo, entry-none, entry_next, entry-all}
+use Rattle.lines.proofs.LineLaws.{entry-none, entry_next, entry-all}
 use Rattle.lines.proofs.entries.write_line.Goals as goal
 
 pub loop-k-init : goal.loop-k-init

@@ -1,10 +1,7 @@
 -- `write_line` meets its contract. The loop's invariant: the fields of the first `k` numbers are written. The measure is what is left of the numbers.
-use Rattle.std.proofs.Common.{◌-◌, ◌++◌, arith, length-set}
-use Rattle.layout.specs.Layout.{no_holdings, changed, entry_width, line_length}
-use Rattle.layout.specs.Lines.{first_entry}
-use Rattle.layout.proofs.HoldingLaws.{first-fitted}
-use Rattle.lines.proofs.FirstLaws.{length-first}
-use Rattle.lines.proofs.LineLaws.{EntryTo, entry-none, entry_next, entry-all}
+use Rattle.std.proofs.Common.{◌-◌, ◌++◌}
+use Rattle.layout.specs.Layout.{no_holdings, changed}
+use Rattle.lines.proofs.LineLaws.{EntryTo}
 use Rattle.lines.proofs.entries.write_line.Given as goal
 
 abbrev pub invariant-loop-k : goal.invariant-loop-k

@@ -1,5 +1,5 @@
-use Rattle.std.proofs.Common.{◌-◌, ◌≤◌, true, length, get_or, arith, rules}
-use Rattle.lines.proofs.EqualityLaws.{EqualTo, equal-none, equal_next, equal-start}
+use Rattle.std.proofs.Common.{arith}
+use Rattle.lines.proofs.EqualityLaws.{equal-none, equal_next, equal-start}
 use Rattle.lines.proofs.equality.begins_with.Goals as goal
 
 pub loop-k-init : goal.loop-k-init

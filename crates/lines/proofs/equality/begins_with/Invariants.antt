@@ -1,7 +1,7 @@
 -- `begins_with` meets its contract. The loop's invariant: `equal` says whether the first `k` bytes are equal.
 -- The measure is what is left of the start.
-use Rattle.std.proofs.Common.{◌-◌, ◌≤◌, true, length, get_or, arith, rules}
-use Rattle.lines.proofs.EqualityLaws.{EqualTo, equal-none, equal_next, equal-start}
+use Rattle.std.proofs.Common.{◌-◌, ◌≤◌, true, length, get_or}
+use Rattle.lines.proofs.EqualityLaws.{EqualTo}
 use Rattle.lines.proofs.equality.begins_with.Given as goal
 
 abbrev pub invariant-loop-k : goal.invariant-loop-k

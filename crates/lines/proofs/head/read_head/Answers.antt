@@ -1,5 +1,4 @@
 -- `read_head` meets its contract.
-use Rattle.std.proofs.Common.{arith}
 use Rattle.layout.specs.Layout.{count, decode_shape}
 use Rattle.lines.proofs.head.read_head.Goals as goal
 

@@ -1,5 +1,4 @@
 -- `write_field` meets its contract: the six bytes are lent to the writer of a number.
-use Rattle.std.proofs.Common.{rules}
 use Rattle.lines.proofs.HeadLaws.{field-written}
 use Rattle.lines.proofs.head.write_field.Goals as goal
 

@@ -1,5 +1,5 @@
 -- `write_head` meets its contract: each field is written behind the one before it.
-use Rattle.std.proofs.Common.{length, sym, ap, ◌∙◌, rules}
+use Rattle.std.proofs.Common.{length, sym, ap, ◌∙◌}
 use Rattle.layout.proofs.LayoutLaws.{length-head}
 use Rattle.lines.specs.Head.{shape_of}
 use Rattle.lines.proofs.HeadLaws.{head-written}

@@ -1,5 +1,5 @@
 -- `holding_after` meets its contract.
-use Rattle.std.proofs.Common.{arith, rules}
+use Rattle.std.proofs.Common.{arith}
 use Rattle.layout.specs.Layout.{holdings_of}
 use Rattle.lines.proofs.HoldingLaws.{after-own, after-other}
 use Rattle.lines.proofs.holdings.holding_after.Goals as goal

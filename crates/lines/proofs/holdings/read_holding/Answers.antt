@@ -1,5 +1,5 @@
 -- `read_holding` meets its contract.
-use Rattle.std.proofs.Common.{arith, rules}
+use Rattle.std.proofs.Common.{arith}
 use Rattle.lines.proofs.HoldingLaws.{holding-inside, holding-stated}
 use Rattle.lines.proofs.holdings.read_holding.Goals as goal
 

@@ -1,6 +1,6 @@
-use Rattle.std.proofs.Common.{◌-◌, ◌≤◌, arith}
+use Rattle.std.proofs.Common.{arith}
 use Rattle.layout.specs.Layout.{holdings_of, changed}
-use Rattle.lines.proofs.HoldingLaws.{length-after, NoneTo, none_first, none-next, none-all, one-held}
+use Rattle.lines.proofs.HoldingLaws.{length-after, none_first, none-next, none-all, one-held}
 use Rattle.lines.proofs.holdings.still_held.Goals as goal
 
 pub loop-other-init : goal.loop-other-init

@@ -1,7 +1,7 @@
 -- `still_held` meets its contract. The loop's invariant: no client before `other` holds anything. The measure is how many are left.
-use Rattle.std.proofs.Common.{◌-◌, ◌≤◌, arith}
+use Rattle.std.proofs.Common.{◌-◌, ◌≤◌}
 use Rattle.layout.specs.Layout.{holdings_of, changed}
-use Rattle.lines.proofs.HoldingLaws.{length-after, NoneTo, none_first, none-next, none-all, one-held}
+use Rattle.lines.proofs.HoldingLaws.{NoneTo}
 use Rattle.lines.proofs.holdings.still_held.Given as goal
 
 abbrev pub invariant-loop-other : goal.invariant-loop-other

@@ -1,5 +1,5 @@
 -- `write_holding` meets its contract: the holding's bytes are lent to the writer of a number.
-use Rattle.std.proofs.Common.{◌+◌, ◌-◌, ◌*◌, arith, rules}
+use Rattle.std.proofs.Common.{◌+◌, ◌-◌, ◌*◌, arith}
 use Rattle.layout.specs.Layout.{cell_width}
 use Rattle.lines.proofs.FillLaws.{in_place}
 use Rattle.lines.proofs.HoldingLaws.{holding-inside}

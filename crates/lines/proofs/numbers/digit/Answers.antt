@@ -1,5 +1,5 @@
 -- `digit` meets its contract.
-use Rattle.std.proofs.Common.{arith, rules}
+use Rattle.std.proofs.Common.{arith}
 use Rattle.lines.proofs.NumberLaws.{digit-space, digit-other}
 use Rattle.lines.proofs.numbers.digit.Goals as goal
 

@@ -1,5 +1,4 @@
 -- `last_digit` meets its contract.
-use Rattle.std.proofs.Common.{rules}
 use Rattle.lines.proofs.NumberLaws.{lead-none, lead-some}
 use Rattle.lines.proofs.numbers.last_digit.Goals as goal
 

@@ -1,5 +1,5 @@
 use Rattle.std.proofs.Common.{◌-◌, length, ◌∙◌, arith, length-set}
-use Rattle.lines.proofs.NumberLaws.{no_field, Written, written_last, written_next, written_all}
+use Rattle.lines.proofs.NumberLaws.{no_field, written_last, written_next, written_all}
 use Rattle.lines.proofs.numbers.write_number.Goals as goal
 
 pub returns-then-k-eq0 : goal.returns-then-k-eq0

@@ -1,6 +1,6 @@
 -- `write_number` meets its contract. The loop's invariant: the field is written from place `k` on. The measure is `k`.
-use Rattle.std.proofs.Common.{◌-◌, length, ◌∙◌, arith, length-set}
-use Rattle.lines.proofs.NumberLaws.{no_field, Written, written_last, written_next, written_all}
+use Rattle.std.proofs.Common.{length}
+use Rattle.lines.proofs.NumberLaws.{Written}
 use Rattle.lines.proofs.numbers.write_number.Given as goal
 
 abbrev pub invariant-loop-k : goal.invariant-loop-k

@@ -1,5 +1,5 @@
 -- `put` meets its contract.
-use Rattle.std.proofs.Common.{refl, rules}
+use Rattle.std.proofs.Common.{refl}
 use Rattle.lines.specs.Tables.{put}
 use Rattle.lines.proofs.tables.put.Goals as goal
 

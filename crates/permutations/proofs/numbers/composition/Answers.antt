@@ -1,7 +1,6 @@
 -- `composition` meets its contract: the composed numbers, and the identity where the sizes differ or a test fails.
 use mathlib.Core.Path.{sym, ◌∙◌}
 use borrow.Author.Tests.{not-true, not-false}
-use borrow.Author.Rules.{rules}
 use Rattle.permutations.proofs.PaddedLaws.{composed_padded-sizes, composed_padded-first, composed_padded-second}
 use Rattle.permutations.proofs.NumbersSteps.{is_sound-take, followed-is, own-composed}
 use Rattle.permutations.proofs.numbers.composition.Goals as goal

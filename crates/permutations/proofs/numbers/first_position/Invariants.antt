@@ -2,10 +2,7 @@
 -- The measure is what is left of 16.
 use mathlib.Core.Path.{◌≡◌}
 use Prim.Native.Nat.{ℕ, ◌≤◌, ◌<◌, ◌-◌}
-use native.Mathlib.Omega.{arith}
-use borrow.Author.Count.{below_more}
 use lib.ListN.{get_or}
-use Rattle.permutations.proofs.PositionLaws.{position-take}
 use Rattle.permutations.proofs.numbers.first_position.Given as goal
 
 abbrev pub invariant-loop-i : goal.invariant-loop-i

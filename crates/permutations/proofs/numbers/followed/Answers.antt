@@ -1,10 +1,7 @@
-use mathlib.Core.Path.{◌≡◌, sym, ap, ◌∙◌}
-use Prim.Native.Nat.{ℕ, ◌≤◌, ◌-◌}
+use mathlib.Core.Path.{sym, ap, ◌∙◌}
+use Prim.Native.Nat.{ℕ}
 use native.Mathlib.Omega.{arith}
-use borrow.Author.Rules.{rules}
 use lib.ListN.{get_or}
-use Rattle.permutations.specs.Permutations.{composed}
-use Rattle.permutations.specs.Padded.{padded}
 use Rattle.permutations.proofs.PermutationLaws.{at-composed}
 use Rattle.permutations.proofs.NumbersSteps.{padded-none, padded-more, padded-end}
 use Rattle.permutations.proofs.numbers.followed.Goals as goal

@@ -1,14 +1,9 @@
 -- `followed` meets its contract. The loop's invariant: `i` is at most 16 and `n`, and `out` is the composition up to `i`.
 -- The measure is what is left of 16.
-use mathlib.Core.Path.{◌≡◌, sym, ap, ◌∙◌}
-use Prim.Native.Nat.{ℕ, ◌≤◌, ◌-◌}
-use native.Mathlib.Omega.{arith}
-use borrow.Author.Rules.{rules}
-use lib.ListN.{get_or}
+use mathlib.Core.Path.{◌≡◌}
+use Prim.Native.Nat.{◌≤◌, ◌-◌}
 use Rattle.permutations.specs.Permutations.{composed}
 use Rattle.permutations.specs.Padded.{padded}
-use Rattle.permutations.proofs.PermutationLaws.{at-composed}
-use Rattle.permutations.proofs.NumbersSteps.{padded-none, padded-more, padded-end}
 use Rattle.permutations.proofs.numbers.followed.Given as goal
 
 abbrev pub invariant-loop-i : goal.invariant-loop-i

@@ -1,7 +1,6 @@
 -- `inversion` meets its contract: the reversed numbers, and the identity where the test fails.
 use mathlib.Core.Path.{sym, ◌∙◌}
 use borrow.Author.Tests.{not-true, not-false}
-use borrow.Author.Rules.{rules}
 use Rattle.permutations.proofs.NumbersSteps.{reversed-is, own-inverse}
 use Rattle.permutations.proofs.numbers.inversion.Goals as goal
 

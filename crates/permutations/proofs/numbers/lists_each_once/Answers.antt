@@ -1,10 +1,7 @@
 use mathlib.Core.Path.{sym}
-use Prim.Native.Nat.{ℕ, ◌≤◌, ◌<◌, ◌-◌}
 use native.Mathlib.Omega.{arith}
 use borrow.Author.Count.{below_more}
-use borrow.Author.Rules.{rules}
 use lib.ListN.{take, length-take}
-use Rattle.permutations.specs.Permutations.{position}
 use Rattle.permutations.proofs.PermutationLaws.{position-within}
 use Rattle.permutations.proofs.PaddedLaws.{is_sound-yes, is_sound-no}
 use Rattle.permutations.proofs.NumbersSteps.{listing-sound}

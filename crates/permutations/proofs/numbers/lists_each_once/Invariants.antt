@@ -1,15 +1,8 @@
 -- `lists_each_once` meets its contract. The loop's invariant: `k` is at most `n`, and each number below `k` stands before position `n`.
 -- The measure is what is left of `n`.
-use mathlib.Core.Path.{sym}
 use Prim.Native.Nat.{ℕ, ◌≤◌, ◌<◌, ◌-◌}
-use native.Mathlib.Omega.{arith}
-use borrow.Author.Count.{below_more}
-use borrow.Author.Rules.{rules}
-use lib.ListN.{take, length-take}
+use lib.ListN.{take}
 use Rattle.permutations.specs.Permutations.{position}
-use Rattle.permutations.proofs.PermutationLaws.{position-within}
-use Rattle.permutations.proofs.PaddedLaws.{is_sound-yes, is_sound-no}
-use Rattle.permutations.proofs.NumbersSteps.{listing-sound}
 use Rattle.permutations.proofs.numbers.lists_each_once.Given as goal
 
 abbrev pub invariant-loop-k : goal.invariant-loop-k

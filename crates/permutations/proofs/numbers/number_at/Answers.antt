@@ -1,7 +1,6 @@
 -- `number_at` meets its contract: past the end a list gives 0.
 use mathlib.Core.Path.{sym}
 use native.Mathlib.Omega.{arith}
-use borrow.Author.Rules.{rules}
 use lib.ListN.{get_or-eq_default}
 use Rattle.permutations.proofs.numbers.number_at.Goals as goal
 

@@ -1,10 +1,6 @@
-use mathlib.Core.Path.{◌≡◌, sym, ◌∙◌}
-use Prim.Native.Nat.{◌≤◌, ◌-◌}
+use mathlib.Core.Path.{sym, ◌∙◌}
 use native.Mathlib.Omega.{arith}
-use borrow.Author.Rules.{rules}
 use lib.ListN.{take, length-take}
-use Rattle.permutations.specs.Permutations.{inverse}
-use Rattle.permutations.specs.Padded.{padded}
 use Rattle.permutations.proofs.PermutationLaws.{at-inverse}
 use Rattle.permutations.proofs.PositionLaws.{position-at-most}
 use Rattle.permutations.proofs.NumbersSteps.{padded-none, padded-more, padded-end}

@@ -1,15 +1,10 @@
 -- `reversed` meets its contract. The loop's invariant: `k` is at most 16 and `n`, and `out` is the inverse up to `k`.
 -- The measure is what is left of 16.
-use mathlib.Core.Path.{◌≡◌, sym, ◌∙◌}
+use mathlib.Core.Path.{◌≡◌}
 use Prim.Native.Nat.{◌≤◌, ◌-◌}
-use native.Mathlib.Omega.{arith}
-use borrow.Author.Rules.{rules}
-use lib.ListN.{take, length-take}
+use lib.ListN.{take}
 use Rattle.permutations.specs.Permutations.{inverse}
 use Rattle.permutations.specs.Padded.{padded}
-use Rattle.permutations.proofs.PermutationLaws.{at-inverse}
-use Rattle.permutations.proofs.PositionLaws.{position-at-most}
-use Rattle.permutations.proofs.NumbersSteps.{padded-none, padded-more, padded-end}
 use Rattle.permutations.proofs.numbers.reversed.Given as goal
 
 abbrev pub invariant-loop-k : goal.invariant-loop-k

@@ -1,7 +1,6 @@
 -- `ask` meets its contract: question 5 gets a no, or what represent answers, or a terminal's represent, and then question 15 is the first no.
 use mathlib.Core.Path.{sym, ◌∙◌}
 use native.Mathlib.Omega.{arith}
-use borrow.Author.Rules.{rules}
 use borrow.Author.Tests.{not-true}
 use Rattle.register.proofs.AskSteps.{laid-yes, laid-head, head-size, asked-no, asked-5, asked-yes}
 use Rattle.register.proofs.asking.ask.Goals as goal

@@ -1,7 +1,6 @@
 -- `ask_client` meets its contract: a no came before, or the client is not 1 to 8, or it is.
 use mathlib.Core.Path.{◌≡◌, refl, sym}
 use native.Mathlib.Omega.{arith}
-use borrow.Author.Rules.{rules}
 use Rattle.refusals.specs.Numbers.{asked_number}
 use Rattle.refusals.proofs.NumberLaws.{no-some, no-is, yes-is}
 use Rattle.register.proofs.ClientSteps.{client-past, client-no, client-yes}

@@ -1,5 +1,4 @@
 -- `write_least` meets its contract: a terminal's represent, or represent.
-use borrow.Author.Rules.{rules}
 use Rattle.register.proofs.AskSteps.{writes-terminal, writes-least}
 use Rattle.register.proofs.asking.write_least.Goals as goal
 

@@ -1,6 +1,5 @@
 -- `enter_by` meets its contract: a refusal of what is asked first, or what entering the least grid gives.
 use mathlib.Core.Path.{◌≡◌, refl, sym}
-use borrow.Author.Rules.{rules}
 use Rattle.refusals.specs.Numbers.{asked_number}
 use Rattle.refusals.proofs.NumberLaws.{no-some, no-is, yes-is}
 use Rattle.calls.specs.Valid.{entered_least}

@@ -1,7 +1,6 @@
 -- `enter_held` meets its contract: the client holds 999 already, or its holding goes up.
 use mathlib.Core.Path.{refl}
 use native.Mathlib.Omega.{arith}
-use borrow.Author.Rules.{rules}
 use Rattle.calls.proofs.ValidSteps.{enter-most, enter-held}
 use Rattle.register.proofs.SoughtSteps.{small}
 use Rattle.register.proofs.entering.enter_held.Goals as goal

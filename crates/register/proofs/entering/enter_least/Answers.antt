@@ -1,5 +1,4 @@
 -- `enter_least` meets its contract: the grid stands at its place, or it does not.
-use borrow.Author.Rules.{rules}
 use Rattle.register.proofs.SoughtSteps.{sought}
 use Rattle.register.proofs.entering.enter_least.Goals as goal
 

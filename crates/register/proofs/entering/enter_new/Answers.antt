@@ -1,7 +1,6 @@
 -- `enter_new` meets its contract: the register is full, or the line is put in and the count goes up.
 use mathlib.Core.Path.{refl, sym}
 use native.Mathlib.Omega.{arith}
-use borrow.Author.Rules.{rules}
 use Rattle.calls.proofs.ValidLaws.{valid-sizes}
 use Rattle.calls.proofs.ValidMoves.{put-fits, room-part}
 use Rattle.calls.proofs.ValidSteps.{place-small, enter-full, enter-new}

@@ -1,6 +1,5 @@
 -- `hold` meets its contract: someone holds the grid then, and its line states so; or nobody does.
 use mathlib.Core.Path.{refl}
-use borrow.Author.Rules.{rules}
 use Rattle.calls.proofs.ValidSteps.{changed-is, gone-kept}
 use Rattle.register.proofs.SoughtSteps.{small, line-room, line-lent, line-states}
 use Rattle.register.proofs.held.hold.Goals as goal

@@ -1,5 +1,4 @@
 -- `holding` meets its contract: what the line states is what the client holds.
-use borrow.Author.Rules.{rules}
 use mathlib.Core.Path.{refl}
 use Rattle.calls.specs.Entries.{held_by}
 use Rattle.register.proofs.SoughtSteps.{small, line-room, line-lent, line-states}

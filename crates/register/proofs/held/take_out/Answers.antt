@@ -1,7 +1,6 @@
 -- `take_out` meets its contract: the line is taken out and the count goes down.
 use mathlib.Core.Path.{refl, sym}
 use native.Mathlib.Omega.{arith}
-use borrow.Author.Rules.{rules}
 use Rattle.calls.proofs.ValidMoves.{room-part, put-fits}
 use Rattle.calls.proofs.ValidSteps.{gone-is}
 use Rattle.register.proofs.SoughtSteps.{here, small, line-room}

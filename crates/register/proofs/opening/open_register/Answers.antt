@@ -1,5 +1,4 @@
 -- `open_register` meets its contract: a refusal, or the register without entries is written.
-use borrow.Author.Rules.{rules}
 use Rattle.refusals.proofs.NumberLaws.{no-some, no-is, yes-is}
 use Rattle.register.proofs.OpenSteps.{opened-no, opened-passes, opened-yes}
 use Rattle.register.proofs.opening.open_register.Goals as goal

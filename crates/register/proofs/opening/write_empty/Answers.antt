@@ -1,12 +1,10 @@
 use mathlib.Core.Path.{sym, ◌∙◌}
-use Prim.Native.Nat.{◌-◌}
 use native.Mathlib.Omega.{arith}
 use lib.Seq.{length-take-le}
-use borrow.Author.Rules.{rules}
 use Rattle.layout.specs.Layout.{head_length}
 use Rattle.calls.specs.Calls.{shape}
 use Rattle.calls.proofs.ValidMoves.{room-part}
-use Rattle.register.proofs.OpenSteps.{Filling, filling-head, filling-next, filling-all, filling-room, limits-size, head-fits}
+use Rattle.register.proofs.OpenSteps.{filling-head, filling-next, filling-all, filling-room, limits-size, head-fits}
 use Rattle.register.proofs.opening.write_empty.Goals as goal
 
 pub overflow_mul-size : goal.overflow_mul-size

@@ -1,7 +1,6 @@
 -- `compare_entry` meets its contract: what is read from the line is the entry's grid.
 use native.Mathlib.Omega.{arith}
 use lib.ListN.{length}
-use borrow.Author.Rules.{rules}
 use Rattle.permutations.proofs.ListLaws.{part-within, part_length}
 use Rattle.calls.proofs.ValidLaws.{valid-sizes, entry-fits}
 use Rattle.register.proofs.PlaceSteps.{entry-line, entry_length, entry-compared}

@@ -1,7 +1,6 @@
 -- `halved` meets its contract: the entry in the middle says in which half the place is.
 use native.Mathlib.Omega.{arith}
 use lib.ListN.{length-map}
-use borrow.Author.Rules.{rules}
 use Rattle.grids.proofs.ComparisonLaws.{less-yes, less-no}
 use Rattle.layout.specs.Layout.{Entry, decode}
 use Rattle.calls.proofs.ValidLaws.{valid-ascends, valid-count}

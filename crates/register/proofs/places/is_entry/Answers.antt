@@ -1,5 +1,4 @@
 -- `is_entry` meets its contract: no line, or the comparison with its entry.
-use borrow.Author.Rules.{rules}
 use Rattle.register.proofs.PlaceSteps.{past-entry, at_entry}
 use Rattle.register.proofs.places.is_entry.Goals as goal
 

@@ -1,8 +1,6 @@
-use Prim.Native.Nat.{◌-◌}
 use native.Mathlib.Omega.{arith}
 use lib.ListN.{length-map}
 use Rattle.layout.specs.Layout.{Entry, grids_of, decode}
-use Rattle.calls.specs.Places.{Between}
 use Rattle.calls.proofs.ValidLaws.{valid-count}
 use Rattle.calls.proofs.PlaceLaws.{between_start, between_lower}
 use Rattle.register.proofs.places.lower_bound.Goals as goal

@@ -1,11 +1,7 @@
 -- `lower_bound` meets its contract. The loop's invariant: the place is in the span. The measure is the span's length.
 use Prim.Native.Nat.{◌-◌}
-use native.Mathlib.Omega.{arith}
-use lib.ListN.{length-map}
-use Rattle.layout.specs.Layout.{Entry, grids_of, decode}
+use Rattle.layout.specs.Layout.{grids_of, decode}
 use Rattle.calls.specs.Places.{Between}
-use Rattle.calls.proofs.ValidLaws.{valid-count}
-use Rattle.calls.proofs.PlaceLaws.{between_start, between_lower}
 use Rattle.register.proofs.places.lower_bound.Given as goal
 
 abbrev pub invariant-loop-span : goal.invariant-loop-span

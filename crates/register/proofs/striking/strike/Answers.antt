@@ -1,6 +1,5 @@
 -- `strike` meets its contract: a refusal of what is asked first, or what striking the least grid gives.
 use mathlib.Core.Path.{◌≡◌, refl, sym}
-use borrow.Author.Rules.{rules}
 use Rattle.refusals.specs.Numbers.{asked_number}
 use Rattle.refusals.proofs.NumberLaws.{no-some, no-is, yes-is}
 use Rattle.calls.specs.Valid.{struck_least}

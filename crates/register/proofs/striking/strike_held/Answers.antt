@@ -1,7 +1,6 @@
 -- `strike_held` meets its contract: the client holds none, or its holding goes down.
 use mathlib.Core.Path.{refl}
 use native.Mathlib.Omega.{arith}
-use borrow.Author.Rules.{rules}
 use Rattle.calls.proofs.ValidSteps.{strike-zero, strike-held}
 use Rattle.register.proofs.SoughtSteps.{small}
 use Rattle.register.proofs.striking.strike_held.Goals as goal

@@ -1,5 +1,4 @@
 -- `strike_least` meets its contract: the grid does not stand at its place, or it does.
-use borrow.Author.Rules.{rules}
 use borrow.Author.Tests.{not-true, not-false}
 use Rattle.calls.proofs.ValidSteps.{strike-none}
 use Rattle.register.proofs.SoughtSteps.{sought}

@@ -1,6 +1,5 @@
 -- `line_laid` meets its contract.
 use native.Mathlib.Omega.{arith}
-use borrow.Author.Rules.{rules}
 use borrow.Author.Tests.{not-true, not-false}
 use Rattle.layout.proofs.LineLaws.{cells-inside}
 use Rattle.scan.proofs.EntryLaws.{line-none, line-not, line-decides}

@@ -1,10 +1,9 @@
-use mathlib.Core.Path.{◌≡◌, refl, sym}
-use Prim.Native.Nat.{◌+◌, ◌-◌, ◌<◌}
+use mathlib.Core.Path.{refl, sym}
+use Prim.Native.Nat.{◌+◌}
 use native.Mathlib.Omega.{arith}
 use borrow.Author.Tests.{not-true, not-false}
-use Rattle.layout.specs.Layout.{head_length, line_start}
+use Rattle.layout.specs.Layout.{head_length}
 use Rattle.layout.proofs.LineLaws.{start-zero, next_start, cells-inside}
-use Rattle.scan.specs.Lines.{LinesLaid}
 use Rattle.scan.proofs.EntryLaws.{cells-none, lines_none, lines-one, lines_next, lines-first-not, lines-not, lines-all}
 use Rattle.scan.proofs.LineLaws.{start-within}
 use Rattle.scan.proofs.entries.lines_laid.Goals as goal

@@ -1,7 +1,6 @@
 -- `next_laid` meets its contract.
 use mathlib.Core.Path.{refl}
 use native.Mathlib.Omega.{arith}
-use borrow.Author.Rules.{rules}
 use borrow.Author.Tests.{not-true, not-false}
 use Rattle.layout.proofs.LineLaws.{cells-inside}
 use Rattle.scan.proofs.CellLaws.{cells-more}

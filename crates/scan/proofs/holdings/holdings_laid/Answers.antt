@@ -1,7 +1,5 @@
-use Prim.Native.Nat.{◌≤◌, ◌-◌}
 use native.Mathlib.Omega.{arith}
-use borrow.Author.Rules.{rules}
-use Rattle.scan.proofs.HeldLaws.{HeldTo, held_start, held_next, held-decides}
+use Rattle.scan.proofs.HeldLaws.{held_start, held_next, held-decides}
 use Rattle.scan.proofs.holdings.holdings_laid.Goals as goal
 
 pub loop-k-init : goal.loop-k-init

@@ -1,8 +1,6 @@
 -- `holdings_laid` meets its contract. The loop's invariant: `laid` and `none` are the answers for the first `k` fields.
 use Prim.Native.Nat.{◌≤◌, ◌-◌}
-use native.Mathlib.Omega.{arith}
-use borrow.Author.Rules.{rules}
-use Rattle.scan.proofs.HeldLaws.{HeldTo, held_start, held_next, held-decides}
+use Rattle.scan.proofs.HeldLaws.{HeldTo}
 use Rattle.scan.proofs.holdings.holdings_laid.Given as goal
 
 abbrev pub invariant-loop-k : goal.invariant-loop-k

@@ -2,7 +2,6 @@
 use mathlib.Core.Path.{ap}
 use Prim.Native.Nat.{ℕ}
 use lib.Dec.{ltb}
-use borrow.Author.Rules.{rules}
 use Rattle.scan.specs.Holdings.{is_digit}
 use Rattle.scan.proofs.holdings.is_digit.Goals as goal
 

@@ -2,7 +2,6 @@
 use mathlib.Core.Path.{ap}
 use Prim.Native.Nat.{ℕ}
 use lib.Dec.{ltb}
-use borrow.Author.Rules.{rules}
 use Rattle.scan.specs.Holdings.{is_first}
 use Rattle.scan.proofs.holdings.is_first.Goals as goal
 

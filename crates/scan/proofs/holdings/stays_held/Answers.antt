@@ -1,6 +1,5 @@
 -- `stays_held` meets its contract.
 use mathlib.Core.Path.{refl}
-use borrow.Author.Rules.{rules}
 use Rattle.scan.specs.Holdings.{is_holding}
 use Rattle.scan.proofs.holdings.stays_held.Goals as goal
 

@@ -1,8 +1,5 @@
 use mathlib.Core.Path.{◌≡◌, sym, ◌∙◌}
-use Prim.Native.Nat.{◌≤◌, ◌-◌}
 use native.Mathlib.Omega.{arith}
-use borrow.Author.Rules.{rules}
-use Rattle.scan.specs.Fits.{all_fit}
 use Rattle.scan.proofs.FitLaws.{all_none, all-next}
 use Rattle.scan.proofs.laid.cells_laid.Goals as goal
 

@@ -1,10 +1,7 @@
 -- `cells_laid` meets its contract. The loop's invariant: `laid` is the answer for the first `k` bytes.
-use mathlib.Core.Path.{◌≡◌, sym, ◌∙◌}
+use mathlib.Core.Path.{◌≡◌}
 use Prim.Native.Nat.{◌≤◌, ◌-◌}
-use native.Mathlib.Omega.{arith}
-use borrow.Author.Rules.{rules}
 use Rattle.scan.specs.Fits.{all_fit}
-use Rattle.scan.proofs.FitLaws.{all_none, all-next}
 use Rattle.scan.proofs.laid.cells_laid.Given as goal
 
 abbrev pub invariant-loop-k : goal.invariant-loop-k

@@ -1,5 +1,4 @@
 -- `span_of` meets its contract.
-use borrow.Author.Rules.{rules}
 use Rattle.scan.proofs.FitLaws.{span-is}
 use Rattle.scan.proofs.laid.span_of.Goals as goal
 

@@ -1,7 +1,6 @@
 -- `stays_laid` meets its contract.
 use mathlib.Core.Path.{ap, ◌∙◌}
 use native.Mathlib.Omega.{arith}
-use borrow.Author.Rules.{rules}
 use Rattle.scan.specs.Fits.{smaller, rest}
 use Rattle.scan.proofs.FitLaws.{fits_not, fits_all}
 use Rattle.scan.proofs.laid.stays_laid.Goals as goal

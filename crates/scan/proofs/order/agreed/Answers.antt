@@ -1,8 +1,6 @@
 use native.Mathlib.Omega.{arith}
 use borrow.Author.Tests.{not-false}
 use mathlib.Core.Path.{sym, ◌∙◌}
-use Prim.Native.Nat.{◌-◌, ◌≤◌}
-use Rattle.scan.specs.Cells.{Same}
 use Rattle.scan.proofs.OrderLaws.{agree-none, agree-more}
 use Rattle.scan.proofs.order.agreed.Goals as goal
 

@@ -1,10 +1,6 @@
 -- `agreed` meets its contract. The loop's invariant: the first `i` bytes are the same. The measure is what is left of the width.
-use native.Mathlib.Omega.{arith}
-use borrow.Author.Tests.{not-false}
-use mathlib.Core.Path.{sym, ◌∙◌}
 use Prim.Native.Nat.{◌-◌, ◌≤◌}
 use Rattle.scan.specs.Cells.{Same}
-use Rattle.scan.proofs.OrderLaws.{agree-none, agree-more}
 use Rattle.scan.proofs.order.agreed.Given as goal
 
 abbrev pub invariant-loop-i : goal.invariant-loop-i

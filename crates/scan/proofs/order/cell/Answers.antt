@@ -1,6 +1,5 @@
 -- `cell` meets its contract.
 use mathlib.Core.Path.{◌∙◌}
-use borrow.Author.Rules.{rules}
 use Rattle.lines.proofs.FieldLaws.{stated-at}
 use Rattle.scan.proofs.order.cell.Goals as goal
 

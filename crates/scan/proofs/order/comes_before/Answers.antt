@@ -1,9 +1,7 @@
 use mathlib.Core.Path.{sym, ◌∙◌}
-use Prim.Native.Nat.{◌-◌, ◌≤◌}
 use native.Mathlib.Omega.{arith}
-use borrow.Author.Rules.{rules}
 use Rattle.scan.proofs.CellLaws.{cells-field}
-use Rattle.scan.proofs.OrderLaws.{AgreeBelow, cells_same, cells-next, before_here, before-never}
+use Rattle.scan.proofs.OrderLaws.{cells_same, cells-next, before_here, before-never}
 use Rattle.scan.proofs.order.comes_before.Goals as goal
 
 pub loop-k-init : goal.loop-k-init

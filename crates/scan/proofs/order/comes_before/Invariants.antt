@@ -1,10 +1,6 @@
 -- `comes_before` meets its contract. The loop's invariant: the cells before `k` agree.
-use mathlib.Core.Path.{sym, ◌∙◌}
 use Prim.Native.Nat.{◌-◌, ◌≤◌}
-use native.Mathlib.Omega.{arith}
-use borrow.Author.Rules.{rules}
-use Rattle.scan.proofs.CellLaws.{cells-field}
-use Rattle.scan.proofs.OrderLaws.{AgreeBelow, cells_same, cells-next, before_here, before-never}
+use Rattle.scan.proofs.OrderLaws.{AgreeBelow}
 use Rattle.scan.proofs.order.comes_before.Given as goal
 
 abbrev pub invariant-loop-k : goal.invariant-loop-k

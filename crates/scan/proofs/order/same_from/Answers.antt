@@ -1,8 +1,5 @@
 use native.Mathlib.Omega.{arith}
-use borrow.Author.Rules.{rules}
 use mathlib.Core.Path.{◌≡◌, sym, ◌∙◌}
-use Prim.Native.Nat.{◌-◌, ◌≤◌}
-use Rattle.scan.specs.Cells.{same_from}
 use Rattle.scan.proofs.OrderLaws.{same_none, same_next}
 use Rattle.scan.proofs.order.same_from.Goals as goal
 

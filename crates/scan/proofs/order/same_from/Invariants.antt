@@ -1,10 +1,7 @@
 -- `same_from` meets its contract. The loop's invariant: `same` says whether the first `n` bytes are the same. The measure is what is left of 16.
-use native.Mathlib.Omega.{arith}
-use borrow.Author.Rules.{rules}
-use mathlib.Core.Path.{◌≡◌, sym, ◌∙◌}
+use mathlib.Core.Path.{◌≡◌}
 use Prim.Native.Nat.{◌-◌, ◌≤◌}
 use Rattle.scan.specs.Cells.{same_from}
-use Rattle.scan.proofs.OrderLaws.{same_none, same_next}
 use Rattle.scan.proofs.order.same_from.Given as goal
 
 abbrev pub invariant-loop-n : goal.invariant-loop-n

@@ -1,8 +1,6 @@
 use mathlib.Core.Path.{◌≡◌, refl, ap, ◌∙◌}
-use Prim.Native.Nat.{◌-◌, ◌≤◌}
 use native.Mathlib.Omega.{arith}
 use lib.ListN.{length}
-use Rattle.lines.specs.Tables.{Thirds}
 use Rattle.lines.proofs.TableLaws.{length-put, thirds-none, thirds-next}
 use Rattle.scan.proofs.tables.fill.Goals as goal
 

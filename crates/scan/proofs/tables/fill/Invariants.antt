@@ -1,10 +1,8 @@
 -- `fill` meets its contract. The loop's invariant: the entries of the first `k` cells are written. The measure is what is left of the cells.
-use mathlib.Core.Path.{◌≡◌, refl, ap, ◌∙◌}
+use mathlib.Core.Path.{◌≡◌}
 use Prim.Native.Nat.{◌-◌, ◌≤◌}
-use native.Mathlib.Omega.{arith}
 use lib.ListN.{length}
 use Rattle.lines.specs.Tables.{Thirds}
-use Rattle.lines.proofs.TableLaws.{length-put, thirds-none, thirds-next}
 use Rattle.scan.proofs.tables.fill.Given as goal
 
 abbrev pub invariant-loop-k : goal.invariant-loop-k

@@ -1,7 +1,6 @@
 -- `answer_line` meets its contract: the line is not laid, or its command is answered.
 use mathlib.Core.Path.{◌∙◌}
 use native.Mathlib.Omega.{arith}
-use borrow.Author.Rules.{rules}
 use Rattle.permutations.proofs.ListLaws.{part_length}
 use Rattle.transcript.proofs.CallSteps.{lead-room, answer-malformed, answer-made}
 use Rattle.transcript.proofs.answers.answer_line.Goals as goal

@@ -1,10 +1,8 @@
 use mathlib.Core.Path.{ap}
-use Prim.Native.Nat.{◌-◌}
 use native.Mathlib.Omega.{arith}
 use lib.ListN.{length, length-drop}
-use borrow.Author.Rules.{rules}
 use Rattle.calls.proofs.ValidMoves.{tail-part}
-use Rattle.transcript.proofs.AnswerSteps.{Answering, answering-none, answering-next, answering-all, answering-room, answering-size, answering-kept}
+use Rattle.transcript.proofs.AnswerSteps.{answering-none, answering-next, answering-all, answering-room, answering-size, answering-kept}
 use Rattle.transcript.proofs.answers.answer_lines.Goals as goal
 
 pub loop-at-init : goal.loop-at-init

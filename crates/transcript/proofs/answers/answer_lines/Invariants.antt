@@ -1,11 +1,7 @@
 -- `answer_lines` meets its contract. The loop's invariant: the lines before `at` are answered. The measure is what is left of the input.
-use mathlib.Core.Path.{ap}
 use Prim.Native.Nat.{◌-◌}
-use native.Mathlib.Omega.{arith}
-use lib.ListN.{length, length-drop}
-use borrow.Author.Rules.{rules}
-use Rattle.calls.proofs.ValidMoves.{tail-part}
-use Rattle.transcript.proofs.AnswerSteps.{Answering, answering-none, answering-next, answering-all, answering-room, answering-size, answering-kept}
+use lib.ListN.{length}
+use Rattle.transcript.proofs.AnswerSteps.{Answering}
 use Rattle.transcript.proofs.answers.answer_lines.Given as goal
 
 abbrev pub invariant-loop-at : goal.invariant-loop-at

@@ -1,7 +1,6 @@
 -- `cell_count` meets its contract: low and high of each cell for command 3, else the cells.
 use mathlib.Core.Path.{refl}
 use native.Mathlib.Omega.{arith}
-use borrow.Author.Rules.{rules}
 use borrow.Author.Tests.{eq-eqb, ne_eqb}
 use Rattle.protocol.specs.Input.{cell_count}
 use Rattle.transcript.proofs.commands.cell_count.Goals as goal

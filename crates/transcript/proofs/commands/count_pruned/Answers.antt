@@ -3,7 +3,6 @@
 use mathlib.Core.Path.{◌∙◌}
 use Prim.Native.Nat.{◌*◌}
 use native.Mathlib.Omega.{arith}
-use borrow.Author.Rules.{rules}
 use Rattle.permutations.proofs.ListLaws.{part-within, part-is, part_length}
 use Rattle.transcript.proofs.CallSteps.{pruned-no, pruned-counted}
 use Rattle.transcript.proofs.commands.count_pruned.Goals as goal

@@ -1,6 +1,5 @@
 -- `lead_laid` meets its contract: the first field, and but for command 3 the second.
 use native.Mathlib.Omega.{arith}
-use borrow.Author.Rules.{rules}
 use borrow.Author.Tests.{not-true, not-false}
 use Rattle.transcript.proofs.LeadLaws.{lead-least, lead-other, lead-no-first, lead-alone, lead-both}
 use Rattle.transcript.proofs.commands.lead_laid.Goals as goal

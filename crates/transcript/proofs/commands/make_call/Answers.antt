@@ -1,7 +1,6 @@
 -- `make_call` meets its contract: each arm answers the command that it is for.
 use mathlib.Core.Path.{sym, ◌∙◌}
 use native.Mathlib.Omega.{arith}
-use borrow.Author.Rules.{rules}
 use Rattle.transcript.proofs.CallSteps.{enter-of, strike-of, bounds_of, bounds-cells}
 use Rattle.transcript.proofs.commands.make_call.Goals as goal
 

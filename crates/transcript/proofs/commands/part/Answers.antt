@@ -1,7 +1,5 @@
-use Prim.Native.Nat.{◌-◌}
 use native.Mathlib.Omega.{arith}
-use lib.ListN.{length}
-use Rattle.transcript.proofs.PartLaws.{PartedTo, parted-none, parted-next, parted-all}
+use Rattle.transcript.proofs.PartLaws.{parted-none, parted-next, parted-all}
 use Rattle.transcript.proofs.commands.part.Goals as goal
 
 pub loop-i-init : goal.loop-i-init

@@ -1,8 +1,7 @@
 -- `part` meets its contract. The loop's invariant: the first `i` bounds are parted. The measure is what is left of them.
 use Prim.Native.Nat.{◌-◌}
-use native.Mathlib.Omega.{arith}
 use lib.ListN.{length}
-use Rattle.transcript.proofs.PartLaws.{PartedTo, parted-none, parted-next, parted-all}
+use Rattle.transcript.proofs.PartLaws.{PartedTo}
 use Rattle.transcript.proofs.commands.part.Given as goal
 
 abbrev pub invariant-loop-i : goal.invariant-loop-i

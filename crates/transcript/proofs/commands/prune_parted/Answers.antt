@@ -1,5 +1,4 @@
 -- `prune_parted` meets its contract: the cells are parted, and prune leaves what it leaves of the bounds.
-use borrow.Author.Rules.{rules}
 use Rattle.transcript.proofs.CallSteps.{parted-pruned}
 use Rattle.transcript.proofs.commands.prune_parted.Goals as goal
 

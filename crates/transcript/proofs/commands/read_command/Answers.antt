@@ -1,7 +1,6 @@
 -- `read_command` meets its contract: a line that is refused is not laid, and where every part of it is laid the line is.
 use mathlib.Core.Path.{◌∙◌}
 use native.Mathlib.Omega.{arith}
-use borrow.Author.Rules.{rules}
 use borrow.Author.Tests.{not-true, not-false}
 use Rattle.protocol.specs.Input.{command_in}
 use Rattle.transcript.proofs.CommandLaws.{laid-some, laid-range, laid-parts, laid-whole, lead-no, cells-no, kept-length, command-refused, command-read}

@@ -2,7 +2,6 @@
 use mathlib.Core.Path.{◌∙◌}
 use native.Mathlib.Omega.{arith}
 use lib.ListN.{length}
-use borrow.Author.Rules.{rules}
 use Rattle.permutations.proofs.ListLaws.{part-within, part_length}
 use Rattle.transcript.proofs.FieldLaws.{field_told}
 use Rattle.transcript.proofs.fields.is_field.Goals as goal

@@ -1,11 +1,8 @@
 use mathlib.Core.Path.{sym, ◌∙◌}
 use mathlib.Core.Bool.{true≢false}
-use Prim.Native.Nat.{◌-◌}
 use native.Mathlib.Omega.{arith}
-use lib.ListN.{length}
-use borrow.Author.Rules.{rules}
 use borrow.Author.Tests.{not-true, not-false}
-use Rattle.transcript.proofs.FieldLaws.{lent_length, CellsTo, cells-none, cells-next, cells-above, cells-unlaid, cells-all}
+use Rattle.transcript.proofs.FieldLaws.{lent_length, cells-none, cells-next, cells-above, cells-unlaid, cells-all}
 use Rattle.transcript.proofs.fields.read_cells.Goals as goal
 
 pub loop-k-init : goal.loop-k-init

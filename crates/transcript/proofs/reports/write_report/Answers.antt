@@ -1,6 +1,5 @@
 -- `write_report` meets its contract: each field is written behind the one before it, and what stood behind the line stays.
 use mathlib.Core.Path.{ap, ◌∙◌}
-use borrow.Author.Rules.{rules}
 use lib.ListN.{length}
 use Rattle.transcript.proofs.ReportSteps.{report-written, report-sized}
 use Rattle.transcript.proofs.reports.write_report.Goals as goal

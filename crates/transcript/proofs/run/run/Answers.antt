@@ -2,7 +2,6 @@
 use mathlib.Core.Path.{ap}
 use native.Mathlib.Omega.{arith}
 use lib.ListN.{length, length-drop}
-use borrow.Author.Rules.{rules}
 use Rattle.calls.proofs.ValidMoves.{tail-part}
 use Rattle.transcript.proofs.RunSteps.{ready-runs, ran-small, ran-room, ran}
 use Rattle.transcript.proofs.run.run.Goals as goal

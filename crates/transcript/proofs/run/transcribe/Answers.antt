@@ -1,7 +1,6 @@
 -- `transcribe` meets its contract: a slice is too small, a check gets a no, or the run is made.
 use mathlib.Core.Path.{sym, ◌∙◌}
 use native.Mathlib.Omega.{arith}
-use borrow.Author.Rules.{rules}
 use Rattle.transcript.proofs.RunSteps.{small-register, small-out, start-ended, start_fits, start-ready, run-done}
 use Rattle.transcript.proofs.run.transcribe.Goals as goal
 

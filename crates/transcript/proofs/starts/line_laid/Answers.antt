@@ -1,7 +1,6 @@
 -- `line_laid` meets its contract: line 1 is written from the numbers that the input states, and the input is compared with it.
 use mathlib.Core.Path.{refl}
 use native.Mathlib.Omega.{arith}
-use borrow.Author.Rules.{rules}
 use lib.ListN.{length-set}
 use Rattle.transcript.proofs.StartSteps.{line-decides}
 use Rattle.transcript.proofs.starts.line_laid.Goals as goal

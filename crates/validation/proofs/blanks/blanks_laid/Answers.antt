@@ -1,8 +1,6 @@
-use Prim.Native.Nat.{◌-◌}
 use native.Mathlib.Omega.{arith}
-use borrow.Author.Rules.{rules}
 use Rattle.lines.proofs.EqualityLaws.{holds, fails}
-use Rattle.validation.proofs.BlankLaws.{BlankTo, blank_none, blank-all, line-inside, part-some, blank-next, blank-no}
+use Rattle.validation.proofs.BlankLaws.{blank_none, blank-all, line-inside, part-some, blank-next, blank-no}
 use Rattle.validation.proofs.blanks.blanks_laid.Goals as goal
 
 pub loop-e-init : goal.loop-e-init

@@ -1,9 +1,5 @@
-use Prim.Native.Nat.{◌≤◌, ◌-◌}
 use native.Mathlib.Omega.{arith}
-use borrow.Author.Rules.{rules}
-use lib.Dec.{eqb}
-use lib.ListN.{get_or}
-use Rattle.lines.proofs.EqualityLaws.{EqualTo, equal-none, equal_next, equal-blank}
+use Rattle.lines.proofs.EqualityLaws.{equal-none, equal_next, equal-blank}
 use Rattle.validation.proofs.blanks.is_blank.Goals as goal
 
 pub loop-k-init : goal.loop-k-init

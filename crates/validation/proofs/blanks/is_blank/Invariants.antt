@@ -1,11 +1,9 @@
 -- `is_blank` meets its contract. The loop's invariant: `blank` says whether the last byte is a line feed and the first `k` are spaces.
 -- The measure is what is left before the last byte.
 use Prim.Native.Nat.{◌≤◌, ◌-◌}
-use native.Mathlib.Omega.{arith}
-use borrow.Author.Rules.{rules}
 use lib.Dec.{eqb}
 use lib.ListN.{get_or}
-use Rattle.lines.proofs.EqualityLaws.{EqualTo, equal-none, equal_next, equal-blank}
+use Rattle.lines.proofs.EqualityLaws.{EqualTo}
 use Rattle.validation.proofs.blanks.is_blank.Given as goal
 
 abbrev pub invariant-loop-k : goal.invariant-loop-k

@@ -1,5 +1,4 @@
 -- `head_laid` meets its contract.
-use borrow.Author.Rules.{rules}
 use Rattle.validation.proofs.Question5Laws.{head-decides}
 use Rattle.validation.proofs.question5.head_laid.Goals as goal
 

@@ -1,7 +1,6 @@
 -- `is_laid_out` meets its contract.
 use mathlib.Core.Path.{◌∙◌}
 use native.Mathlib.Omega.{arith}
-use borrow.Author.Rules.{rules}
 use Rattle.validation.proofs.Question5Laws.{passed, short-no, length-no, refutes, last-decides, size_small, entries-inside}
 use Rattle.validation.proofs.question5.is_laid_out.Goals as goal
 

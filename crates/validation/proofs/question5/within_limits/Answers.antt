@@ -1,6 +1,5 @@
 -- `within_limits` meets its contract.
 use mathlib.Core.Path.{sym, ◌∙◌}
-use borrow.Author.Rules.{rules}
 use borrow.Author.Tests.{leb-true, le-leb}
 use Rattle.refusals.proofs.NumberLaws.{no-some, no-is, yes-is}
 use Rattle.grids.proofs.QuestionLaws.{numbers-decide}

@@ -1,6 +1,5 @@
 -- `bytes` meets its contract: the array's numbers, one by one.
 -- That the array has 16 elements is told by `.good`, of `self`.
-use borrow.Author.Rules.{rules}
 use Rattle.permutations.specs.Lists.{tabulate}
 use Rattle.permutations.specs.Columns.{column_number, column_numbers}
 use Rattle.permutations.proofs.ArrayLaws.{map_is}

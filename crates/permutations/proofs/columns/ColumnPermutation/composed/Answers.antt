@@ -1,7 +1,6 @@
 -- `composed` meets its contract: the first 16 of the composed numbers.
 use mathlib.Core.Path.{◌∙◌}
 use native.Mathlib.Omega.{arith}
-use borrow.Author.Rules.{rules}
 use Rattle.permutations.proofs.ArrayLaws.{take_whole}
 use Rattle.permutations.proofs.NumbersSteps.{composed-of}
 use Rattle.permutations.proofs.columns.ColumnPermutation.composed.Goals as goal

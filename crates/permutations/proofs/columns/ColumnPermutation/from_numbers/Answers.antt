@@ -1,7 +1,6 @@
 -- `from_numbers` meets its contract: the list's first 16 numbers, one by one.
 use mathlib.Core.Path.{refl}
 use native.Mathlib.Omega.{arith}
-use borrow.Author.Rules.{rules}
 use Rattle.permutations.specs.Lists.{tabulate}
 use Rattle.permutations.specs.Columns.{column_numbers}
 use Rattle.permutations.proofs.ArrayLaws.{take-is}

@@ -1,7 +1,6 @@
 -- `identity` meets its contract: the first 16 of each position's own number.
 use mathlib.Core.Path.{◌∙◌}
 use native.Mathlib.Omega.{arith}
-use borrow.Author.Rules.{rules}
 use Rattle.permutations.proofs.NumbersSteps.{own-identity}
 use Rattle.permutations.proofs.columns.ColumnPermutation.identity.Goals as goal
 
@@ -9,5 +8,4 @@ pub returns : goal.returns
 returns c = record {
   numbers = c.from_numbers.ensures.numbers ∙ own-identity 16 16 _ (omega arith) c.own_numbers.ensures;
   size = c.from_numbers.ensures.size;
-
 }

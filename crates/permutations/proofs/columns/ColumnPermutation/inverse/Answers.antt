@@ -1,7 +1,6 @@
 -- `inverse` meets its contract: the first 16 of the inverse's numbers.
 use mathlib.Core.Path.{◌∙◌}
 use native.Mathlib.Omega.{arith}
-use borrow.Author.Rules.{rules}
 use Rattle.permutations.proofs.ArrayLaws.{take_whole}
 use Rattle.permutations.proofs.NumbersSteps.{inverse-of}
 use Rattle.permutations.proofs.columns.ColumnPermutation.inverse.Goals as goal

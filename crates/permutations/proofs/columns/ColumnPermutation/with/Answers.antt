@@ -3,7 +3,6 @@
 use mathlib.Core.Path.{refl, sym}
 use mathlib.Core.List.{map}
 use native.Mathlib.Omega.{arith}
-use borrow.Author.Rules.{rules}
 use lib.ListN.{length-map}
 use lib.Seq.{set_out}
 use Rattle.permutations.specs.Columns.{column_number, column_numbers}

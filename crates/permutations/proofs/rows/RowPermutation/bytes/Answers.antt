@@ -1,6 +1,5 @@
 -- `bytes` meets its contract: the array's numbers, one by one.
 -- That the array has 8 elements is told by `.good`, of `self`.
-use borrow.Author.Rules.{rules}
 use Rattle.permutations.specs.Lists.{tabulate}
 use Rattle.permutations.specs.Rows.{row_number, row_numbers}
 use Rattle.permutations.proofs.ArrayLaws.{map_is}

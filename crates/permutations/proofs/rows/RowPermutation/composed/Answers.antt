@@ -1,7 +1,6 @@
 -- `composed` meets its contract: the first 8 of the composed numbers.
 use mathlib.Core.Path.{◌∙◌}
 use native.Mathlib.Omega.{arith}
-use borrow.Author.Rules.{rules}
 use Rattle.permutations.proofs.NumbersSteps.{composed-of}
 use Rattle.permutations.proofs.rows.RowPermutation.composed.Goals as goal
 

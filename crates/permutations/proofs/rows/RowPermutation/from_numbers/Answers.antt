@@ -1,7 +1,6 @@
 -- `from_numbers` meets its contract: the list's first 8 numbers, one by one.
 use mathlib.Core.Path.{refl}
 use native.Mathlib.Omega.{arith}
-use borrow.Author.Rules.{rules}
 use Rattle.permutations.specs.Lists.{tabulate}
 use Rattle.permutations.specs.Rows.{row_numbers}
 use Rattle.permutations.proofs.ArrayLaws.{take-is}

@@ -1,7 +1,6 @@
 -- `inverse` meets its contract: the first 8 of the inverse's numbers.
 use mathlib.Core.Path.{◌∙◌}
 use native.Mathlib.Omega.{arith}
-use borrow.Author.Rules.{rules}
 use Rattle.permutations.proofs.NumbersSteps.{inverse-of}
 use Rattle.permutations.proofs.rows.RowPermutation.inverse.Goals as goal
 

@@ -1,7 +1,6 @@
 -- `row` meets its contract: the number at an index, and 0 past the end.
 -- That the array has 8 elements is told by `.good`, of `self`.
 use native.Mathlib.Omega.{arith}
-use borrow.Author.Rules.{rules}
 use Rattle.permutations.specs.Rows.{row_number, row_numbers}
 use Rattle.permutations.proofs.ArrayLaws.{map_at, map-past}
 use Rattle.permutations.proofs.rows.RowPermutation.row.Goals as goal

@@ -1,6 +1,5 @@
 -- `swapped` meets its contract: each of the two rows is stored where the other was.
 use mathlib.Core.Path.{◌∙◌}
-use borrow.Author.Rules.{rules}
 use Rattle.permutations.proofs.SwapLaws.{swapped-of}
 use Rattle.permutations.proofs.rows.RowPermutation.swapped.Goals as goal
 

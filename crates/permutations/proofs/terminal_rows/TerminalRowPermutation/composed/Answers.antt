@@ -1,7 +1,6 @@
 -- `composed` meets its contract: the first 5 of the composed numbers.
 use mathlib.Core.Path.{◌∙◌}
 use native.Mathlib.Omega.{arith}
-use borrow.Author.Rules.{rules}
 use Rattle.permutations.proofs.NumbersSteps.{composed-of}
 use Rattle.permutations.proofs.terminal_rows.TerminalRowPermutation.composed.Goals as goal
 

@@ -1,6 +1,5 @@
 -- `numbers` meets its contract: the array's numbers, one by one.
 -- That the array has 5 elements is told by `.good`, of `self`.
-use borrow.Author.Rules.{rules}
 use Rattle.permutations.specs.Lists.{tabulate}
 use Rattle.permutations.specs.Rows.{row_number}
 use Rattle.permutations.specs.TerminalRows.{terminal_row_numbers}

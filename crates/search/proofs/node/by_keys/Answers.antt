@@ -1,0 +1,24 @@
+-- `by_keys` meets its contract: the rows with the least key give the least next row.
+use Rattle.std.proofs.Common.{refl}
+use Rattle.search.proofs.NodeLaws.{keys-next, after_is, powers-within, rows-within}
+use Rattle.search.proofs.node.by_keys.Goals as goal
+
+pub row_keys-keys-requires : goal.row_keys-keys-requires
+row_keys-keys-requires c =
+    let p = c.requires in
+    ((p.0.tables.by_bits p.1).bits, (after_is p.0).small, powers-within p.0)
+
+pub lowest-least-requires : goal.lowest-least-requires
+lowest-least-requires c =
+    let s = c.requires.0 in
+    (s.placed-fits, s.tables.rows_fit, rows-within s)
+
+pub with_key-rows-requires : goal.with_key-rows-requires
+with_key-rows-requires c =
+    let s = c.requires.0 in
+    (s.tables.rows_fit, rows-within s)
+
+pub returns : goal.returns
+returns c =
+    let p = c.requires in
+    keys-next p.0 p.1 _ c.row_keys-keys.ensures _ c.lowest-least.ensures _ c.with_key-rows.ensures _ refl refl refl

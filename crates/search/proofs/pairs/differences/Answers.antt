@@ -1,0 +1,15 @@
+use Rattle.std.proofs.Common.{◌≡◌, ◌∙◌, arith}
+use Rattle.search.proofs.DifferenceLaws.{counted_none, counted-more, counted-most, counted-all}
+use Rattle.search.proofs.pairs.differences.Goals as goal
+
+pub loop-c-init : goal.loop-c-init
+loop-c-init c = (omega arith, counted_none _ _ _)
+
+pub overflow_add-count-in-loop-c-2 : goal.overflow_add-count-in-loop-c-2
+overflow_add-count-in-loop-c-2 c = let e = counted-more _ _ _ _ c.loop-c.invariant.1 in omega (arith, counted-most _ _ _ _ e)
+
+pub loop-c-preserved : goal.loop-c-preserved
+loop-c-preserved c = (omega arith, counted-more _ _ _ _ c.loop-c.invariant.1)
+
+pub returns : goal.returns
+returns c = let l = c.loop-c in let z : l.c ≡ 16 = omega arith in rw z at l.invariant.1 ∙ counted-all _ _ _

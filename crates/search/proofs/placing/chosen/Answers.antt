@@ -1,0 +1,21 @@
+-- `chosen` meets its contract: a set is as good as itself, and what is left of it, once covered rows are taken, is as good too.
+use Rattle.search.proofs.TallyLaws.{level-words}
+use Rattle.search.proofs.ThinnedLaws.{thinned-thins}
+use Rattle.search.proofs.TurnLaws.{thins-itself, node-left}
+use Rattle.search.proofs.placing.chosen.Goals as goal
+
+pub returns-then-kept-ne0 : goal.returns-then-kept-ne0
+returns-then-kept-ne0 c = thins-itself c.requires.1
+
+pub returns-then-is_lone : goal.returns-then-is_lone
+returns-then-is_lone c = thins-itself c.requires.1
+
+pub undominated-requires : goal.undominated-requires
+undominated-requires c =
+    let s = c.requires in
+    (level-words _ _ s.0.tables.by_rows.small s.0.tables.by-columns, s.0.rest.set, s.1)
+
+pub returns : goal.returns
+returns c =
+    let s = c.requires in
+    thinned-thins _ _ _ _ _ _ _ _ _ (node-left s.0) _ s.3 _ c.undominated.ensures

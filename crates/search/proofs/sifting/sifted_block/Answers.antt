@@ -1,0 +1,96 @@
+use Rattle.std.proofs.Common.{◌≡◌, ◌+◌, ◌-◌, ◌<◌, ◌∙◌, arith}
+use Rattle.search.specs.ColumnLists.{levels_of}
+use Rattle.search.proofs.TallyLaws.{tally-is, levels-cap}
+use Rattle.search.proofs.SiftedLaws.{going_start, going-keep, going-skip, going-low, going-lone, at-most-le}
+use Rattle.search.proofs.sifting.sifted_block.Goals as goal
+
+pub counted-count-requires : goal.counted-count-requires
+counted-count-requires c = (c.requires.1, omega arith, c.requires.2)
+
+pub loop-i-init : goal.loop-i-init
+loop-i-init c =
+    let a = c.args in
+    let pre = c.requires in (
+      omega arith,
+      omega arith,
+      (λ x l. c.counted-count.ensures x l ∙ tally-is 0 a.words.now a.columns.0 x a.s (a.e - a.s)),
+      going_start _ _ _ _ pre.3 pre.4,
+    )
+
+pub overflow_sub-e : goal.overflow_sub-e
+overflow_sub-e c = c.requires.0
+
+pub is_lone-requires : goal.is_lone-requires
+is_lone-requires c = (c.loop-i.invariant.3.set, c.loop-i.invariant.3.some)
+
+pub returns-then-is_lone : goal.returns-then-is_lone
+returns-then-is_lone c =
+    let l = c.loop-i in
+    record { leads = going-lone _ _ _ _ _ _ _ l.invariant.0 l.invariant.3 (c.is_lone.ensures c.if-is_lone.true); set = l.invariant.3.set; some = l.invariant.3.some }
+
+pub kept-keep-requires : goal.kept-keep-requires
+kept-keep-requires c =
+    let l = c.loop-i in
+    let a = c.args in (
+      omega (arith, c.requires.1),
+      (λ x b. omega (arith, l.invariant.2 x b, at-most-le (a.e - a.s) (levels_of a.words.now a.columns.0 a.s x) l.v, c.requires.1)),
+      l.invariant.3.set,
+    )
+
+pub overflow_add-v : goal.overflow_add-v
+overflow_add-v c = record { fits = omega (arith, c.loop-i.invariant.1) }
+
+pub counted-count-requires-then-keep-eq0 : goal.counted-count-requires-then-keep-eq0
+counted-count-requires-then-keep-eq0 c =
+    let l = c.loop-i in
+    let a = c.args in
+    let k = c.kept-keep in
+    let z : k.result.0 ≡ 0 = c.if-keep-eq0.true in
+    let iw : l.i < a.e - a.s = omega arith in
+    let low : l.v < 15 = going-low _ _ _ _ _ _ _ _ _ iw l.invariant.3 k.ensures.has l.invariant.2 z (levels-cap a.words.now a.columns.0 a.s c.requires.2) in
+    (c.requires.1, omega arith, c.requires.2)
+
+pub loop-i-smaller-then-keep-eq0 : goal.loop-i-smaller-then-keep-eq0
+loop-i-smaller-then-keep-eq0 c =
+    let l = c.loop-i in
+    let a = c.args in
+    let k = c.kept-keep in
+    let z : k.result.0 ≡ 0 = c.if-keep-eq0.true in
+    let iw : l.i < a.e - a.s = omega arith in
+    let low : l.v < 15 = going-low _ _ _ _ _ _ _ _ _ iw l.invariant.3 k.ensures.has l.invariant.2 z (levels-cap a.words.now a.columns.0 a.s c.requires.2) in
+    omega arith
+
+pub loop-i-preserved-then-keep-eq0 : goal.loop-i-preserved-then-keep-eq0
+loop-i-preserved-then-keep-eq0 c =
+    let l = c.loop-i in
+    let a = c.args in
+    let k = c.kept-keep in
+    let z : k.result.0 ≡ 0 = c.if-keep-eq0.true in
+    let iw : l.i < a.e - a.s = omega arith in
+    let low : l.v < 15 = going-low _ _ _ _ _ _ _ _ _ iw l.invariant.3 k.ensures.has l.invariant.2 z (levels-cap a.words.now a.columns.0 a.s c.requires.2) in (
+      l.invariant.0,
+      omega arith,
+      (λ x b. c.counted-count-then-keep-eq0.ensures x b ∙ tally-is (l.v + 1) a.words.now a.columns.0 x a.s (a.e - a.s)),
+      going-skip _ _ _ _ _ _ _ _ _ iw l.invariant.3 k.ensures.has l.invariant.2 z,
+    )
+
+pub overflow_add-i : goal.overflow_add-i
+overflow_add-i c = record { fits = omega arith }
+
+pub loop-i-preserved : goal.loop-i-preserved
+loop-i-preserved c =
+    let l = c.loop-i in
+    let k = c.kept-keep in
+    let iw : l.i < c.args.e - c.args.s = omega arith in (
+      omega arith,
+      l.invariant.1,
+      l.invariant.2,
+      going-keep _ _ _ _ _ _ _ _ _ iw l.invariant.3 k.ensures.has l.invariant.2 k.ensures.set c.if-keep-eq0.false,
+    )
+
+pub returns : goal.returns
+returns c =
+    let l = c.loop-i in
+    let a = c.args in
+    let e : l.i ≡ a.e - a.s = omega arith in
+    record { leads = rw e at l.invariant.3.leads; set = l.invariant.3.set; some = l.invariant.3.some }

@@ -1,0 +1,23 @@
+use Rattle.std.proofs.Common.{arith}
+use Rattle.search.proofs.SymmetryLaws.{row_at, reached-none, reached-next}
+use Rattle.search.proofs.symmetries.images.Goals as goal
+use Rattle.search.proofs.symmetries.images.Goals.{then-image-lt8+then-has, then-image-lt8+else-has, else-image-lt8}
+
+pub loop-r-init : goal.loop-r-init
+loop-r-init c = reached-none _ _ _ _ c.requires.2
+
+pub with-out-requires : goal.with-out-requires
+with-out-requires c = (c.loop-r.invariant.set, c.if-image-lt8.true)
+
+pub loop-r-preserved : goal.loop-r-preserved
+loop-r-preserved c =
+    let l = c.loop-r in
+    let a = c.args in
+    elim c.if-image-lt8.branch [
+      | then-image-lt8+then-has w ↦ rw w.out-is (reached-next _ _ _ _ _ l.r _ _ (omega arith) (w.has.ensures.yes w.if-has.true) (row_at a.symmetries _) w.with-out.ensures.set w.with-out.ensures.has l.invariant)
+      | then-image-lt8+else-has w ↦ rw w.out-is l.invariant
+      | else-image-lt8 w ↦ rw w.out-is l.invariant
+    ]
+
+pub returns : goal.returns
+returns c = c.loop-r.invariant
