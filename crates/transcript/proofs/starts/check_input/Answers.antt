@@ -16,11 +16,11 @@ pub returns-then-input-gt65536 : goal.returns-then-input-gt65536
 returns-then-input-gt65536 c = long-refused _ c.if-input-gt65536.true (ap check_number c.ended.ensures)
 
 pub returns-then-input-lt-LENGTH : goal.returns-then-input-lt-LENGTH
-returns-then-input-lt-LENGTH c = short-refused _ c.if-input-gt65536.false c.if-input-lt-LENGTH.true (ap check_number c.ended-then-input-lt-LENGTH.ensures)
+returns-then-input-lt-LENGTH c = short-refused c.args.input.now (omega arith) c.if-input-lt-LENGTH.true (ap check_number c.ended-then-input-lt-LENGTH.ensures)
 
 pub returns-then-not-line_laid : goal.returns-then-not-line_laid
 returns-then-not-line_laid c =
-    line_refused _ c.if-input-gt65536.false c.line_laid.ensures c.if-not-line_laid.true-raw (ap check_number c.ended-then-not-line_laid.ensures)
+    line_refused c.args.input.now (omega arith) c.line_laid.ensures c.if-not-line_laid.true-raw (ap check_number c.ended-then-not-line_laid.ensures)
 
 pub six_wide-capacity-requires : goal.six_wide-capacity-requires
 six_wide-capacity-requires c = search rules
@@ -29,7 +29,7 @@ six_wide-capacity-requires c = search rules
 
 reads : (c : After-six_wide-capacity) → LineRead c.args.input.now c.six_wide-rows.result c.six_wide-columns.result c.six_wide-top.result c.six_wide-capacity.result
 reads c =
-    line_read c.if-input-gt65536.false c.line_laid.ensures c.if-not-line_laid.false-raw c.six_wide-rows.ensures.0 c.six_wide-columns.ensures.0 c.six_wide-top.ensures.0 c.six_wide-capacity.ensures.0
+    line_read (omega arith) c.line_laid.ensures c.if-not-line_laid.false-raw c.six_wide-rows.ensures.0 c.six_wide-columns.ensures.0 c.six_wide-top.ensures.0 c.six_wide-capacity.ensures.0
 
 pub returns-in-No : goal.returns-in-No
 returns-in-No c =
