@@ -1,7 +1,7 @@
 /* The calls of the plan register for C and C++ programs, on x86-64 Linux.
  *
- * The calls are verified code in the static library target/staticlib/libplan_register.a, which
- * `bash scripts/library` proves and writes. docs/GUIDE.md tells how to use them.
+ * The calls are verified code in the static library crates/plan_register/out/libplan_register.a,
+ * which `bash scripts/library` proves and writes. docs/GUIDE.md tells how to use them.
  *
  * Any numbers and any bytes may be sent. What does not pass a call's questions is refused by the
  * number of the first question that gets a no; a refusal changes no byte of any slice. A call keeps

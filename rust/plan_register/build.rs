@@ -1,5 +1,6 @@
-//! Links the verified static library, which stands in target/staticlib under the repository's
-//! root. The build fails where it is missing, or older than a source that it is made of.
+//! Links the verified static library, which stands in crates/plan_register/out under the
+//! repository's root. The build fails where it is missing, or older than a source that it is made
+//! of.
 
 #[path = "build/library.rs"]
 mod library;

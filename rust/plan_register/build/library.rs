@@ -9,7 +9,7 @@ const NAME: &str = "plan_register";
 
 /// The folder of the library.
 pub fn folder(root: &Path) -> PathBuf {
-    root.join("target").join("staticlib")
+    root.join("crates").join(NAME).join("out")
 }
 
 /// The library.
@@ -46,10 +46,10 @@ fn crates(text: &str) -> Vec<&str> {
     found
 }
 
-/// The crates that a crate names in its line of crates.txt.
+/// The crates that a crate names in its line of crates.txt, which begins with the crate's name.
 fn used_by<'a>(text: &'a str, name: &str) -> impl Iterator<Item = &'a str> {
     let lines = text.lines().filter_map(|line| line.split_once(':'));
-    let mut lines = lines.filter(move |(listed, _)| *listed == name);
+    let mut lines = lines.filter(move |(listed, _)| listed.split_whitespace().next() == Some(name));
     lines.next().map_or("", |(_, used)| used).split_whitespace()
 }
 

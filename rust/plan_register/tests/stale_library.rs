@@ -21,14 +21,14 @@ impl Repository {
         repository.write(
             "crates.txt",
             3,
-            "# A comment.\nother:\nbelow: bytes\nused: below\nplan_register: used bytes\n",
+            "# A comment.\nother:\nbelow: bytes\nused: below\nplan_register staticlib: used bytes\n",
         );
         repository.write("crates/plan_register/src/lib.rt", 3, "");
         repository.write("crates/used/src/lib.rt", 3, "");
         repository.write("crates/used/src/deep/part.rt", 3, "");
         repository.write("crates/below/src/lib.rt", 3, "");
         repository.write("crates/other/src/lib.rt", 3, "");
-        repository.write("target/staticlib/libplan_register.a", 5, "");
+        repository.write("crates/plan_register/out/libplan_register.a", 5, "");
         repository
     }
 
@@ -50,7 +50,7 @@ impl Repository {
 
     fn check_older_than(&self, file: &str) {
         let expected = format!(
-            "target/staticlib/libplan_register.a is older than {file}: \
+            "crates/plan_register/out/libplan_register.a is older than {file}: \
              run `bash scripts/library` in the repository's root"
         );
         assert_eq!(self.complaint(), Some(expected));
@@ -82,7 +82,7 @@ fn a_missing_library_is_noticed() {
     let repository = Repository::new("missing");
     let archive = library::archive(&repository.root);
     fs::remove_file(archive).expect("the library is removed");
-    let expected = "target/staticlib/libplan_register.a is missing: \
+    let expected = "crates/plan_register/out/libplan_register.a is missing: \
                     run `bash scripts/library` in the repository's root";
     assert_eq!(repository.complaint().as_deref(), Some(expected));
 }
@@ -98,7 +98,7 @@ fn each_newer_source_is_noticed() {
         ("newer_below", "crates/below/src/lib.rt"),
     ] {
         let repository = Repository::new(name);
-        repository.write(file, 6, "used: below\nplan_register: used\n");
+        repository.write(file, 6, "used: below\nplan_register staticlib: used\n");
         repository.check_older_than(file);
     }
 }

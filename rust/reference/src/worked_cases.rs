@@ -69,13 +69,13 @@ pub fn prefixes() -> Vec<(Vec<u8>, Vec<u8>, usize)> {
 
 /// The pairs of grids that same is asked of.
 pub fn pairs() -> Vec<Pair> {
-    let [of_same, _] = tables("Pairs", ["pairs", "terminalPairs"], " number = ");
+    let [of_same, _] = tables("Pairs", ["pairs", "terminal_pairs"], " number = ");
     of_same.iter().map(|case| pair(case)).collect()
 }
 
 /// Those that a terminal's same is asked of.
 pub fn terminal_pairs() -> Vec<Pair> {
-    let [_, of_terminal] = tables("Pairs", ["pairs", "terminalPairs"], " number = ");
+    let [_, of_terminal] = tables("Pairs", ["pairs", "terminal_pairs"], " number = ");
     of_terminal.iter().map(|case| pair(case)).collect()
 }
 
@@ -126,13 +126,13 @@ pub fn books() -> Vec<Book> {
 
 /// The bounds that are counted as sent and pruned.
 pub fn count_cases() -> Vec<CountCase> {
-    let cases = table("Counts", "countCases", " prunedLow = ");
+    let cases = table("Counts", "count_cases", " pruned_low = ");
     let form = |case: &str, names: [&str; 2]| names.map(|name| cells(field(case, name))).into();
     let read = |case: &String| CountCase {
         register: text_bytes(field(case, "lines")),
         sent: form(case, ["low", "high"]),
         number: numbers(field(case, "number"))[0] as u32,
-        left: form(case, ["prunedLow", "prunedHigh"]),
+        left: form(case, ["pruned_low", "pruned_high"]),
         counts: ["sent", "left"].map(|name| numbers(field(case, name))[0]),
     };
     cases.iter().map(read).collect()
@@ -183,10 +183,12 @@ fn calls(book: &str) -> Vec<(Call, Answer)> {
 
 /// The calls of a list, each from its name to the next one's.
 fn call_texts(value: &str) -> Vec<&str> {
-    let names = ["enter", "strike", "countIn", "terminalEnter"];
+    let names = ["enter", "strike", "count_in", "terminal_enter"];
+    let is_whole = |&i: &usize| !value[..i].ends_with('_');
     let mut starts: Vec<usize> = names
         .iter()
         .flat_map(|name| value.match_indices(name).map(|(i, _)| i))
+        .filter(is_whole)
         .collect();
     starts.sort_unstable();
     let ends = starts[1..].iter().copied().chain([value.len()]);
@@ -203,8 +205,8 @@ fn call(text: &str) -> Call {
     match text.split_whitespace().next() {
         Some("enter") => Call::Enter(client(text), next()),
         Some("strike") => Call::Strike(client(text), next()),
-        Some("countIn") => Call::Count((next(), next())),
-        Some("terminalEnter") => Call::TerminalEnter(client(text), next()),
+        Some("count_in") => Call::Count((next(), next())),
+        Some("terminal_enter") => Call::TerminalEnter(client(text), next()),
         _ => panic!("a call: {text}"),
     }
 }
@@ -234,10 +236,10 @@ mod tests {
     #[test]
     fn calls_are_read_by_their_names() {
         let text = "enter 1 (1 ∷ 0 ∷ [])
-          ∷ terminalEnter 8 (0 ∷ 15 ∷ [])
-          ∷ terminalEnter 257 ([])
+          ∷ terminal_enter 8 (0 ∷ 15 ∷ [])
+          ∷ terminal_enter 257 ([])
           ∷ strike 0 (2 ∷ [])
-          ∷ countIn (0 ∷ []) (1 ∷ [])
+          ∷ count_in (0 ∷ []) (1 ∷ [])
           ∷ []";
         let calls: Vec<Call> = call_texts(text).into_iter().map(call).collect();
         let expected = [
