@@ -1,8 +1,9 @@
 //! Runs the built program `planbook`, tells whether what it prints is whole, and compares it with
 //! the reference.
 //!
-//! The program is target/bin/planbook under the repository's root, which `rt check planbook`
-//! makes. The environment variable PLANBOOK may name another one, from the same root.
+//! The program is crates/planbook/out/planbook under the repository's root, which
+//! `bash scripts/planbook` proves and builds. The environment variable PLANBOOK may name another
+//! one, from the same root.
 //!
 //! | module      | what                                                        |
 //! |-------------|-------------------------------------------------------------|

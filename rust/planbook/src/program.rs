@@ -76,13 +76,18 @@ fn printed(program: &Path, output: Output) -> Vec<u8> {
     output.stdout
 }
 
-/// The program: target/bin/planbook, or the one that PLANBOOK names, from the repository's root.
+/// The program: crates/planbook/out/planbook, or the one that PLANBOOK names, from the repository's
+/// root.
 pub fn program() -> PathBuf {
     match env::var_os("PLANBOOK") {
         Some(named) => existing(&root().join(named), "it is what PLANBOOK names"),
         None => existing(
-            &root().join("target").join("bin").join("planbook"),
-            "first run `rt check planbook` in the repository's root",
+            &root()
+                .join("crates")
+                .join("planbook")
+                .join("out")
+                .join("planbook"),
+            "first run `bash scripts/planbook` in the repository's root",
         ),
     }
 }

@@ -67,11 +67,11 @@ fn the_guide_quotes_the_caller_to_the_letter() {
 #[test]
 fn the_guide_says_what_the_program_says() {
     let source = include_str!("../../../crates/planbook/src/main.rt");
-    let said: Vec<&str> = source.split("b\"").skip(1).collect();
+    let said: Vec<&str> = source.split("\"planbook: ").skip(1).collect();
     assert_eq!(said.len(), 2);
     for said in said {
         let said = said.split('"').next().expect("it ends");
-        assert!(GUIDE.contains(&format!("`{said}: ..`")), "{said}");
+        assert!(GUIDE.contains(&format!("`planbook: {said}: ..`")), "{said}");
     }
 }
 

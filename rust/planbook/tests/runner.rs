@@ -39,7 +39,7 @@ fn standard_error_is_seen() {
 }
 
 #[test]
-#[should_panic(expected = "is missing: first run `rt check planbook`")]
+#[should_panic(expected = "is missing: first run `bash scripts/planbook`")]
 fn a_missing_program_is_seen() {
-    existing(&root().join("missing"), "first run `rt check planbook`");
+    existing(&root().join("missing"), "first run `bash scripts/planbook`");
 }
