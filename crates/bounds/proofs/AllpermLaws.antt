@@ -1,9 +1,9 @@
 -- Laws of allperm.
 --
---   allperm-decides    ==  the test decides it
---   allperm-directed   ==  it survives when row 0 falls and the other rows rise
---   allperm-one-row    ==  a grid of one row has it
---   least-allperm      ==  the least grid of a class has it
+--   allperm-decides   ==  the test decides it
+--   allperm-directed  ==  it survives when row 0 falls and the other rows rise
+--   allperm-one-row   ==  a grid of one row has it
+--   least-allperm     ==  the least grid of a class has it
 use mathlib.Core.Path.{◌≡◌, refl, ◌∙◌}
 use mathlib.Core.List.{List, Memᴰ}
 use mathlib.Core.Bool.{true}

@@ -1,12 +1,12 @@
 -- Bounds on the cells of a grid, a list of lows and a list of highs: document 01's form.
 --
---   IsBounds size top low high       ==  low and high are bounds: size values each, 0 to top, each low at most its high by rank
---   InBounds size top low high g     ==  the grid g lies in the bounds: size cells, each 0 to top and, by rank, within its low to its high
---   ranks_within a b v                ==  the value v ranks within a to b
---   between top a b                  ==  the values 0 to top that rank within a to b
---   in_bounds size top low high g     ==  the test of InBounds
---   fillings top low high s n        ==  all ways to fill n cells from cell s on
---   grids_within size top low high    ==  all grids that lie in the bounds
+--   IsBounds size top low high      ==  low and high are bounds: size values each, 0 to top, each low at most its high by rank
+--   InBounds size top low high g    ==  the grid g lies in the bounds: size cells, each 0 to top and, by rank, within its low to its high
+--   ranks_within a b v              ==  the value v ranks within a to b
+--   between top a b                 ==  the values 0 to top that rank within a to b
+--   in_bounds size top low high g   ==  the test of InBounds
+--   fillings top low high s n       ==  all ways to fill n cells from cell s on
+--   grids_within size top low high  ==  all grids that lie in the bounds
 use Rattle.std.specs.Prelude.{◌≡◌, Bool, ◌&&◌, ℕ, zero, suc, ◌≤◌, ◌<◌, length, get_or, leb, eqb}
 use mathlib.Core.List.{List, [], ◌∷◌, map, flat_map}
 use Rattle.permutations.specs.Lists.{numbers, select, every}

@@ -1,9 +1,9 @@
 -- Where the rows placed tell as many pairs of columns apart as all rows do, further rows change nothing about the columns.
 --
---   places-rise      ==  a column has no fewer columns after it, by more rows
---   apart-all        ==  all rows tell the same number of pairs apart, in whichever order they are placed
---   apart-settled    ==  rows that tell as many apart as all rows do have told what there is to tell: whichever rows come next, each column has the same number after it
---   apart-is         ==  all rows placed: the sum is the number of pairs that are told apart
+--   places-rise    ==  a column has no fewer columns after it, by more rows
+--   apart-all      ==  all rows tell the same number of pairs apart, in whichever order they are placed
+--   apart-settled  ==  rows that tell as many apart as all rows do have told what there is to tell: whichever rows come next, each column has the same number after it
+--   apart-is       ==  all rows placed: the sum is the number of pairs that are told apart
 use mathlib.Core.Path.{◌≡◌, refl, sym, ap, ◌∙◌}
 use mathlib.Core.List.{List}
 use mathlib.Core.Bool.{true, false}

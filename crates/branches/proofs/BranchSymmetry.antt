@@ -1,6 +1,6 @@
 -- Symmetries of a grid that a search finds: two row orders with one arrangement.
 --
---   covers-alike    ==  what covers the branch that begins like one of two orders with one arrangement covers the branch that begins like the other
+--   covers-alike  ==  what covers the branch that begins like one of two orders with one arrangement covers the branch that begins like the other
 use mathlib.Core.Path.{◌≡◌, sym, ap, ap₂, ◌∙◌}
 use mathlib.Core.List.{List}
 use Prim.Native.Nat.{ℕ, ◌≤◌, ◌<◌}

@@ -1,7 +1,7 @@
 -- Rows that another row dominates: exchanging the two rows, and columns in pairs, makes no row of an arrangement greater.
 --
---   Sorts m n g      ==  for every row order there is a column order that sorts the columns by it
---   covers-dominated ==  what covers placing a row next covers placing a row that it dominates
+--   Sorts m n g       ==  for every row order there is a column order that sorts the columns by it
+--   covers-dominated  ==  what covers placing a row next covers placing a row that it dominates
 use mathlib.Core.Path.{◌≡◌, sym, ap, ◌∙◌}
 use mathlib.Core.List.{List}
 use mathlib.Core.Logic.{◌⊎◌, inl, inr}

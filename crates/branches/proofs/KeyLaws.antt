@@ -1,14 +1,14 @@
 -- Laws of the numbers of rows: they are in the order of the next rows.
 --
---   places_is                    ==  the place of a column below n
---   bits_key                     ==  the key of a row by numbers that stand for its cells
---   after-count                  ==  how many columns come after one, counted in sorted order
---   after-room                   ==  a column's number leaves room for those before it
---   same_block                   ==  columns with equal numbers are equal
---   block-after                  ==  columns with another number come after all of a block
---   row-ascends                  ==  in a block the next row's cells ascend
---   key-sorted                   ==  the number of a row, summed in sorted order
---   key-order, key-equal         ==  of equal leading rows with one more, the lesser next row has the lesser number, and equal ones have equal numbers
+--   places_is             ==  the place of a column below n
+--   bits_key              ==  the key of a row by numbers that stand for its cells
+--   after-count           ==  how many columns come after one, counted in sorted order
+--   after-room            ==  a column's number leaves room for those before it
+--   same_block            ==  columns with equal numbers are equal
+--   block-after           ==  columns with another number come after all of a block
+--   row-ascends           ==  in a block the next row's cells ascend
+--   key-sorted            ==  the number of a row, summed in sorted order
+--   key-order, key-equal  ==  of equal leading rows with one more, the lesser next row has the lesser number, and equal ones have equal numbers
 use mathlib.Core.Path.{◌≡◌, sym, ap, ap₂, ◌∙◌}
 use mathlib.Core.List.{List}
 use mathlib.Core.Bool.{true, false, true≢false}

@@ -6,8 +6,8 @@
 --   number n f           ==  the number with the digits f 0, f 1, .., f (n - 1) to base 16, the first one highest
 --   TwoValued g low      ==  the cells of g are `low` and at most one value more, which ranks higher
 --   bit low v            ==  0 for the value `low`, 1 for any other
---   bit_key n g low k p   ==  the key of row k of the order p in a grid of two values: each higher value counts 2 to the power of the columns after its own
---   digit_key n g k p     ==  the key of row k of the order p in any grid: the levels of its cells, with the columns sorted by it and the rows before, to base 16
+--   bit_key n g low k p  ==  the key of row k of the order p in a grid of two values: each higher value counts 2 to the power of the columns after its own
+--   digit_key n g k p    ==  the key of row k of the order p in any grid: the levels of its cells, with the columns sorted by it and the rows before, to base 16
 --   key two n g low k p  ==  the one or the other
 --   Valued two g low     ==  g is small, and has two values where `two` says so
 use Rattle.std.specs.Prelude.{◌≡◌, List, Bool, true, false, ℕ, zero, suc, ◌+◌, ◌*◌, ◌%◌, ◌^◌, ◌≤◌, ◌<◌, length, get_or, eqb}

@@ -1,16 +1,16 @@
 -- Rows sifted by counts. Between functions: no answer of a call is defined here.
 -- A row is a function from places to cells; a set of rows is what it says of a row's number.
 --
---   at_most w c v           ==  how many of the w cells c are at most v
---   Ascends w f            ==  the w cells f ascend
---   SortedBlock s w c k    ==  k's cells at the places from s on are the w cells c, sorted
---   NoLater p f h          ==  of the leading p cells of f and h, the first unequal ones decide: f's is the lesser, or all are equal
---   Leads p R K x          ==  x is of R, and of the rows of R none has lesser leading p cells
---   Threshold R C i v      ==  v is the least value for which some row of R has a count above i
---   sifted R C v i         ==  the rows of R with counts above 0, 1 .. i - 1 at the values v 0, v 1 .. v (i - 1)
---   BlockEnds n ends       ==  the n places fall into blocks: each ends further on, within n, and its places end alike
---   Starts ends u          ==  a block starts at u: all before have ended
---   Sifts n ends c R p S   ==  S are the rows of R that are least in the first p places once each block is sorted; c u x has row x's cells from place u on
+--   at_most w c v         ==  how many of the w cells c are at most v
+--   Ascends w f           ==  the w cells f ascend
+--   SortedBlock s w c k   ==  k's cells at the places from s on are the w cells c, sorted
+--   NoLater p f h         ==  of the leading p cells of f and h, the first unequal ones decide: f's is the lesser, or all are equal
+--   Leads p R K x         ==  x is of R, and of the rows of R none has lesser leading p cells
+--   Threshold R C i v     ==  v is the least value for which some row of R has a count above i
+--   sifted R C v i        ==  the rows of R with counts above 0, 1 .. i - 1 at the values v 0, v 1 .. v (i - 1)
+--   BlockEnds n ends      ==  the n places fall into blocks: each ends further on, within n, and its places end alike
+--   Starts ends u         ==  a block starts at u: all before have ended
+--   Sifts n ends c R p S  ==  S are the rows of R that are least in the first p places once each block is sorted; c u x has row x's cells from place u on
 use Rattle.std.specs.Prelude.{◌≡◌, List, ◌↔◌, ℕ, zero, suc, ◌+◌, ◌-◌, ◌≤◌, ◌<◌, get_or, leb}
 use Rattle.permutations.specs.Permutations.{IsPermutation}
 use Rattle.permutations.specs.Sums.{count}

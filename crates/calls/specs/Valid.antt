@@ -1,14 +1,14 @@
 -- A valid register, one that question 5 gets a yes for, and what the calls answer on it. Between functions: no answer of a call is defined here.
 --
---   Valid size n b              ==  b is a valid register, with n entries of so many cells
---   open_no s length             ==  the first no of open's questions, of a slice of that length
---   asked b c g                 ==  the first no of questions 5, 6, 7 and 15 of enter and strike
---   terminal_asked b c g         ==  the first no of questions 5, 14, 6, 7 and 15 of a terminal's enter
---   register_with b es           ==  the bytes of the register b with other entries
---   gone_at b p                  ==  without the entry at p
---   held_as b c g x              ==  where client c holds x of the grid g: without g where nobody holds it then
---   entered_least b c r          ==  the outcome of client c's entering the grid r, least of its class, into the register b
---   struck_least b c r           ==  the outcome of its striking it
+--   Valid size n b        ==  b is a valid register, with n entries of so many cells
+--   open_no s length      ==  the first no of open's questions, of a slice of that length
+--   asked b c g           ==  the first no of questions 5, 6, 7 and 15 of enter and strike
+--   terminal_asked b c g  ==  the first no of questions 5, 14, 6, 7 and 15 of a terminal's enter
+--   register_with b es    ==  the bytes of the register b with other entries
+--   gone_at b p           ==  without the entry at p
+--   held_as b c g x       ==  where client c holds x of the grid g: without g where nobody holds it then
+--   entered_least b c r   ==  the outcome of client c's entering the grid r, least of its class, into the register b
+--   struck_least b c r    ==  the outcome of its striking it
 use Rattle.std.specs.Prelude.{◌≡◌, List, [], ◌∷◌, ◌++◌, true, ℕ, suc, take, drop, eqb}
 use Rattle.grids.specs.Questions.{first_no, question1, question2, question3, question4, question14, after_first}
 use Rattle.layout.specs.Layout.{Shape, Entry, grid_size, layout, layout_length, changed, count, decode_shape, decode, laid_out}

@@ -1,12 +1,12 @@
 -- How many leading cells agree, as same answers it.
 --
---   same-agreed         ==  where every question gets a yes, those of the two least grids
---   same-agreed-all     ==  with 0 it is all of them
---   same_parts          ==  with 103 it is below their number, and the two least grids part there
---   same-agreed-none    ==  in a refusal it is 0
---   asked-103           ==  103 is no refusal
---   same-of-classes     ==  it and the number are those of the two classes: arranging either grid anew changes neither
---   same-exchanged      ==  nor does exchanging the two, on all arguments
+--   same-agreed       ==  where every question gets a yes, those of the two least grids
+--   same-agreed-all   ==  with 0 it is all of them
+--   same_parts        ==  with 103 it is below their number, and the two least grids part there
+--   same-agreed-none  ==  in a refusal it is 0
+--   asked-103         ==  103 is no refusal
+--   same-of-classes   ==  it and the number are those of the two classes: arranging either grid anew changes neither
+--   same-exchanged    ==  nor does exchanging the two, on all arguments
 use mathlib.Core.Path.{◌≡◌, refl, sym, ap, ap₂, ◌∙◌}
 use mathlib.Core.List.{List, [], ◌∷◌}
 use mathlib.Core.Bool.{Bool, true, false, and-true, and_comm}

@@ -1,9 +1,9 @@
 -- A line passes exactly if its cells lie in the bounds.
 --
---   stated-cell             ==  the last two bytes of each cell of a line state it
---   states                  ==  at a field's last byte stands what states its cell
---   pass-in, in-pass        ==  the two directions
---   line-within             ==  the answer that all bytes pass is the test of the cells
+--   stated-cell       ==  the last two bytes of each cell of a line state it
+--   states            ==  at a field's last byte stands what states its cell
+--   pass-in, in-pass  ==  the two directions
+--   line-within       ==  the answer that all bytes pass is the test of the cells
 use mathlib.Core.Path.{◌≡◌, sym, ap, ap₂, ◌∙◌}
 use mathlib.Core.List.{List, [], ◌∷◌, ◌++◌}
 use mathlib.Core.Bool.{Bool, true}

@@ -1,12 +1,12 @@
 -- The steps of `follow`, which follows one of the rows that can come next, from a best that covers the branches of the rows before it.
 --
---   followed-next       ==  a better best that covers the row's branch: one row more is followed
---   further             ==  how the search stands in a candidate's branch
---   follow-cut          ==  what is returned where the candidate was found greater than the best
---   follow-jump         ==  where the search goes back to where a symmetry began
---   follow-last         ==  where no more than one row is left
---   follow-settled      ==  where its branch was searched, or is a copy of one tried before
---   follow-again        ==  where its branch was searched again
+--   followed-next   ==  a better best that covers the row's branch: one row more is followed
+--   further         ==  how the search stands in a candidate's branch
+--   follow-cut      ==  what is returned where the candidate was found greater than the best
+--   follow-jump     ==  where the search goes back to where a symmetry began
+--   follow-last     ==  where no more than one row is left
+--   follow-settled  ==  where its branch was searched, or is a copy of one tried before
+--   follow-again    ==  where its branch was searched again
 use mathlib.Core.Path.{◌≡◌, refl, sym, ◌∙◌}
 use mathlib.Core.List.{List}
 use mathlib.Core.Bool.{Bool, true, false}

@@ -3,11 +3,11 @@
 -- so on to rank 14. Sixteen equal cells carry.
 --
 --   weight_at r           ==  16 to the power 14 - r, and 0 from r = 15 on
---   weight v             ==  what a cell of value v adds to the number of its row
---   counts l             ==  the number of the cells l
---   CountsRows m n g p c ==  c holds the numbers of the first m rows of the order p
---   FirstGreatest t c r  ==  the greatest of the first t numbers of c stands first at r
---   MarksLess c r marks  ==  marks are set only where the number in c is less than that at r
+--   weight v              ==  what a cell of value v adds to the number of its row
+--   counts l              ==  the number of the cells l
+--   CountsRows m n g p c  ==  c holds the numbers of the first m rows of the order p
+--   FirstGreatest t c r   ==  the greatest of the first t numbers of c stands first at r
+--   MarksLess c r marks   ==  marks are set only where the number in c is less than that at r
 use Rattle.std.specs.Prelude.{◌≡◌, List, [], ◌∷◌, true, false, ℕ, ◌+◌, ◌-◌, ◌*◌, ◌^◌, ◌≤◌, ◌<◌, get_or, ltb}
 use Rattle.grids.specs.Order.{rank}
 use Rattle.grids.specs.Grids.{row}

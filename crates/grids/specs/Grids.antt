@@ -1,16 +1,16 @@
 -- Grids of m rows and n columns, as their m * n cells row after row; their arrangements and classes.
 --
 --   cell n g i j           ==  the cell in row i, column j of the grid g of n columns
---   grid_of m n f           ==  the grid of m rows and n columns with f i j in row i, column j
+--   grid_of m n f          ==  the grid of m rows and n columns with f i j in row i, column j
 --   IsGrid m n top g       ==  g has m * n cells, each 0 to top
 --   capped top g           ==  the test that every cell is at most top
---   is_grid m n top g       ==  the test of IsGrid
+--   is_grid m n top g      ==  the test of IsGrid
 --   row n g i              ==  row i from the left
 --   column m n g j         ==  column j from the top
---   permuted_row n g i q    ==  row i, its cells in the order q
+--   permuted_row n g i q   ==  row i, its cells in the order q
 --   arrangement m n p q g  ==  the arrangement of g by the row order p and the column order q: g (p i, q j) in row i, column j
 --   OneClass m n a b       ==  some row order and some column order carry a to b: the two grids are in one class
---   one_class m n a b       ==  the test of it, over all orders
+--   one_class m n a b      ==  the test of it, over all orders
 use Rattle.std.specs.Prelude.{◌≡◌, List, Bool, ◌&&◌, ℕ, ◌+◌, ◌*◌, ◌/◌, ◌%◌, ◌≤◌, ◌<◌, length, get_or, leb, eqb}
 use Rattle.permutations.specs.Lists.{tabulate, every, some}
 use Rattle.permutations.specs.Permutations.{IsPermutation, permutations}

@@ -3,7 +3,7 @@
 --   IsLeast m n g r     ==  r is an arrangement of g and comes no later than any
 --   arrangements m n g  ==  all arrangements of g
 --   lesser a b          ==  the one of a and b that comes first
---   least_of g l         ==  the first among g and the grids of l
+--   least_of g l        ==  the first among g and the grids of l
 --   least m n g         ==  the least arrangement of g, computed
 use mathlib.Core.List.{List, [], ◌∷◌, map, flat_map}
 use Rattle.std.specs.Prelude.{true, false, ℕ}

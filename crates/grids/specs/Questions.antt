@@ -1,8 +1,8 @@
 -- The questions that a call asks of its arguments before anything else, with the numbers of documents 01 and 02.
 --
 --   Question            ==  its number, and whether it gets a yes
---   first_no l           ==  the number of the first question of l that gets a no; 0 if each gets a yes
---   inRange a b x       ==  x is a to b
+--   first_no l          ==  the number of the first question of l that gets a no; 0 if each gets a yes
+--   in_range a b x      ==  x is a to b
 --   Limits m n top      ==  m is 1 to 8, n is 1 to 16, top is 0 to 15: what questions 1 to 3 ask
 --   question1 m         ==  are the rows 1 to 8?
 --   question2 n         ==  are the columns 1 to 16?
@@ -11,7 +11,7 @@
 --   question6 size l    ==  has every slice of l its exact length?
 --   question7 top l     ==  is every cell or bound of the slices of l at most top?
 --   question14 m        ==  are a terminal's rows other than 6 to 8?
---   after_first q l      ==  the questions l, with q asked directly after the first of them
+--   after_first q l     ==  the questions l, with q asked directly after the first of them
 use Rattle.std.specs.Prelude.{List, [], ◌∷◌, Bool, true, false, not, ◌&&◌, ℕ, ◌≤◌, length, leb, eqb}
 use Rattle.permutations.specs.Lists.{every}
 use Rattle.grids.specs.Grids.{capped}

@@ -1,11 +1,11 @@
 -- Laws of decimal fields.
 --
---   length-field                ==  a field of w bytes has w bytes
---   value-append                ==  the digits of one list after those of another
---   value-field                 ==  what is printed is read back
---   field-small                 ==  what a field of w bytes reads is below 10 ^ w
---   Justified x s               ==  s is spaces and then digits, some unless x is 0, of which the first is no 0
---   justified-field, zero_field ==  a field is spaces and then digits of which the first is no 0; for zero, spaces and one 0
+--   length-field                 ==  a field of w bytes has w bytes
+--   value-append                 ==  the digits of one list after those of another
+--   value-field                  ==  what is printed is read back
+--   field-small                  ==  what a field of w bytes reads is below 10 ^ w
+--   Justified x s                ==  s is spaces and then digits, some unless x is 0, of which the first is no 0
+--   justified-field, zero_field  ==  a field is spaces and then digits of which the first is no 0; for zero, spaces and one 0
 use mathlib.Core.Path.{◌≡◌, refl, sym, ap, ◌∙◌}
 use mathlib.Core.List.{List, [], ◌∷◌, ◌++◌, append_assoc, append-nil}
 use Prim.Native.Nat.{ℕ, zero, suc, ◌+◌, ◌-◌, ◌*◌, ◌/◌, ◌%◌, ◌^◌, ◌≤◌, ◌<◌}

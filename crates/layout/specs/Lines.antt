@@ -1,9 +1,9 @@
 -- The lines of a register's bytes, by their places; question 5 line by line. Between functions: no answer of a call is defined here.
 --
---   no_entry                    ==  what stands where there is no entry
---   first_entry c g             ==  the entry of a grid that client c alone holds, once
---   line_at size b e            ==  the bytes of line e of the entries, the first being 0, its line feed included
---   with_field at x b           ==  b with the number x in the field from `at` on, as wide as those of line 1
+--   no_entry                   ==  what stands where there is no entry
+--   first_entry c g            ==  the entry of a grid that client c alone holds, once
+--   line_at size b e           ==  the bytes of line e of the entries, the first being 0, its line feed included
+--   with_field at x b          ==  b with the number x in the field from `at` on, as wide as those of line 1
 --   EntryLine size top l       ==  l is the line of an entry whose cells are at most top, with holdings
 --   EntriesLaid size top n b   ==  the first n lines are lines of entries, each of which comes before the next
 --   BlanksLaid size from to b  ==  the lines from `from` up to `to` are blank

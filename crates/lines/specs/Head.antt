@@ -1,7 +1,7 @@
 -- Line 1 as the code holds it. Between functions: no answer of a call is defined here.
 --
---   shape_of h    ==  the shape that its numbers are
---   States b h   ==  the bytes b state these numbers
+--   shape_of h  ==  the shape that its numbers are
+--   States b h  ==  the bytes b state these numbers
 use Rattle.std.specs.Prelude.{◌≡◌, ℕ, List}
 use Rattle.layout.specs.Layout.{Shape, count, decode_shape}
 use Rattle.lines.specs.declared.head.Head.{Head}

@@ -1,13 +1,13 @@
 -- What demand 3 says of an implementation, call by call, from an open within the limits on.
 --
---   after_open         ==  the statement about whole lists, from the machine's bytes for the empty set
---   Follows i s l      ==  from the machine's bytes for the set l on, whatever calls are made, i answers and leaves what the machine does
---   follows-open       ==  so it is after an open
---   follows-call       ==  then each call answers and leaves what the machine does
---   follows_next       ==  and so it is again after the call
---   follows-list       ==  and after any calls
---   left-follows       ==  so after calls it leaves the machine's bytes
---   lists-after        ==  the machine's set lists the live classes
+--   after_open     ==  the statement about whole lists, from the machine's bytes for the empty set
+--   Follows i s l  ==  from the machine's bytes for the set l on, whatever calls are made, i answers and leaves what the machine does
+--   follows-open   ==  so it is after an open
+--   follows-call   ==  then each call answers and leaves what the machine does
+--   follows_next   ==  and so it is again after the call
+--   follows-list   ==  and after any calls
+--   left-follows   ==  so after calls it leaves the machine's bytes
+--   lists-after    ==  the machine's set lists the live classes
 use mathlib.Core.Path.{◌≡◌, refl, sym, ap, subst, ◌∙◌}
 use mathlib.Core.List.{List, [], ◌∷◌}
 use Prim.Native.Nat.{ℕ}

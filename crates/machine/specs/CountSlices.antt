@@ -1,8 +1,8 @@
 -- Count with all its slices: what it leaves of the bounds too, which are lent to be read.
 --
---   CountOutcome   ==  the outcome, and low and high afterwards
---   CountProgram   ==  programs for count, as functions of the slices that they are lent
---   MeetsCount f   ==  the outcome is that of calls/specs/Calls, and low and high are as they were, for all slices of bytes
+--   CountOutcome  ==  the outcome, and low and high afterwards
+--   CountProgram  ==  programs for count, as functions of the slices that they are lent
+--   MeetsCount f  ==  the outcome is that of calls/specs/Calls, and low and high are as they were, for all slices of bytes
 use Rattle.std.specs.Prelude.{◌≡◌, List, ℕ}
 use Rattle.grids.specs.Lent.{Bytes}
 use Rattle.calls.specs.Calls.{Outcome, counted}

@@ -1,9 +1,9 @@
 -- What a call does to the holdings that the register's bytes state: the other clients' never change, and this client's by at most 1.
 --
---   names k c        ==  the call c names client k
---   held_in b k r     ==  client k's holding of the grid r, as the bytes state it
---   Apart i          ==  a call changes no holding of a client that it does not name, on all bytes
---   ByOne i          ==  and none by more than 1
+--   names k c      ==  the call c names client k
+--   held_in b k r  ==  client k's holding of the grid r, as the bytes state it
+--   Apart i        ==  a call changes no holding of a client that it does not name, on all bytes
+--   ByOne i        ==  and none by more than 1
 use Rattle.std.specs.Prelude.{◌≡◌, List, Bool, false, ℕ, ◌+◌, ◌≤◌, eqb}
 use Rattle.grids.specs.Lent.{Bytes}
 use Rattle.layout.specs.Layout.{decode}

@@ -1,12 +1,12 @@
 -- Arrays of tuple structs as lists of their numbers.
 --
---   map-length ==  an array is as long as what is made of its elements
---   map-set    ==  the numbers after a store
---   map_at     ==  the number at an index
---   map-past   ==  0 past the end
---   map_is     ==  the numbers of an array, one by one
---   take-is    ==  the first numbers of a list, one by one
---   take_whole ==  an array is its own first numbers
+--   map-length  ==  an array is as long as what is made of its elements
+--   map-set     ==  the numbers after a store
+--   map_at      ==  the number at an index
+--   map-past    ==  0 past the end
+--   map_is      ==  the numbers of an array, one by one
+--   take-is     ==  the first numbers of a list, one by one
+--   take_whole  ==  an array is its own first numbers
 use mathlib.Core.Path.{◌≡◌, refl, sym, ap, ◌∙◌}
 use mathlib.Core.List.{List, [], ◌∷◌, map}
 use Prim.Native.Nat.{ℕ, zero, suc, ◌≤◌, ◌<◌}

@@ -1,10 +1,10 @@
 -- Tests: what a yes of a joined test says, and when two tests are equal.
 --
---   and_yes, yes_and            ==  of `a && b`
---   or_yes                      ==  of `a || b`
---   yes_or_no t                 ==  t is true or false
---   decided, refuted            ==  of what a test decides: it holds or not, and where not the test says no
---   bool-ext                    ==  tests that say yes to the same are equal
+--   and_yes, yes_and  ==  of `a && b`
+--   or_yes            ==  of `a || b`
+--   yes_or_no t       ==  t is true or false
+--   decided, refuted  ==  of what a test decides: it holds or not, and where not the test says no
+--   bool-ext          ==  tests that say yes to the same are equal
 use mathlib.Core.Path.{◌≡◌, refl, sym}
 use mathlib.Core.Bool.{Bool, true, false, true≢false, ◌&&◌, ◌||◌}
 use mathlib.Core.Logic.{◌⊎◌, inl, inr, ◌↔◌}

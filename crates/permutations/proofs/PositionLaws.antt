@@ -1,9 +1,9 @@
 -- The first position that holds a number.
 --
---   position-at-most   ==  it is at most the length
---   position-holds     ==  where it is below the length, the number stands there
---   position-is        ==  an index before which the number does not stand, and at which it stands or the list ends
---   position-take      ==  the same among the first n numbers
+--   position-at-most  ==  it is at most the length
+--   position-holds    ==  where it is below the length, the number stands there
+--   position-is       ==  an index before which the number does not stand, and at which it stands or the list ends
+--   position-take     ==  the same among the first n numbers
 use mathlib.Core.Path.{◌≡◌, sym, ◌∙◌}
 use mathlib.Core.List.{List, [], ◌∷◌}
 use Prim.Native.Nat.{ℕ, suc, ◌≤◌, ◌<◌}

@@ -1,9 +1,9 @@
 -- Permutations as the code holds them: an array of `width` positions and a size. Only the first `size` positions are looked at.
 -- `width` is 8 for rows, 5 for a terminal's rows and 16 for columns.
 --
---   padded width n p              ==  p's first n entries; the positions from n on hold their own number
---   IsPadded width n p            ==  p's first n entries are a permutation of size n, and the positions from n on hold their own number
---   Sound width n p               ==  n is 1 to width, and the first n positions are a permutation of size n
+--   padded width n p               ==  p's first n entries; the positions from n on hold their own number
+--   IsPadded width n p             ==  p's first n entries are a permutation of size n, and the positions from n on hold their own number
+--   Sound width n p                ==  n is 1 to width, and the first n positions are a permutation of size n
 --   is_sound width n p             ==  the test of it
 --   composed_padded width n p k r  ==  p of size n followed by r of size k: the identity where the sizes differ or either is not sound
 --   inverse_padded width n p       ==  the inverse of p of size n: the identity where p is not sound

@@ -1,14 +1,14 @@
 -- Permutations of every size: document 01's orders.
 --
---   IsPermutation n p  ==  p lists each number below n once: n entries, each below n, no two equal
+--   IsPermutation n p   ==  p lists each number below n once: n entries, each below n, no two equal
 --   is_permutation n p  ==  the test of it: n entries, and each number below n occurs once
---   identity n         ==  the permutation that moves nothing (the starting order)
---   composed n p r     ==  sends i to p (r i) (p followed by r)
---   position p k       ==  the first position of p that holds k; p's length where none does
---   inverse n p        ==  sends k to its position in p (the reverse of p)
---   swapped p i j      ==  p with its entries at i and j exchanged
---   words n k          ==  all lists of k numbers below n
---   permutations n     ==  all permutations of size n
+--   identity n          ==  the permutation that moves nothing (the starting order)
+--   composed n p r      ==  sends i to p (r i) (p followed by r)
+--   position p k        ==  the first position of p that holds k; p's length where none does
+--   inverse n p         ==  sends k to its position in p (the reverse of p)
+--   swapped p i j       ==  p with its entries at i and j exchanged
+--   words n k           ==  all lists of k numbers below n
+--   permutations n      ==  all permutations of size n
 use Rattle.std.specs.Prelude.{◌≡◌, Bool, true, false, ◌&&◌, ℕ, zero, suc, ◌<◌, length, get_or, set, eqb}
 use mathlib.Core.List.{List, [], ◌∷◌, map, flat_map}
 use Rattle.permutations.specs.Lists.{tabulate, numbers, select, every, occurrences}

@@ -1,6 +1,6 @@
 -- Sums, and how many numbers pass a test. Between functions: no answer of a call is defined here.
 --
---   sum_to n f    ==  f 0 + f 1 + .. + f (n - 1)
+--   sum_to n f   ==  f 0 + f 1 + .. + f (n - 1)
 --   indicator b  ==  1 for true, 0 for false
 --   count n t    ==  how many numbers below n pass the test t
 use Rattle.std.specs.Prelude.{Bool, true, false, ℕ, zero, suc, ◌+◌}

@@ -1,6 +1,6 @@
 -- A terminal's row permutations as lists of numbers.
 --
---   terminal_row_numbers p     ==  the numbers in p's 5 positions
+--   terminal_row_numbers p   ==  the numbers in p's 5 positions
 --   ListsTerminalRows l n p  ==  p is the permutation of size n with the numbers l in its positions
 use Rattle.std.specs.Prelude.{◌≡◌, List, map, ℕ}
 use Rattle.permutations.specs.Rows.{row_number}

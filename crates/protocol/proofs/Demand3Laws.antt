@@ -1,10 +1,10 @@
 -- Demand 3 of planbook: a program has it exactly if it prints what planbook prints.
 --
---   calls-lent         ==  the calls of an input are lent machine words and bytes
---   prints-demand3     ==  a program that prints what planbook prints meets demand 3
---   demand3-prints     ==  and no other program does
---   line-counted       ==  what is printed for a line of command 3, by the classes that are live after the lines before it
---   register-counts    ==  the count of the register printed is the number of live classes
+--   calls-lent       ==  the calls of an input are lent machine words and bytes
+--   prints-demand3   ==  a program that prints what planbook prints meets demand 3
+--   demand3-prints   ==  and no other program does
+--   line-counted     ==  what is printed for a line of command 3, by the classes that are live after the lines before it
+--   register-counts  ==  the count of the register printed is the number of live classes
 use mathlib.Core.Path.{◌≡◌, refl, sym, ap, ap₂, ◌∙◌}
 use mathlib.Core.List.{List, [], ◌++◌}
 use mathlib.Core.Bool.{true}

@@ -2,7 +2,7 @@
 --
 --   NumberField top a b c     ==  the same by the number: the bytes are the field of the number that they read, and that is at most top
 --   three                     ==  three bytes of a list
---   read-back                 ==  the bytes of a field read as its number
+--   read_back                 ==  the bytes of a field read as its number
 --   bytes-field, field-bytes  ==  the two are one
 --   cells-field               ==  so of each cell that is laid out
 --   cells-more                ==  cells at most top are at most 15

@@ -1,8 +1,8 @@
 -- The three bytes of a holding: they are the field of a number of at most 999 exactly where they are of one of its forms.
 --
---   holding-field, field-holding  ==  the two are one
---   none-zero, zero-none          ==  such a field ends as that of 0 does exactly where it is that of 0
---   holding-decides, none-decides ==  the tests of the bytes decide
+--   holding-field, field-holding   ==  the two are one
+--   none-zero, zero-none           ==  such a field ends as that of 0 does exactly where it is that of 0
+--   holding-decides, none-decides  ==  the tests of the bytes decide
 use mathlib.Core.Path.{◌≡◌, refl, sym, ap, ap₂, ◌∙◌}
 use mathlib.Core.List.{List, [], ◌∷◌, ◌++◌}
 use mathlib.Core.Bool.{Bool, true, false, true≢false, ◌&&◌, ◌||◌}

@@ -1,8 +1,8 @@
 -- The three bytes of a cell: they fit exactly where they are the field of a number of at most top, by its bytes.
 --
---   Within ..                 ==  fits in numbers: fits-within, within-fits
---   cell_fits top before a b c ==  the three bytes of a cell fit; before is the byte before them
---   fit-bytes, bytes_fit      ==  they do exactly where they are such a field, by its bytes
+--   Within ..                   ==  fits in numbers: fits-within, within-fits
+--   cell_fits top before a b c  ==  the three bytes of a cell fit; before is the byte before them
+--   fit-bytes, bytes_fit        ==  they do exactly where they are such a field, by its bytes
 use mathlib.Core.Path.{◌≡◌, refl, subst}
 use mathlib.Core.Bool.{Bool, true, false, ◌&&◌}
 use mathlib.Core.Logic.{◌⊎◌, inl, inr}

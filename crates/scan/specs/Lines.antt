@@ -1,9 +1,9 @@
 -- The lines of entries, by their bytes: what layout's EntryLine and EntriesLaid come to. Between functions: no answer of a call is defined here.
 --
---   LineLaid size top b at    ==  the cells and the holdings of the line at `at` are laid out, and its last byte is a line feed
---   Precedes size b p q       ==  the cells of the line at p come before those of the line at q
---   Follows size top b p q    ==  the line at q is laid out, and the one at p comes before it
---   LinesLaid size top n b    ==  the first n lines are laid out, each of which comes before the next
+--   LineLaid size top b at  ==  the cells and the holdings of the line at `at` are laid out, and its last byte is a line feed
+--   Precedes size b p q     ==  the cells of the line at p come before those of the line at q
+--   Follows size top b p q  ==  the line at q is laid out, and the one at p comes before it
+--   LinesLaid size top n b  ==  the first n lines are laid out, each of which comes before the next
 use Rattle.std.specs.Prelude.{◌≡◌, List, ℕ, ◌+◌, ◌-◌, ◌*◌, ◌<◌, get_or, drop}
 use Rattle.grids.specs.Order.{◌≺◌}
 use Rattle.layout.specs.Layout.{line_length, line_start, cells_of}

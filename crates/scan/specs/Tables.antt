@@ -1,7 +1,7 @@
 -- The tables of a top. Between functions: no answer of a call is defined here.
 --
---   teen_of top, span_of top      ==  17, how far a 1 is above a space, where a 1 may stand before a digit (top 10 and more), else 0; the greatest last digit
---   Tables n top base teen span ==  the tables by which the bytes of n cells are tested: the lowest byte, teen_of and span_of in their places
+--   teen_of top, span_of top     ==  17, how far a 1 is above a space, where a 1 may stand before a digit (top 10 and more), else 0; the greatest last digit
+--   Tables n top base teen span  ==  the tables by which the bytes of n cells are tested: the lowest byte, teen_of and span_of in their places
 use Rattle.std.specs.Prelude.{List, true, false, ℕ, ltb}
 use Rattle.lines.specs.Tables.{Thirds}
 use Rattle.scan.specs.Fits.{smaller}

@@ -1,6 +1,6 @@
 -- Tests of all numbers below one.
 --
---   all_below t n   ==  every number below n passes the test t
+--   all_below t n  ==  every number below n passes the test t
 --   all-below      ==  then each does
 use Rattle.std.proofs.Common.{◌≡◌, ℕ, zero, suc, ◌<◌, Bool, true, ◌&&◌, not-suc-le-zero, arith}
 use native.Mathlib.Decide.{ℕ_discrete}

@@ -1,9 +1,9 @@
 -- What the search finds where all rows are placed, or all but one that makes no difference.
 --
---   reached-new      ==  a new best: the row order at hand
---   reached-copy     ==  an arrangement that equals the best: where the two row orders part, and the symmetries known
---   last-equal       ==  where one row is left and the best's last row is the least, the two arrangements are equal
---   last-copy        ==  so that the branch is searched
+--   reached-new   ==  a new best: the row order at hand
+--   reached-copy  ==  an arrangement that equals the best: where the two row orders part, and the symmetries known
+--   last-equal    ==  where one row is left and the best's last row is the least, the two arrangements are equal
+--   last-copy     ==  so that the branch is searched
 use Rattle.std.proofs.Common.{◌≡◌, ℕ, suc, ◌+◌, ◌<◌, ◌≤◌, Bool, true, false, List, get_or, take, sym, refl, ap, ◌∙◌, inl, inr, true≢false, arith, get_or-take}
 use native.Mathlib.Decide.{ℕ_discrete}
 use Rattle.permutations.specs.declared.rows.RowNumber.{RowNumber}

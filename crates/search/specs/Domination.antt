@@ -2,22 +2,22 @@
 -- Rows a and b differ in columns that are paired so that a has in one what b has in the other, and the other way round. No row placed tells the two columns apart, and no other row left
 -- has a higher level in the column in which b has the higher one. Then what covers placing a next covers placing b.
 --
---   differs y a b c          ==  rows a and b differ in column c
---   differences y a b        ==  in how many of 16 columns they differ
---   Crossed y v a b c d      ==  columns c and d have equal numbers in v; rows a and b differ in c, and a has in c what b has in d, and the other way round
---   Oriented y b c d p q     ==  p and q are c and d, and row b has no higher level in p than in q
---   NoneHigher w X c d       ==  no row of X has a higher level in column d than in c
---   Tried w X c d e f r      ==  r is `Second` only where none has a higher level in d than in c, nor in f than in e, and `First` only where the other way round
---   Ascend c d e f           ==  the four columns ascend
---   Apart c d e f            ==  neither c nor d is e or f
---   Exchanged y v a b c d    ==  columns c and d have equal numbers in v; a has in c what b has in d, and the other way round, and b has the lower level in c
---   OverAmong y w v X a b    ==  row a equals row b, or they differ in one or two such pairs of columns alone, and no row of X has a higher level in the second of a pair than in the first
---   Others s a b x           ==  row x is of the set s, and neither a nor b
---   Over y w v s a b         ==  so for all other rows of s
---   Sides y w v X a b r      ==  r is `First` only where b is over a, and `Second` only where a is over b
---   Covering y w v s t u x   ==  row u is row x, or over a row of t that covers x so
---   Thinned y w v s t r      ==  the set r has rows of t, and for each row of t one that covers it
---   Left m n g y w k p v s   ==  the tables y and w are those of the grid g, v are the places by the first k rows of the order p, and s has the rows left
+--   differs y a b c         ==  rows a and b differ in column c
+--   differences y a b       ==  in how many of 16 columns they differ
+--   Crossed y v a b c d     ==  columns c and d have equal numbers in v; rows a and b differ in c, and a has in c what b has in d, and the other way round
+--   Oriented y b c d p q    ==  p and q are c and d, and row b has no higher level in p than in q
+--   NoneHigher w X c d      ==  no row of X has a higher level in column d than in c
+--   Tried w X c d e f r     ==  r is `Second` only where none has a higher level in d than in c, nor in f than in e, and `First` only where the other way round
+--   Ascend c d e f          ==  the four columns ascend
+--   Apart c d e f           ==  neither c nor d is e or f
+--   Exchanged y v a b c d   ==  columns c and d have equal numbers in v; a has in c what b has in d, and the other way round, and b has the lower level in c
+--   OverAmong y w v X a b   ==  row a equals row b, or they differ in one or two such pairs of columns alone, and no row of X has a higher level in the second of a pair than in the first
+--   Others s a b x          ==  row x is of the set s, and neither a nor b
+--   Over y w v s a b        ==  so for all other rows of s
+--   Sides y w v X a b r     ==  r is `First` only where b is over a, and `Second` only where a is over b
+--   Covering y w v s t u x  ==  row u is row x, or over a row of t that covers x so
+--   Thinned y w v s t r     ==  the set r has rows of t, and for each row of t one that covers it
+--   Left m n g y w k p v s  ==  the tables y and w are those of the grid g, v are the places by the first k rows of the order p, and s has the rows left
 use Rattle.std.specs.Prelude.{◌≡◌, ℕ, ◌*◌, ◌<◌, ◌≤◌, Bool, not, ◌⊎◌, List, length, ◌==◌, ◌≢◌, slice_index, slice_index_or}
 use Rattle.permutations.specs.Padded.{IsPadded}
 use Rattle.permutations.specs.Sums.{count}

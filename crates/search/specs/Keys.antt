@@ -1,8 +1,8 @@
 -- Keys of the rows left. Between functions: no answer of a call is defined here.
 --
---   RowsWithin p             ==  the eight rows of the order p are below 8
---   Lowest m k p keys r      ==  r is the least key of the rows of p from position k on
---   WithKey m k p keys v s   ==  the set s has those rows of p from position k on that have the key v, and no others
+--   RowsWithin p            ==  the eight rows of the order p are below 8
+--   Lowest m k p keys r     ==  r is the least key of the rows of p from position k on
+--   WithKey m k p keys v s  ==  the set s has those rows of p from position k on that have the key v, and no others
 use Rattle.std.specs.Prelude.{◌≡◌, ℕ, ◌<◌, ◌≤◌, List, length, slice_index}
 use Rattle.search.specs.RowSets.{IsRowSet, HasRow}
 

@@ -1,8 +1,8 @@
 -- The orders of the least arrangement. Between functions: no answer of a call is defined here.
 --
---   leading_rows k n g o      ==  the first k rows of the arrangement of g by the orders o
---   IsOrders m n o           ==  o holds a permutation of m rows and one of n columns
---   LeastOrders m n g o      ==  o gives the least arrangement
+--   leading_rows k n g o  ==  the first k rows of the arrangement of g by the orders o
+--   IsOrders m n o        ==  o holds a permutation of m rows and one of n columns
+--   LeastOrders m n g o   ==  o gives the least arrangement
 use Rattle.std.specs.Prelude.{◌≡◌, ℕ, List}
 use Rattle.permutations.specs.Rows.{row_numbers, IsRowPermutation}
 use Rattle.permutations.specs.Columns.{column_numbers, IsColumnPermutation}

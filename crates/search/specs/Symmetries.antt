@@ -1,8 +1,8 @@
 -- Symmetries of the grid that the search keeps, eight numbers each. Between functions: no answer of a call is defined here.
 --
---   Fixes l s p k r      ==  where r is true, the symmetry s of l moves none of the first k rows of p
---   Reached m l s a x    ==  row x is of the set a, or the image of a reached row below m under the symmetry s of l
---   Images m l s a b     ==  b is a set of rows that are reached from those of a
+--   Fixes l s p k r    ==  where r is true, the symmetry s of l moves none of the first k rows of p
+--   Reached m l s a x  ==  row x is of the set a, or the image of a reached row below m under the symmetry s of l
+--   Images m l s a b   ==  b is a set of rows that are reached from those of a
 use Rattle.std.specs.Prelude.{◌≡◌, ℕ, ◌+◌, ◌*◌, ◌<◌, Bool, true, List, slice_index}
 use Rattle.search.specs.RowSets.{IsRowSet, HasRow}
 

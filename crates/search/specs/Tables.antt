@@ -2,14 +2,14 @@
 -- The levels of a grid's cells are kept by rows, sixteen for each of 8 rows; by columns, as the bytes of a word for each of 16 columns; and, where the grid has two values, as 0 and
 -- 1 by columns, eight for each.
 --
---   entry y r c        ==  the number of row r, column c in the table y by rows
---   ByRows m n g y     ==  y holds the levels of the cells by rows, and 0 past column n
---   ByColumns y w      ==  w holds those of y by columns
---   ByBits m n g low x ==  x holds 1 for each cell with the higher value, by columns, and 0 elsewhere
---   Tables ..          ==  the tables of a grid
+--   entry y r c         ==  the number of row r, column c in the table y by rows
+--   ByRows m n g y      ==  y holds the levels of the cells by rows, and 0 past column n
+--   ByColumns y w       ==  w holds those of y by columns
+--   ByBits m n g low x  ==  x holds 1 for each cell with the higher value, by columns, and 0 elsewhere
+--   Tables ..           ==  the tables of a grid
 --   first_place n c     ==  how many of 16 columns come after column c before any row is placed: those from n on, and of these the later ones
---   FirstPlaces n a    ==  a holds them
---   RowKeys x a s      ==  s holds for each row the sum of its numbers in the table x by bits, each times 2 to the power that a has for its column
+--   FirstPlaces n a     ==  a holds them
+--   RowKeys x a s       ==  s holds for each row the sum of its numbers in the table x by bits, each times 2 to the power that a has for its column
 use Rattle.std.specs.Prelude.{◌≡◌, ℕ, ◌+◌, ◌-◌, ◌*◌, ◌^◌, ◌<◌, ◌≤◌, Bool, true, false, List, length, nat_lt, slice_index}
 use Rattle.permutations.specs.Sums.{sum_to}
 use Rattle.grids.specs.Grids.{cell}

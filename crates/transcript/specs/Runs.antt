@@ -1,7 +1,7 @@
 -- A run whose checks all get a yes. Between functions: no answer of a call is defined here.
 --
---   Ready input start b out    ==  they do, start has the numbers of line 1, the register's slice has its exact length, and the output slice room enough
---   Ran input b out out' r     ==  the first r bytes of the output slice are what planbook prints, and b is the register that it prints last
+--   Ready input start b out  ==  they do, start has the numbers of line 1, the register's slice has its exact length, and the output slice room enough
+--   Ran input b out out' r   ==  the first r bytes of the output slice are what planbook prints, and b is the register that it prints last
 use Rattle.std.specs.Prelude.{◌≡◌, List, ℕ, ◌≤◌, length}
 use Rattle.calls.specs.Calls.{shape}
 use Rattle.layout.specs.Layout.{layout_length}

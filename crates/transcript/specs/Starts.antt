@@ -1,6 +1,6 @@
 -- What the checks of the input find. Between functions: no answer of a call is defined here.
 --
---   check_number f   ==  document 01's number for what the checks find; 0 where each gets a yes
+--   check_number f  ==  document 01's number for what the checks find; 0 where each gets a yes
 --   Starts input r  ==  r has the first no, and where it is 0 the numbers of line 1 and the length of the register
 use Rattle.std.specs.Prelude.{◌≡◌, List, ℕ}
 use Rattle.calls.specs.Calls.{shape}

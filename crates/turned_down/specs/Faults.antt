@@ -1,8 +1,8 @@
 -- A fault of programs, and what it is to turn it down.
 --
---   Fault     ==  programs of one kind, a contract of theirs, and what a faulty one does
---   fault C D ==  the fault D, against the contract C
---   Turned f  ==  some program does it, and no program that does it meets the contract
+--   Fault      ==  programs of one kind, a contract of theirs, and what a faulty one does
+--   fault C D  ==  the fault D, against the contract C
+--   Turned f   ==  some program does it, and no program that does it meets the contract
 pub record Fault : Type 1 where
   pub Program : Type 0
   pub Meets : Program → Type 0

@@ -1,11 +1,11 @@
 -- Keys stand for rows: of two row orders with the same leading rows, the one with the lesser key has the lesser next row.
 --
---   key-agree    ==  the key of row k depends on the first k + 1 rows of the order alone
---   key-lower    ==  a lesser key gives lesser leading rows, one more of them
---   key-same     ==  equal keys give equal ones
---   same_key     ==  and the other way round
---   rows-fewer   ==  fewer of equal leading rows are equal
---   rows-swapped ==  the rows placed stay, whichever row comes next
+--   key-agree     ==  the key of row k depends on the first k + 1 rows of the order alone
+--   key-lower     ==  a lesser key gives lesser leading rows, one more of them
+--   key-same      ==  equal keys give equal ones
+--   same_key      ==  and the other way round
+--   rows-fewer    ==  fewer of equal leading rows are equal
+--   rows-swapped  ==  the rows placed stay, whichever row comes next
 use mathlib.Core.Path.{◌≡◌, sym, ap, ◌∙◌}
 use mathlib.Core.List.{List}
 use Prim.Native.Nat.{ℕ, suc, ◌+◌, ◌-◌, ◌*◌, ◌^◌, ◌≤◌, ◌<◌}

@@ -1,7 +1,7 @@
 -- What the search finds where all rows are placed, and how it begins and ends.
 --
---   reached-new      ==  a new best: the row order at hand
---   reached-copy     ==  an arrangement that equals the best: where the two row orders part, and the symmetries known
+--   reached-new   ==  a new best: the row order at hand
+--   reached-copy  ==  an arrangement that equals the best: where the two row orders part, and the symmetries known
 use mathlib.Core.Path.{◌≡◌, sym, ap, ◌∙◌}
 use mathlib.Core.List.{List}
 use mathlib.Core.Bool.{Bool, true, false, true≢false}

@@ -1,11 +1,11 @@
 -- The values of a grid as the loops look at its cells.
 --
---   LowestTo g i low         ==  `low` ranks no higher than any of the first i cells
---   lowest-none, lowest-next ==  at first, and with a cell more
---   OnlyTo g low high i b    ==  where b is true, each of the first i cells is one of two values
---   only_none, only_next     ==  at first, and with a cell more
---   either-parts             ==  what the test of a cell says
---   two-valued, none-valued  ==  a grid of one of two values, and one with no cells
+--   LowestTo g i low          ==  `low` ranks no higher than any of the first i cells
+--   lowest-none, lowest-next  ==  at first, and with a cell more
+--   OnlyTo g low high i b     ==  where b is true, each of the first i cells is one of two values
+--   only_none, only_next      ==  at first, and with a cell more
+--   either-parts              ==  what the test of a cell says
+--   two-valued, none-valued   ==  a grid of one of two values, and one with no cells
 use mathlib.Core.Path.{◌≡◌, sym, ◌∙◌}
 use mathlib.Core.List.{List}
 use mathlib.Core.Bool.{Bool, true, ◌&&◌, ◌||◌}

@@ -1,8 +1,8 @@
 -- The least arrangement of a grid with two values, as it is handed on. Between functions: no answer of a call is defined here.
 --
 --   first_place n c        ==  how many of 16 columns come after column c before any row is placed: those from n on, and of these the later ones
---   FirstPlaces n a       ==  a holds them
---   ArrangedLeast m n g r ==  r holds permutations of m rows and of n columns that give the least arrangement
+--   FirstPlaces n a        ==  a holds them
+--   ArrangedLeast m n g r  ==  r holds permutations of m rows and of n columns that give the least arrangement
 use Rattle.std.specs.Prelude.{◌≡◌, List, true, false, ℕ, ◌-◌, ◌<◌, length, get_or, ltb}
 use Rattle.permutations.specs.Rows.{row_numbers, IsRowPermutation}
 use Rattle.permutations.specs.Columns.{column_numbers, IsColumnPermutation}

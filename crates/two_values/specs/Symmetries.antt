@@ -1,8 +1,8 @@
 -- Symmetries of the grid that the search keeps, eight numbers each. Between functions: no answer of a call is defined here.
 --
---   Fixes l s p k r      ==  where r is true, the symmetry s of l moves none of the first k rows of p
---   Reached m l s a x    ==  row x is marked in a, or the image of a reached row below m under the symmetry s of l
---   Images m l s a b     ==  b marks only rows that are reached from those that a marks
+--   Fixes l s p k r    ==  where r is true, the symmetry s of l moves none of the first k rows of p
+--   Reached m l s a x  ==  row x is marked in a, or the image of a reached row below m under the symmetry s of l
+--   Images m l s a b   ==  b marks only rows that are reached from those that a marks
 use Rattle.std.specs.Prelude.{◌≡◌, List, Bool, true, ℕ, ◌+◌, ◌*◌, ◌<◌, length, get_or}
 
 pub record Fixes (l : List ℕ) (s : ℕ) (p : List ℕ) (k : ℕ) (r : Bool) : Type 0 where

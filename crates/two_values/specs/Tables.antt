@@ -2,17 +2,17 @@
 -- The cells of a grid with two values are kept twice as 0 and 1: by columns, eight numbers for each of 16 columns, and by rows, sixteen for each of 8 rows. How many columns come
 -- after each of 16 columns is kept in an array.
 --
---   high n g low r c      ==  1 where the cell in row r, column c has the higher value; 0 elsewhere, and past column n
---   ByColumns m n g low x ==  x holds them column after column
---   ByRows m n g low y    ==  y holds 1 less each of them, row after row
---   Bits l                ==  every number of l is 0 or 1
---   Below16 a             ==  every number of a is at most 15
---   PowersFit a           ==  2 to the power of each number of a, all added, is less than 2 to the power of 16
+--   high n g low r c       ==  1 where the cell in row r, column c has the higher value; 0 elsewhere, and past column n
+--   ByColumns m n g low x  ==  x holds them column after column
+--   ByRows m n g low y     ==  y holds 1 less each of them, row after row
+--   Bits l                 ==  every number of l is 0 or 1
+--   Below16 a              ==  every number of a is at most 15
+--   PowersFit a            ==  2 to the power of each number of a, all added, is less than 2 to the power of 16
 --   refined_key y r a c    ==  orders the columns by a, and those with equal numbers there by row r: greater numbers come first
---   Refined y r a b       ==  b holds of each column how many come after it by these
---   RowKeys x a s         ==  s holds for each row the sum of its numbers in x, each times 2 to the power that a has for its column
---   Places n a            ==  in a, the columns past n have after them those that are past them; all others come before these
---   SortsBy n a q         ==  q lists the n columns so that their numbers in a do not rise
+--   Refined y r a b        ==  b holds of each column how many come after it by these
+--   RowKeys x a s          ==  s holds for each row the sum of its numbers in x, each times 2 to the power that a has for its column
+--   Places n a             ==  in a, the columns past n have after them those that are past them; all others come before these
+--   SortsBy n a q          ==  q lists the n columns so that their numbers in a do not rise
 use Rattle.std.specs.Prelude.{◌≡◌, List, true, false, ℕ, ◌+◌, ◌-◌, ◌*◌, ◌^◌, ◌≤◌, ◌<◌, length, get_or, ltb}
 use Rattle.permutations.specs.declared.columns.ColumnPermutation.{ColumnPermutation}
 use Rattle.permutations.specs.Columns.{column_numbers, IsColumnPermutation}

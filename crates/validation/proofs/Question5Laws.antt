@@ -1,13 +1,13 @@
 -- Question 5, as the code goes about it: by the numbers that line 1 states.
 --
---   LaidBy b h                           ==  limits, length, line 1, entries and blank lines, by the numbers h
---   laid_by                              ==  question 5 gets a yes exactly if that holds, of the numbers that the bytes state
---   passed                               ==  a part whose test says yes holds
---   head-decides                         ==  a comparison with line 1 decides that the bytes begin with it
---   short-no, length-no, refutes         ==  too few bytes, another length, or a part whose test says no: question 5 gets a no
---   last-decides                         ==  where the other parts hold, the blank lines decide
---   size_small                           ==  a bound of the product that the code forms
---   entries-inside                       ==  the lines of the entries are within the bytes
+--   LaidBy b h                    ==  limits, length, line 1, entries and blank lines, by the numbers h
+--   laid_by                       ==  question 5 gets a yes exactly if that holds, of the numbers that the bytes state
+--   passed                        ==  a part whose test says yes holds
+--   head-decides                  ==  a comparison with line 1 decides that the bytes begin with it
+--   short-no, length-no, refutes  ==  too few bytes, another length, or a part whose test says no: question 5 gets a no
+--   last-decides                  ==  where the other parts hold, the blank lines decide
+--   size_small                    ==  a bound of the product that the code forms
+--   entries-inside                ==  the lines of the entries are within the bytes
 use mathlib.Core.Path.{◌≡◌, sym, ◌∙◌}
 use mathlib.Core.List.{List}
 use mathlib.Core.Bool.{Bool, true, false, true≢false, not}

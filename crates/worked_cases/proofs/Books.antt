@@ -1,6 +1,6 @@
 -- Every open and every book is kept as the tables say.
 --
---   opens_so, kept_so    ==  the tests of an open and of a book
+--   opens_so, kept_so  ==  the tests of an open and of a book
 --   opens-so, kept-so  ==  what they show
 --   books-kept         ==  the statement
 use mathlib.Core.Path.{◌≡◌, refl}

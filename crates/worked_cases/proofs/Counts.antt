@@ -1,7 +1,7 @@
 -- Every case of the table of counts is so.
 --
 --   counts_so, counts-so  ==  the test of a case, and what it shows
---   counts-hold          ==  the statement
+--   counts-hold           ==  the statement
 use mathlib.Core.Path.{◌≡◌, refl}
 use mathlib.Core.List.{flatten, flat_map}
 use mathlib.Core.Bool.{Bool, true, ◌&&◌}

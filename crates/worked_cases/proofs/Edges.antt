@@ -1,10 +1,10 @@
 -- Every edge gives its number.
 --
---   edges-hold     ==  the statement
---   accepted-hold  ==  a call on a register is accepted with just 0 and 101
---   asked-in-order ==  the order of the questions
---   neither        ==  where neither of two tests says yes, the first says no
---   never_both     ==  9 and 16 do not get a no of the same arguments
+--   edges-hold      ==  the statement
+--   accepted-hold   ==  a call on a register is accepted with just 0 and 101
+--   asked-in-order  ==  the order of the questions
+--   neither         ==  where neither of two tests says yes, the first says no
+--   never_both      ==  9 and 16 do not get a no of the same arguments
 use mathlib.Core.Path.{◌≡◌, refl}
 use mathlib.Core.List.{flatten, flat_map}
 use mathlib.Core.Bool.{Bool, true, false, ◌||◌}

@@ -1,7 +1,7 @@
 -- The test of an outcome.
 --
 --   outcome_so o number place b  ==  the outcome o has this number, this place or count, and these bytes
---   outcome-so                  ==  what the test shows
+--   outcome-so                   ==  what the test shows
 use mathlib.Core.Path.{◌≡◌}
 use mathlib.Core.List.{List}
 use mathlib.Core.Bool.{Bool, true, ◌&&◌}

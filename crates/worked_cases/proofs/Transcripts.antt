@@ -1,7 +1,7 @@
 -- Planbook prints what the table says.
 --
---   transcripts-hold    ==  the statement
---   input-limit         ==  the edges of the limit of the input
+--   transcripts-hold  ==  the statement
+--   input-limit       ==  the edges of the limit of the input
 use mathlib.Core.Path.{◌≡◌, refl}
 use mathlib.Core.List.{flatten, flat_map}
 use mathlib.Core.Bool.{false}

@@ -1,9 +1,9 @@
 -- Counts of bounds as sent and of what prune leaves of them, as one table.
 --
---   CountCase      ==  a register's bytes, bounds, prune's number and the bounds that it leaves, the count of the bounds as sent, and of those left
---   CountsSo c     ==  what the definitions say of it; prune is asked with the rows, columns and top that the register states
---   count_cases     ==  the table
---   CountsHold     ==  the statement: every case is so
+--   CountCase    ==  a register's bytes, bounds, prune's number and the bounds that it leaves, the count of the bounds as sent, and of those left
+--   CountsSo c   ==  what the definitions say of it; prune is asked with the rows, columns and top that the register states
+--   count_cases  ==  the table
+--   CountsHold   ==  the statement: every case is so
 use Rattle.std.specs.Prelude.{◌≡◌, List, [], ◌∷◌, ℕ}
 use Prim.Native.String.{String}
 use Rattle.permutations.specs.Lists.{All}

@@ -1,4 +1,4 @@
-//! Whether an output of planbook is whole. The program has no exit status: where it fails, its
+//! Whether an output of planbook is whole. Where the program fails, it ends with status 1 and its
 //! output ends too soon, or is empty.
 
 /// The bytes of a printed line.
