@@ -33,6 +33,17 @@ fn by_shell(commands: &str, input: Stdio) -> Output {
 fn check_unread(output: &Output, why: &str) {
     assert_eq!(output.stdout, b"");
     assert_eq!(error(output), format!("{UNREAD}{why}\n"));
+    assert_eq!(output.status.code(), Some(1));
+}
+
+fn check_unwritten(output: &Output, why: &str) {
+    assert_eq!(error(output), format!("{UNWRITTEN}{why}\n"));
+    assert_eq!(output.status.code(), Some(1));
+}
+
+fn check_whole(output: &Output) {
+    assert_eq!(error(output), "");
+    assert_eq!(output.status.code(), Some(0));
 }
 
 fn error(output: &Output) -> String {
@@ -75,7 +86,7 @@ fn standard_input_is_not_ready() {
     });
     let output = by_shell("exec \"$0\"", OwnedFd::from(theirs).into());
     sent.join().expect("all is sent");
-    assert_eq!(error(&output), "");
+    check_whole(&output);
     assert!(output.stdout == transcript(INPUT));
 }
 
@@ -109,7 +120,7 @@ fn standard_output_is_not_ready() {
         }
     }
     let output = child.wait_with_output().expect("it ends");
-    assert_eq!(error(&output), "");
+    check_whole(&output);
     assert!(printed == transcript(&input));
 }
 
@@ -122,34 +133,33 @@ fn standard_output_is_full() {
     let mut command = Command::new(program());
     let output = command.stdin(Stdio::null()).stdout(full).output();
     let output = output.expect("the program starts");
-    assert_eq!(
-        error(&output),
-        format!("{UNWRITTEN}No space left on device\n")
-    );
+    check_unwritten(&output, "No space left on device");
 }
 
 #[test]
 fn standard_output_is_closed() {
     let output = by_shell("exec \"$0\" >&-", Stdio::null());
-    assert_eq!(error(&output), format!("{UNWRITTEN}Bad file descriptor\n"));
+    check_unwritten(&output, "Bad file descriptor");
 }
 
 #[test]
 fn nobody_reads_standard_output() {
-    let (ours, theirs) = UnixStream::pair().expect("a pair of sockets");
-    drop(ours);
-    let mut shell = Command::new("/bin/sh");
-    let ignoring = "trap '' PIPE; exec \"$0\"";
-    shell.arg("-c").arg(ignoring).arg(program());
-    let shell = shell.stdin(Stdio::null()).stdout(OwnedFd::from(theirs));
-    let output = shell.output().expect("the shell starts");
-    assert_eq!(error(&output), format!("{UNWRITTEN}Broken pipe\n"));
+    // whether or not the program is started with the signal for it ignored
+    for commands in ["exec \"$0\"", "trap '' PIPE; exec \"$0\""] {
+        let (ours, theirs) = UnixStream::pair().expect("a pair of sockets");
+        drop(ours);
+        let mut shell = Command::new("/bin/sh");
+        shell.arg("-c").arg(commands).arg(program());
+        let shell = shell.stdin(Stdio::null()).stdout(OwnedFd::from(theirs));
+        let output = shell.output().expect("the shell starts");
+        check_unwritten(&output, "Broken pipe");
+    }
 }
 
 #[test]
 fn an_empty_input_is_no_failure() {
     let output = by_shell("exec \"$0\"", Stdio::null());
-    assert_eq!(error(&output), "");
+    check_whole(&output);
     assert_eq!(output.stdout, refusal(12));
     assert!(is_whole(b"", &output.stdout));
 }
