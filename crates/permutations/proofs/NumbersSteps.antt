@@ -1,34 +1,40 @@
--- What the functions on plain numbers do: lists of w numbers, of which the first `width` count.
+-- What the functions on permutations do to their arrays.
 --
---   padded-none, padded-more, padded-end  ==  a loop's start, its next position, and its end
+--   own-numbers                    ==  a list of own numbers is the identity
+--   padded-none, padded-more, padded-end  ==  composing: a loop's start, its next position, and its end
+--   Scattered                      ==  a list written at the numbers of another, for the positions so far
+--   scattered-none, scattered-more, scattered-all  ==  inverting: a loop's start, its next position, and its end
 --   listing-sound                  ==  a permutation: each number below n stands before position n
---   is_sound-take                   ==  the test looks at the first `width` positions only
---   followed-is, reversed-is       ==  the composition and the inverse, in the first `width` positions
---   own-identity, own-composed, own-inverse  ==  the identity there, and where the composition or the inverse is the identity
---   composed-of, inverse-of        ==  the composition and the inverse, with the first positions by their names
---   take-narrower                  ==  fewer of the first positions, by their names
+--   contained, not-contained       ==  what looking for a number among the first n says
+--   entry-within                   ==  an entry of a permutation is below its size
+--   composed-sound, composed-entry ==  the composition of sound arguments, and an entry of it
 use mathlib.Core.Path.{◌≡◌, sym, ap, ◌∙◌}
 use mathlib.Core.List.{List}
-use mathlib.Core.Bool.{true, false}
+use mathlib.Core.Bool.{true, false, true≢false}
 use Prim.Native.Nat.{ℕ, ◌+◌, ◌≤◌, ◌<◌, min}
 use native.Mathlib.Decide.{ℕ_discrete}
 use native.Mathlib.Omega.{arith}
-use lib.ListN.{length, get_or, set, take, length-set}
-use lib.Seq.{get_or-set_same, get_or-set_other, get_or-take, take-take, length-take-le}
+use borrow.Author.Tests.{eq-eqb, eqb-true}
+use Rattle.std.proofs.Common.{nat_eq}
+use lib.ListN.{length, get_or, set, take, length-set, length-take}
+use lib.Seq.{get_or-set_same, get_or-set_other, get_or-take, length-take-le}
 use Rattle.permutations.specs.Permutations.{IsPermutation, identity, composed, position, inverse}
-use Rattle.permutations.specs.Padded.{padded, Sound, is_sound, composed_padded, inverse_padded}
-use Rattle.permutations.proofs.BoolLaws.{bool-ext}
-use Rattle.permutations.proofs.ListLaws.{tabulate-ext}
-use Rattle.permutations.proofs.PermutationLaws.{at-identity}
+use Rattle.permutations.specs.Padded.{padded, Sound, is_sound, composed_padded}
+use Rattle.permutations.proofs.PermutationLaws.{at-identity, at-composed, at-inverse, position-found, position-within}
 use Rattle.permutations.proofs.PermutationTest.{listing-suffices}
 use Rattle.permutations.proofs.PositionLaws.{position-holds}
-use Rattle.permutations.proofs.PaddedLaws.{length-padded, padded-below, padded-from, padded-is, length-identity, take-padded, take-identity, sound, is_sound-yes, composed_padded-is, inverse_padded-is, inverse_padded-no}
+use Rattle.permutations.proofs.PaddedLaws.{length-padded, padded-below, padded-from, padded-is, length-identity, composed_padded-is}
 
 -- ---- a list filled position by position
 
 pub padded-none : (width : ℕ) (p : List ℕ) → identity width ≡ padded width 0 p
 padded-none width p =
     padded-is width 0 p (identity width) (length-identity width) (λ i h k. absurd (omega arith)) (λ i h k. at-identity width i h)
+
+-- a list of own numbers
+pub own-numbers : (width : ℕ) (l : List ℕ) → length l ≡ width → ((i : ℕ) → i < width → get_or l i 0 ≡ i) → l ≡ identity width
+own-numbers width l e own =
+    padded-is width 0 l l e (λ i h k. absurd (omega arith)) (λ i h k. own i h) ∙ sym (padded-none width l)
 
 -- as a loop fills a list: position i is next
 padded-next : (width : ℕ) (p : List ℕ) (i : ℕ) → i < width → set (padded width i p) i (get_or p i 0) ≡ padded width (i + 1) p
@@ -66,6 +72,53 @@ padded-end width i n p l a b e =
     ∙ padded-is width n p (padded width i p) (length-padded width i p) (λ k h c. padded-below width i p k h (omega arith)) λ k h c.
     padded-from width i p k h (omega arith)
 
+-- ---- a list written at the numbers of another
+
+-- o holds i at the number that p holds at i, for the positions before k; from n on each position holds its own number
+pub record Scattered (width n : ℕ) (p : List ℕ) (k : ℕ) (o : List ℕ) : Type 0 where
+  pub size : length o ≡ width
+  pub written : (i : ℕ) → i < k → get_or o (get_or p i 0) 0 ≡ i
+  pub own : (i : ℕ) → n ≤ i → i < width → get_or o i 0 ≡ i
+
+pub entry-within : (n : ℕ) (p : List ℕ) → IsPermutation n (take n p) → (i : ℕ) → i < n → get_or p i 0 < n
+entry-within n p o i h = rw (← get_or-take n p i 0 h) (o.within i h)
+
+module _ (width n : ℕ) (p : List ℕ) (fits : n ≤ width) (o : IsPermutation n (take n p)) where
+  pub scattered-none : Scattered width n p 0 (identity width)
+  scattered-none = record {
+    size = length-identity width;
+    written = λ i h. absurd (omega arith);
+    own = λ i h k. at-identity width i k;
+  }
+
+  pub scattered-more : (k : ℕ) (l : List ℕ) → k < n → Scattered width n p k l → Scattered width n p (k + 1) (set l (get_or p k 0) k)
+  scattered-more k l h s = record { size = length-set l _ _ ∙ s.size; written = written; own = own }
+    where
+      at : ℕ
+      at = get_or p k 0
+
+      written : (i : ℕ) → i < k + 1 → get_or (set l at k) (get_or p i 0) 0 ≡ i
+      written i b = go (ℕ_discrete i k)
+        where
+          go : Dec (i ≡ k) → get_or (set l at k) (get_or p i 0) 0 ≡ i
+          go (yes e) = rw e (get_or-set_same l at k 0 (omega (arith, s.size, entry-within n p o k h)))
+          go (no ne) = get_or-set_other l at (get_or p i 0) k 0 apart ∙ s.written i (omega arith)
+            where
+              apart : get_or p i 0 ≡ at → ⊥
+              apart e = ne (o.once i k (omega arith) h (get_or-take n p i 0 (omega arith) ∙ e ∙ sym (get_or-take n p k 0 h)))
+
+      own : (i : ℕ) → n ≤ i → i < width → get_or (set l at k) i 0 ≡ i
+      own i b c = let ne : i ≡ at → ⊥ = omega (arith, entry-within n p o k h) in get_or-set_other l at i k 0 ne ∙ s.own i b c
+
+  pub scattered-all : (k : ℕ) (l : List ℕ) → n ≤ k → Scattered width n p k l → l ≡ padded width n (inverse n (take n p))
+  scattered-all k l a s = padded-is width n (inverse n (take n p)) l s.size below λ i h k. s.own i k h
+    where
+      below : (i : ℕ) → i < width → i < n → get_or l i 0 ≡ get_or (inverse n (take n p)) i 0
+      below i h b =
+          let at = position-within n (take n p) o i b in
+          let there = sym (get_or-take n p (position (take n p) i) 0 at.0) ∙ at.1 in
+          ap (λ (x : ℕ). get_or l x 0) (sym there) ∙ s.written (position (take n p) i) (omega (arith, at.0)) ∙ sym (at-inverse n (take n p) i b)
+
 -- ---- the test
 
 -- each number below n stands before position n: the test by first positions
@@ -79,57 +132,23 @@ listing-sound width n p a b c stands =
           (stands k h, position-holds (take n p) k (omega (arith, stands k h)));
     }
 
-pub is_sound-take : (width n : ℕ) (p : List ℕ) → is_sound width n (take width p) ≡ is_sound width n p
-is_sound-take width n p =
-    bool-ext _ _
-    (λ t.
-    let s = sound width n (take width p) t in
-    is_sound-yes width n p (record { some = s.some; fits = s.fits; permutation = rw (take-take n width p s.fits) at s.permutation })) λ t.
-    let s = sound width n p t in
-    is_sound-yes width n (take width p)
-    (record { some = s.some; fits = s.fits; permutation = rw (take-take n width p s.fits) s.permutation })
+-- as the test looks for a number among the first n
+pub contained : (n : ℕ) (p : List ℕ) (k : ℕ) → (i : ℕ) × (i < length (take n p)) × ((d : ℕ) → nat_eq (get_or (take n p) i d) k ≡ true) → position (take n p) k < n
+contained n p k f =
+    omega (arith, length-take n p, f.1, (position-found (take n p) k f.0 f.1 (eqb-true _ k (f.2 0))).0)
+
+pub not-contained : (p : List ℕ) (k i : ℕ) → i < length p → get_or p i 0 ≡ k → ((j d : ℕ) → 0 ≤ j → j < length p → nat_eq (get_or p j d) k ≡ false) → ⊥
+not-contained p k i h e none = true≢false (sym (eq-eqb _ k e) ∙ none i 0 (omega arith) h)
 
 -- ---- composition and inverse
 
-composed-take : (n : ℕ) (p r : List ℕ) → IsPermutation n (take n r) → composed n p r ≡ composed n (take n p) (take n r)
-unfolding composed
-composed-take n p r o = tabulate-ext 0 n _ _ λ i h. rw (← get_or-take n r i 0 h) (sym (get_or-take n p (get_or (take n r) i 0) 0 (o.within i h)))
+pub composed-sound : (width n : ℕ) (p : List ℕ) (k : ℕ) (r : List ℕ) → n ≡ k → is_sound width n p ≡ true → is_sound width k r ≡ true →
+    composed_padded width n p k r ≡ padded width n (composed n (take n p) (take n r))
+composed-sound width n p k r e s t = rw e (composed_padded-is width k p r (rw (← e) s) t)
 
-pub own-identity : (width w : ℕ) (o : List ℕ) → width ≤ w → o ≡ identity w → take width o ≡ identity width
-own-identity width w o h f = rw f (take-identity width w h)
-
--- p and r as arrays of w positions, of which the first `width` count, and o the array that the code makes of them
-module _ (width w n : ℕ) (p o : List ℕ) (h : width ≤ w) where
-  pub followed-is : (k : ℕ) (r : List ℕ) → n ≡ k → is_sound width n p ≡ true → is_sound width n r ≡ true → o ≡ padded w n (composed n p r) →
-      take width o ≡ composed_padded width n (take width p) k (take width r)
-  followed-is k r m tp tr e =
-      let s = sound width n r tr in
-      let t : composed n p r ≡ composed n (take n (take width p)) (take n (take width r)) =
-      rw (take-take n width p s.fits, take-take n width r s.fits) (composed-take n p r s.permutation) in
-      rw (e, ← m, take-padded width w n (composed n p r) h)
-      (ap (padded width n) t ∙ sym (composed_padded-is width n (take width p) (take width r) (is_sound-take width n p ∙ tp) (is_sound-take width n r ∙ tr)))
-
-  pub reversed-is : is_sound width n p ≡ true → o ≡ padded w n (inverse n (take n p)) → take width o ≡ inverse_padded width n (take width p)
-  reversed-is t e =
-      rw (e, inverse_padded-is width n (take width p) (is_sound-take width n p ∙ t), take-take n width p (sound width n p t).fits)
-      (take-padded width w n (inverse n (take n p)) h)
-
-  -- the identity, where the composition or the inverse is
-  pub own-composed : (k : ℕ) (r : List ℕ) → composed_padded width n (take width p) k (take width r) ≡ identity width → o ≡ identity w →
-      take width o ≡ composed_padded width n (take width p) k (take width r)
-  own-composed k r e f = own-identity width w o h f ∙ sym e
-
-  pub own-inverse : is_sound width n p ≡ false → o ≡ identity w → take width o ≡ inverse_padded width n (take width p)
-  own-inverse t f = own-identity width w o h f ∙ sym (inverse_padded-no width n (take width p) (is_sound-take width n p ∙ t))
-
--- with the first positions by their names
-pub composed-of : (width n k : ℕ) (a b p r c : List ℕ) → a ≡ p → b ≡ r → c ≡ composed_padded width n a k b → c ≡ composed_padded width n p k r
-composed-of width n k a b p r c e f g = rw (← e, ← f) g
-
-pub inverse-of : (width n : ℕ) (a p c : List ℕ) → a ≡ p → c ≡ inverse_padded width n a → c ≡ inverse_padded width n p
-inverse-of width n a p c e g = rw (← e) g
-
--- ---- at a narrower width
-
-pub take-narrower : (width w : ℕ) (a p : List ℕ) → width ≤ w → take w a ≡ p → take width a ≡ take width p
-take-narrower width w a p h e = sym (take-take width w a h) ∙ ap (take width) e
+pub composed-entry : (n : ℕ) (p r : List ℕ) (i : ℕ) → IsPermutation n (take n r) → i < n → get_or p (get_or r i 0) 0 ≡ get_or (composed n (take n p) (take n r)) i 0
+composed-entry n p r i o h =
+    sym
+    (at-composed n (take n p) (take n r) i h
+    ∙ get_or-take n p (get_or (take n r) i 0) 0 (o.within i h)
+    ∙ ap (λ (x : ℕ). get_or p x 0) (get_or-take n r i 0 h))
