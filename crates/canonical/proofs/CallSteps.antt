@@ -31,7 +31,8 @@ use Rattle.grids.specs.Grids.{IsGrid, capped, arrangement, one_class}
 use Rattle.grids.specs.Least.{least}
 use Rattle.grids.specs.Asked.{shape_no}
 use Rattle.grids.specs.Questions.{Question, first_no, Limits, question1, question2, question3, question6, question7}
-use Rattle.grids.specs.Comparisons.{is_equal, ComparesGrids}
+use Rattle.std.specs.Ordering.{is_eq}
+use Rattle.grids.specs.Comparisons.{ComparesGrids}
 use Rattle.grids.proofs.CommonPrefixLaws.{prefix-part, prefix-all}
 use Rattle.grids.proofs.ComparisonLaws.{equal-yes, equal-no}
 use Rattle.grids.proofs.GridLaws.{length-arrangement, class-passes, passes-class}
@@ -174,7 +175,7 @@ module _ (m n top : ℕ) (a b : List ℕ) (p q : Orders) (fits : Limits m n top 
       let z : length (leading_rows m n a p) ≡ m * n = length-arrangement m n _ _ a in
       omega (arith, w, z, found.agreed-is, size_fits m n fits.0.rows-limits.1 fits.0.column-limits.1)
 
-  module _ (t : Bool) (f : t ≡ is_equal c.found) where
+  module _ (t : Bool) (f : t ≡ is_eq c.found) where
     two-classes : t ≡ false → one_class m n a b ≡ false
     two-classes d = go (one_class m n a b) refl
       where

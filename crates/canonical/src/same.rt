@@ -25,7 +25,7 @@ pub fn same(m: usize, n: usize, top: usize, a: &[u8], b: &[u8]) -> Match
     let compared = comparing::compare_arrangements(a, b, m, n, p, q);
     let found = compared.found;
     let agreed = compared.agreed as u32;
-    if !comparisons::is_equal(found) {
+    if !found.is_eq() {
         return answers::unmatched(Matching::Apart(agreed));
     }
     Match {

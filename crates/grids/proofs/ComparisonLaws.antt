@@ -12,14 +12,15 @@ use Prim.Native.Nat.{ℕ, ◌<◌}
 use native.Mathlib.Nat.{not-suc-le-zero}
 use native.Mathlib.Omega.{arith}
 use lib.ListN.{length, get_or}
-use Rattle.grids.specs.declared.comparisons.Comparison.{Comparison}
-use Rattle.grids.specs.declared.comparisons.Comparison.TheVariants.{Less, Equal, Greater}
+use Rattle.std.specs.declared.cmp.Ordering.{Ordering}
+use Rattle.std.specs.declared.cmp.Ordering.TheVariants.{Less, Equal, Greater}
 use Rattle.grids.specs.Order.{rank, ◌≼◌, ◌≺◌, leq}
-use Rattle.grids.specs.Comparisons.{is_less, is_equal, is_greater, compared}
+use Rattle.std.specs.Ordering.{is_lt, is_eq, is_gt}
+use Rattle.grids.specs.Comparisons.{compared}
 use Rattle.grids.proofs.OrderLaws.{≼_refl, ≼-antisymm, ≼-dec, ≼-at, ≺-≼, ≼-leq, leq-yes}
 
 -- the answer by the two tests
-picked : Bool → Bool → Comparison
+picked : Bool → Bool → Ordering
 picked true true = Equal
 picked true false = Less
 picked false t = Greater
@@ -94,45 +95,45 @@ first-greater x y a b l = decided-greater 0 (x ∷ a) (y ∷ b) (omega arith) (o
 
 -- ---- the tests of a comparison
 
-less-is : (c : Comparison) → is_less c ≡ true → c ≡ Less
+less-is : (c : Ordering) → is_lt c ≡ true → c ≡ Less
 less-is Less e = refl
 less-is Equal e = absurd (true≢false (sym e))
 less-is Greater e = absurd (true≢false (sym e))
 
-equal_is : (c : Comparison) → is_equal c ≡ true → c ≡ Equal
+equal_is : (c : Ordering) → is_eq c ≡ true → c ≡ Equal
 equal_is Less e = absurd (true≢false (sym e))
 equal_is Equal e = refl
 equal_is Greater e = absurd (true≢false (sym e))
 
-greater-is : (c : Comparison) → is_greater c ≡ true → c ≡ Greater
+greater-is : (c : Ordering) → is_gt c ≡ true → c ≡ Greater
 greater-is Less e = absurd (true≢false (sym e))
 greater-is Equal e = absurd (true≢false (sym e))
 greater-is Greater e = refl
 
 -- t is what a test found of a comparison c of a and b
-module _ (a b : List ℕ) (c : Comparison) (t : Bool) (found : c ≡ compared a b) where
-  pub less-yes : t ≡ is_less c → t ≡ true → a ≺ b
+module _ (a b : List ℕ) (c : Ordering) (t : Bool) (found : c ≡ compared a b) where
+  pub less-yes : t ≡ is_lt c → t ≡ true → a ≺ b
   less-yes f e = compared-less a b (sym found ∙ less-is c (sym f ∙ e))
 
-  pub less-no : t ≡ is_less c → t ≡ false → b ≼ a
+  pub less-no : t ≡ is_lt c → t ≡ false → b ≼ a
   less-no f e = go (≼-dec b a)
     where
       go : Dec (b ≼ a) → b ≼ a
       go (yes h) = h
-      go (no h) = absurd (true≢false (sym (f ∙ ap is_less (found ∙ less-compared a b h)) ∙ e))
+      go (no h) = absurd (true≢false (sym (f ∙ ap is_lt (found ∙ less-compared a b h)) ∙ e))
 
-  pub equal-yes : t ≡ is_equal c → t ≡ true → a ≡ b
+  pub equal-yes : t ≡ is_eq c → t ≡ true → a ≡ b
   equal-yes f e = compared-equal a b (sym found ∙ equal_is c (sym f ∙ e))
 
-  pub equal-no : t ≡ is_equal c → t ≡ false → a ≡ b → ⊥
-  equal-no f e h = true≢false (sym (f ∙ ap is_equal (found ∙ equal-compared a b h)) ∙ e)
+  pub equal-no : t ≡ is_eq c → t ≡ false → a ≡ b → ⊥
+  equal-no f e h = true≢false (sym (f ∙ ap is_eq (found ∙ equal-compared a b h)) ∙ e)
 
-  pub greater-yes : t ≡ is_greater c → t ≡ true → b ≺ a
+  pub greater-yes : t ≡ is_gt c → t ≡ true → b ≺ a
   greater-yes f e = compared-greater a b (sym found ∙ greater-is c (sym f ∙ e))
 
-  pub greater-no : t ≡ is_greater c → t ≡ false → a ≼ b
+  pub greater-no : t ≡ is_gt c → t ≡ false → a ≼ b
   greater-no f e = go (≼-dec a b)
     where
       go : Dec (a ≼ b) → a ≼ b
       go (yes h) = h
-      go (no h) = absurd (true≢false (sym (f ∙ ap is_greater (found ∙ greater-compared a b h)) ∙ e))
+      go (no h) = absurd (true≢false (sym (f ∙ ap is_gt (found ∙ greater-compared a b h)) ∙ e))

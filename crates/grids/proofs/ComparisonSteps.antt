@@ -14,21 +14,23 @@
 --   passed-less, passed-greater, passed-equal, passed-shorter, passed-longer  ==  what comparing the two finds, and that they agree in i values
 use mathlib.Core.Path.{◌≡◌, refl, sym, ap, ap₂, ◌∙◌}
 use mathlib.Core.List.{List, [], ◌∷◌}
-use mathlib.Core.Bool.{Bool, true, false}
+use mathlib.Core.Bool.{Bool, true, false, true≢false}
 use mathlib.Core.Logic.{⊎_elim}
-use Prim.Native.Nat.{ℕ, suc, ◌+◌, ◌-◌, ◌≤◌, ◌<◌}
+use Prim.Native.Nat.{ℕ, suc, ◌+◌, ◌-◌, ◌≤◌, ◌<◌, min}
 use native.Mathlib.Nat.{not-suc-le-zero, sub-zero}
 use native.Mathlib.Numerals.{add-one}
 use native.Mathlib.Omega.{arith}
 use lib.ListN.{length, get_or}
 use Rattle.permutations.specs.Lists.{tabulate}
 use Rattle.permutations.proofs.ListLaws.{tabulate-get_or}
-use Rattle.grids.specs.declared.comparisons.Comparison.{Comparison}
-use Rattle.grids.specs.declared.comparisons.Comparison.TheVariants.{Less, Equal, Greater}
+use Rattle.std.specs.declared.cmp.Ordering.{Ordering}
+use Rattle.std.specs.declared.cmp.Ordering.TheVariants.{Less, Equal, Greater}
+use Rattle.std.specs.Ordering.{is_eq, is_ne, nat_cmp}
+use Rattle.std.proofs.lemmas.Cmp.{by_ranked, ranked}
 use Rattle.grids.specs.Order.{rank}
 use Rattle.grids.specs.Grids.{cell}
 use Rattle.grids.specs.CommonPrefix.{common_prefix_length}
-use Rattle.grids.specs.Comparisons.{is_equal, compared, compared_cells, ComparesGrids}
+use Rattle.grids.specs.Comparisons.{compared, compared_cells, ComparesGrids}
 use Rattle.grids.proofs.OrderLaws.{rank-antisymm, trichotomy, agree-next, leq-same}
 use Rattle.grids.proofs.CommonPrefixLaws.{prefix-unique}
 use Rattle.grids.proofs.ComparisonLaws.{less-compared, greater-compared, equal-compared, first-less, first-greater, equal-yes, equal-no}
@@ -36,8 +38,21 @@ use Rattle.grids.proofs.ComparisonLaws.{less-compared, greater-compared, equal-c
 pub cell-rank : (n : ℕ) (g : List ℕ) {x v i j k l : ℕ} → x ≡ rank v → v ≡ cell n g i j → i ≡ k → j ≡ l → x ≡ rank (cell n g k l)
 cell-rank n g p q r s = cc
 
-pub cells_at : (n : ℕ) (g : List ℕ) (a b : ℕ) {c : Comparison} {i k : ℕ} → i ≡ k → c ≡ compared_cells (cell n g i a) (cell n g i b) → c ≡ compared_cells (cell n g k a) (cell n g k b)
+pub cells_at : (n : ℕ) (g : List ℕ) (a b : ℕ) {c : Ordering} {i k : ℕ} → i ≡ k → c ≡ compared_cells (cell n g i a) (cell n g i b) → c ≡ compared_cells (cell n g k a) (cell n g k b)
 cells_at n g a b e f = rw (← e) f
+
+pub compared-as : {x y v w : ℕ} {c : Ordering} → x ≡ v → y ≡ w → c ≡ compared_cells x y → c ≡ compared_cells v w
+compared-as d e f = rw (← d, ← e) f
+
+pub unequal : (c : Ordering) → true ≡ is_ne c → is_eq c ≡ false
+unequal Less e = refl
+unequal Equal e = absurd (true≢false e)
+unequal Greater e = refl
+
+pub not-unequal : (c : Ordering) → false ≡ is_ne c → is_eq c ≡ true
+not-unequal Less e = absurd (true≢false (sym e))
+not-unequal Equal e = refl
+not-unequal Greater e = absurd (true≢false (sym e))
 
 -- ---- by the first values
 
@@ -50,19 +65,15 @@ first-same x y a b e =
 
 -- ---- two cells
 
--- x and y rank as the cells v and w
-module _ (v w : ℕ) {x y : ℕ} (p : x ≡ rank v) (q : y ≡ rank w) where
-  pub cells-less : x < y → Less ≡ compared_cells v w
-  cells-less l = sym (first-less v w [] [] (omega arith))
-
-  pub cells-greater : y < x → Greater ≡ compared_cells v w
-  cells-greater l = sym (first-greater v w [] [] (omega arith))
-
-  pub cells-equal : y ≤ x → x ≤ y → Equal ≡ compared_cells v w
-  cells-equal l k = sym (first-same v w [] [] (rank-antisymm v w (omega arith) (omega arith)) ∙ equal-compared [] [] refl)
+pub values-compared : (v w : ℕ) {x y : ℕ} {c : Ordering} → x ≡ rank v → y ≡ rank w → c ≡ nat_cmp x y → c ≡ compared_cells v w
+values-compared v w {x = x} {y = y} {c = c} p q e =
+    by_ranked (x < y) (x ≡ y) (y < x) c (ranked x y c e)
+    (λ s l. s ∙ sym (first-less v w [] [] (omega arith)))
+    (λ s l. s ∙ sym (first-same v w [] [] (rank-antisymm v w (omega arith) (omega arith)) ∙ equal-compared [] [] refl))
+    (λ s l. s ∙ sym (first-greater v w [] [] (omega arith)))
 
 -- cells that are not equal decide
-first-decides : (c : Comparison) (x y : ℕ) (a b : List ℕ) → c ≡ compared_cells x y → is_equal c ≡ false → c ≡ compared (x ∷ a) (y ∷ b)
+first-decides : (c : Ordering) (x y : ℕ) (a b : List ℕ) → c ≡ compared_cells x y → is_eq c ≡ false → c ≡ compared (x ∷ a) (y ∷ b)
 first-decides c x y a b e f =
     ⊎_elim (λ l. e ∙ first-less x y [] [] l ∙ sym (first-less x y a b l))
     (⊎_elim (λ l. absurd (equal-no (x ∷ []) (y ∷ []) c false e (sym f) refl (ap (λ (z : ℕ). z ∷ []) l))) (λ l. e ∙ first-greater x y [] [] l ∙ sym (first-greater x y a b l)))
@@ -100,23 +111,12 @@ module _ {i m : ℕ} {u : ℕ → ℕ} {n : ℕ} {v : ℕ → ℕ} {a b : List �
   left-longer : i < m → n ≤ i → Greater ≡ compared a b
   left-longer h k = sym (greater-compared (u i ∷ tabulate (i + 1) (m - (i + 1)) u) [] (λ l. l)) ∙ left_as (next i m u h) (none i n v k)
 
-  -- both have a value at i, and x and y are their ranks
-  module _ (h : i < m) (k : i < n) {x y : ℕ} (p : x ≡ rank (u i)) (q : y ≡ rank (v i)) where
-    pub left_less : x < y → Less ≡ compared a b
-    left_less l = sym (first-less (u i) (v i) _ _ (omega arith)) ∙ left_as (next i m u h) (next i n v k)
-
-    pub left-greater : y < x → Greater ≡ compared a b
-    left-greater l = sym (first-greater (u i) (v i) _ _ (omega arith)) ∙ left_as (next i m u h) (next i n v k)
-
-    pub left-same : y ≤ x → x ≤ y → LeftFrom (i + 1) m u n v a b
-    left-same f g = record { left = sym (first-same (u i) (v i) _ _ (rank-antisymm (u i) (v i) (omega arith) (omega arith))) ∙ left_as (next i m u h) (next i n v k) }
-
   -- c is the comparison of the values at i
-  module _ (h : i < m) (k : i < n) {c : Comparison} (e : c ≡ compared_cells (u i) (v i)) where
-    pub left-decided : is_equal c ≡ false → c ≡ compared a b
+  module _ (h : i < m) (k : i < n) {c : Ordering} (e : c ≡ compared_cells (u i) (v i)) where
+    pub left-decided : is_eq c ≡ false → c ≡ compared a b
     left-decided f = first-decides c (u i) (v i) _ _ e f ∙ left_as (next i m u h) (next i n v k)
 
-    pub left_passed : is_equal c ≡ true → LeftFrom (i + 1) m u n v a b
+    pub left_passed : is_eq c ≡ true → LeftFrom (i + 1) m u n v a b
     left_passed f =
         let z = ap (λ (l : List ℕ). get_or l 0 0) (equal-yes (u i ∷ []) (v i ∷ []) c true e (sym f) refl) in
         record { left = sym (first-same (u i) (v i) _ _ z) ∙ left_as (next i m u h) (next i n v k) }
@@ -135,29 +135,34 @@ module _ {i : ℕ} {a b : List ℕ} (d : Passed i a b) where
   agreed : (i < length a → i < length b → get_or a i 0 ≡ get_or b i 0 → ⊥) → i ≡ common_prefix_length a b
   agreed h = prefix-unique i a b (record { within = d.within; before = d.before; apart = h })
 
-  pub passed-equal : length a ≤ i → length b ≤ i → ComparesGrids a b (record { found = Equal; agreed = i })
+  passed-equal : length a ≤ i → length b ≤ i → ComparesGrids a b (record { found = Equal; agreed = i })
   passed-equal h k = record { found-is = left-equal d.left h k; agreed-is = agreed (λ l. absurd (omega arith)) }
 
-  pub passed-shorter : length a ≤ i → i < length b → ComparesGrids a b (record { found = Less; agreed = i })
+  passed-shorter : length a ≤ i → i < length b → ComparesGrids a b (record { found = Less; agreed = i })
   passed-shorter h k = record { found-is = left-shorter d.left h k; agreed-is = agreed (λ l. absurd (omega arith)) }
 
-  pub passed-longer : i < length a → length b ≤ i → ComparesGrids a b (record { found = Greater; agreed = i })
+  passed-longer : i < length a → length b ≤ i → ComparesGrids a b (record { found = Greater; agreed = i })
   passed-longer h k = record { found-is = left-longer d.left h k; agreed-is = agreed (λ l m. absurd (omega arith)) }
 
-  -- both have a value at i, and x and y are their ranks
-  module _ (h : i < length a) (k : i < length b) {x y : ℕ} (p : x ≡ rank (get_or a i 0)) (q : y ≡ rank (get_or b i 0)) where
-    unequal : (x ≡ y → ⊥) → i ≡ common_prefix_length a b
-    unequal ne = agreed (λ l m e. ne (p ∙ ap rank e ∙ sym q))
+  pub passed-ended : {k : ℕ} {c : Ordering} → k ≡ i → k ≡ min (length a) (length b) → c ≡ nat_cmp (length a) (length b) → ComparesGrids a b (record { found = c; agreed = k })
+  passed-ended {c = c} h s e =
+      rw h
+      (by_ranked (length a < length b) (length a ≡ length b) (length b < length a) c (ranked (length a) (length b) c e)
+      (λ f l. rw f (passed-shorter (omega arith) (omega arith)))
+      (λ f l. rw f (passed-equal (omega arith) (omega arith)))
+      (λ f l. rw f (passed-longer (omega arith) (omega arith))))
 
-    pub passed-less : x < y → ComparesGrids a b (record { found = Less; agreed = i })
-    passed-less l = record { found-is = left_less d.left h k p q l; agreed-is = unequal (λ e. omega arith) }
+  -- both have a value at i, and c is their comparison
+  module _ (h : i < length a) (k : i < length b) {c : Ordering} (e : c ≡ compared_cells (get_or a i 0) (get_or b i 0)) where
+    pub passed-decided : is_eq c ≡ false → ComparesGrids a b (record { found = c; agreed = i })
+    passed-decided f = record {
+      found-is = left-decided d.left h k e f;
+      agreed-is = agreed (λ l m s. equal-no (get_or a i 0 ∷ []) (get_or b i 0 ∷ []) c false e (sym f) refl (ap (λ (z : ℕ). z ∷ []) s));
+    }
 
-    pub passed-greater : y < x → ComparesGrids a b (record { found = Greater; agreed = i })
-    passed-greater l = record { found-is = left-greater d.left h k p q l; agreed-is = unequal (λ e. omega arith) }
-
-    pub passed-same : y ≤ x → x ≤ y → Passed (i + 1) a b
-    passed-same f g = record {
-      left = left-same d.left h k p q f g;
+    pub passed-same : is_eq c ≡ true → Passed (i + 1) a b
+    passed-same f = record {
+      left = left_passed d.left h k e f;
       within = (omega arith, omega arith);
-      before = agree-next a b i d.before (rank-antisymm (get_or a i 0) (get_or b i 0) (omega arith) (omega arith));
+      before = agree-next a b i d.before (ap (λ (l : List ℕ). get_or l 0 0) (equal-yes (get_or a i 0 ∷ []) (get_or b i 0 ∷ []) c true e (sym f) refl));
     }

@@ -10,3 +10,4 @@ pub mod TerminalLaws
 pub mod ComparisonSteps
 pub mod ArrangementSteps
 pub mod LentLaws
+pub mod HigherLaws

@@ -3,21 +3,26 @@
 --   range-no    ==  a number outside a range
 --   rows-no, columns-no, top-no  ==  of questions 1 to 3, those before get a yes, this one a no
 --   limits-yes  ==  each gets a yes
+--   passed      ==  what a yes of these questions says
 --   shape-limits, lengths-no, shape-yes  ==  of a shape's questions, one of 1 to 3 gets a no, then 6; each gets a yes
 --   numbers-limits, capacity-no, numbers-yes  ==  of questions 1 to 4, one of 1 to 3 gets a no, then 4; each gets a yes
 --   Greatest g i x  ==  x is the greatest of the first i cells of g, or 0
 --   greatest-none, greatest-next, greatest-capped  ==  at first, a cell further, and what it says of the test of cells
+use Rattle.std.proofs.Common.{Result, Ok}
 use mathlib.Core.Path.{◌≡◌, sym, ◌∙◌}
 use mathlib.Core.List.{List, [], ◌∷◌}
 use mathlib.Core.Bool.{true, false, ◌&&◌}
-use mathlib.Core.Logic.{◌↔◌, ◌⊎◌, inl, inr}
-use Prim.Native.Nat.{ℕ, ◌+◌, ◌*◌, ◌≤◌, ◌<◌}
+use mathlib.Core.Logic.{◌↔◌}
+use Prim.Native.Nat.{ℕ, ◌+◌, ◌*◌, ◌≤◌, ◌<◌, max}
 use native.Mathlib.Decide.{ℕ_discrete, dec_lt}
 use native.Mathlib.Omega.{arith}
 use lib.ListN.{length, get_or}
 use lib.Dec.{eqb, leb}
 use borrow.Author.Tests.{eqb-true, eq-eqb, leb-true, le-leb}
 use Rattle.permutations.proofs.BoolLaws.{and_yes, yes_and, bool-ext, refuted}
+use Rattle.refusals.specs.declared.Refusal.{Refusal}
+use Rattle.refusals.specs.Numbers.{asked_number}
+use Rattle.refusals.proofs.NumberLaws.{yes-is}
 use Rattle.grids.specs.Grids.{capped}
 use Rattle.grids.specs.Asked.{limits_no, numbers_no, shape_no}
 use Rattle.grids.specs.Questions.{Question, first_no, in_range, Limits, question1, question2, question3, question4}
@@ -55,6 +60,9 @@ module _ (m n top : ℕ) where
 
   pub limits-yes : Limits m n top → 0 ≡ limits_no m n top
   limits-yes l = sym ((limits-decide m n top).1 l)
+
+  pub passed : {A : Type 0} {r : Result A Refusal} {y : A} → r ≡ Ok y → asked_number r ≡ limits_no m n top → Limits m n top
+  passed d e = (limits-decide m n top).0 (sym (yes-is d e))
 
   module _ (x y : ℕ) where
     pub shape-limits : {k : ℕ} → k ≡ limits_no m n top → (k ≡ 0 → ⊥) → k ≡ shape_no m n top x y
@@ -101,16 +109,16 @@ pub record Greatest (g : List ℕ) (i x : ℕ) : Type 0 where
 pub greatest-none : (g : List ℕ) → Greatest g 0 0
 greatest-none g = record { bound = λ k h. absurd (omega arith); reached = λ t h. absurd (omega arith) }
 
-pub greatest-next : {g : List ℕ} {i x : ℕ} (r : ℕ) → Greatest g i x → (x ≤ r) × (get_or g i 0 ≤ r) × ((r ≡ x) ⊎ (r ≡ get_or g i 0)) → Greatest g (i + 1) r
-greatest-next {g} {i} {x} r h m = record { bound = λ k b. below k b (ℕ_discrete k i); reached = λ t b. found t b m.2 }
+pub greatest-next : {g : List ℕ} {i x r : ℕ} → Greatest g i x → r ≡ max x (get_or g i 0) → Greatest g (i + 1) r
+greatest-next {g} {i} {x} {r} h m = record { bound = λ k b. below k b (ℕ_discrete k i); reached = λ t b. found t b (dec_lt t x) }
   where
     below : (k : ℕ) → k < i + 1 → Dec (k ≡ i) → get_or g k 0 ≤ r
-    below k b (yes e) = rw e m.1
-    below k b (no ne) = omega (arith, h.bound k (omega arith), m.0)
+    below k b (yes e) = rw e (omega arith)
+    below k b (no ne) = omega (arith, h.bound k (omega arith))
 
-    found : (t : ℕ) → t < r → (r ≡ x) ⊎ (r ≡ get_or g i 0) → (k : ℕ) × (k < i + 1) × (t < get_or g k 0)
-    found t b (inl e) = let w = h.reached t (omega arith) in (w.0, omega (arith, w.1), w.2)
-    found t b (inr e) = (i, omega arith, omega arith)
+    found : (t : ℕ) → t < r → Dec (t < x) → (k : ℕ) × (k < i + 1) × (t < get_or g k 0)
+    found t b (yes e) = let w = h.reached t e in (w.0, omega (arith, w.1), w.2)
+    found t b (no e) = (i, omega arith, omega arith)
 
 pub greatest-capped : (top : ℕ) (g : List ℕ) (x : ℕ) → Greatest g (length g) x → leb x top ≡ capped top g
 greatest-capped top g x h = bool-ext (leb x top) (capped top g) (λ e. at-capped top g (λ k b. omega (arith, leb-true x top e, h.bound k b))) λ e. le-leb x top (go (dec_lt top x) e)

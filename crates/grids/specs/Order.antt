@@ -1,6 +1,7 @@
 -- The order of cell values, and of lists of them: rows, columns and whole grids are compared so.
 --
 --   rank x     ==  where the value x stands among the values: by its number
+--   higher a b, lower a b  ==  the one of a and b that ranks higher, lower; a if they are equal
 --   a ≼ b      ==  a comes no later than b: the first unequal value decides, by rank; a list comes before those that it begins
 --   a ≺ b      ==  a comes before b
 --   FirstUnequal a b  ==  at the first index where a and b differ, a's value ranks lower
@@ -11,6 +12,12 @@ use Rattle.std.specs.Prelude.{◌≡◌, List, [], ◌∷◌, Bool, true, false,
 
 unfoldable pub rank : ℕ → ℕ
 rank x = x
+
+unfoldable pub higher : ℕ → ℕ → ℕ
+higher a b = elim (ltb (rank a) (rank b)) [ true ↦ b | false ↦ a ]
+
+unfoldable pub lower : ℕ → ℕ → ℕ
+lower a b = elim (ltb (rank b) (rank a)) [ true ↦ b | false ↦ a ]
 
 abbrev pub ◌≼◌ : List ℕ → List ℕ → Type 0
 ◌≼◌ [] b = Unit {0}

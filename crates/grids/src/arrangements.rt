@@ -5,7 +5,7 @@ ghost use Rattle.permutations.specs.Columns.{column_numbers};
 ghost use Rattle.grids.specs.Grids.{arrangement};
 
 use crate::cells;
-use permutations::columns::ColumnPermutation;
+use permutations::columns::{ColumnNumber, ColumnPermutation};
 use permutations::rows::RowPermutation;
 
 // Writes the arrangement of a grid by a row order and a column order into a slice of its length.
@@ -20,15 +20,10 @@ pub fn write_arrangement(
     requires { (m ≤ 8) × (n ≤ 16) × (length out.old ≡ m * n) }
     ensures { out.new ≡ arrangement m n (row_numbers rows) (column_numbers columns) grid.now }
 {
-    let order = columns.at;
-    let mut i = 0;
-    while i < m {
-        let row = rows.row(i);
-        let mut j = 0;
-        while j < n {
-            out[i * n + j] = cells::cell(grid, n, row, order[j]);
-            j += 1;
+    for i in 0..m {
+        let row = rows.number(i);
+        for j in 0..n {
+            out[i * n + j] = cells::cell(grid, n, row, ColumnNumber(columns.at[j]));
         }
-        i += 1;
     }
 }

@@ -1,7 +1,7 @@
 // Cell values, and the cells of a grid.
 ghost use Rattle.std.specs.Prelude.{◌≡◌, ℕ, ◌≤◌, ◌<◌};
 ghost use Rattle.grids.specs.Neighbours.{IsNext, IsPrevious};
-ghost use Rattle.grids.specs.Order.{rank};
+ghost use Rattle.grids.specs.Order.{rank, higher, lower};
 ghost use Rattle.grids.specs.Grids.{cell};
 
 use permutations::columns::ColumnNumber;
@@ -12,6 +12,20 @@ pub fn rank(value: u8) -> u8
     ensures { result ≡ rank value }
 {
     value
+}
+
+// The one of two values that ranks higher; the first if they are equal.
+pub fn higher(a: u8, b: u8) -> u8
+    ensures { result ≡ higher a b }
+{
+    if rank(a) < rank(b) { b } else { a }
+}
+
+// The one of two values that ranks lower; the first if they are equal.
+pub fn lower(a: u8, b: u8) -> u8
+    ensures { result ≡ lower a b }
+{
+    if rank(b) < rank(a) { b } else { a }
 }
 
 // The value that ranks next above a value, where one of 0 to 15 does.

@@ -1,14 +1,15 @@
 -- Laws of the numbers.
 --
 --   no-some  ==  what a match tells of a no: its number is not 0
+--   handed-on  ==  what `?` hands on has the number of the no
 --   no-is, yes-is  ==  what a match tells: the number that a contract speaks of
+use Rattle.std.proofs.Common.{Result, Ok, Err}
+use Rattle.std.specs.Result.{IsErr, IsErrAnd}
 use mathlib.Core.Path.{◌≡◌, sym, ap, ◌∙◌}
 use Prim.Native.Nat.{ℕ}
 use native.Mathlib.Omega.{arith}
 use Rattle.refusals.specs.declared.Refusal.{Refusal}
 use Rattle.refusals.specs.declared.Refusal.TheVariants.{Rows, Columns, Top, Capacity, Layout, Length, Cell, Bounds, Full, NotHeld, TerminalRows, Client, Holding}
-use Rattle.refusals.specs.declared.Asked.{Asked}
-use Rattle.refusals.specs.declared.Asked.TheVariants.{Yes, No}
 use Rattle.refusals.specs.Numbers.{refusal_number, asked_number}
 
 refusal-some : (x : Refusal) → refusal_number x ≡ 0 → ⊥
@@ -26,11 +27,17 @@ refusal-some TerminalRows e = omega arith
 refusal-some Client e = omega arith
 refusal-some Holding e = omega arith
 
-pub no-is : {a : Asked} {x : Refusal} {k : ℕ} → a ≡ No x → asked_number a ≡ k → refusal_number x ≡ k
-no-is d e = sym (ap asked_number d) ∙ e
+-- what `?` hands on
+pub handed-on : {A : Type 0} (r : Result A Refusal) (x : Refusal) {k : ℕ} → IsErr r × IsErrAnd r (λ y. y ≡ x) → refusal_number x ≡ k → asked_number r ≡ k
+handed-on (Ok y) x h e = absurd h.1
+handed-on (Err y) x h e = ap refusal_number h.1 ∙ e
 
-pub yes-is : {a : Asked} {k : ℕ} → a ≡ Yes → asked_number a ≡ k → 0 ≡ k
-yes-is d e = sym (ap asked_number d) ∙ e
+module _ {A : Type 0} {a : Result A Refusal} where
+  pub no-is : {x : Refusal} {k : ℕ} → a ≡ Err x → asked_number a ≡ k → refusal_number x ≡ k
+  no-is d e = sym (ap asked_number d) ∙ e
 
-pub no-some : {a : Asked} {x : Refusal} → a ≡ No x → refusal_number x ≡ 0 → ⊥
-no-some {x = x} d = refusal-some x
+  pub yes-is : {y : A} {k : ℕ} → a ≡ Ok y → asked_number a ≡ k → 0 ≡ k
+  yes-is d e = sym (ap asked_number d) ∙ e
+
+  pub no-some : {x : Refusal} → a ≡ Err x → refusal_number x ≡ 0 → ⊥
+  no-some {x = x} d = refusal-some x

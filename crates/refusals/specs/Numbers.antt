@@ -2,11 +2,9 @@
 --
 --   refusal_number x  ==  the number of the question that got a no
 --   asked_number a    ==  the number of the first no, or 0
-use Rattle.std.specs.Prelude.{ℕ}
+use Rattle.std.specs.Prelude.{ℕ, Result, Ok, Err}
 use Rattle.refusals.specs.declared.Refusal.{Refusal}
 use Rattle.refusals.specs.declared.Refusal.TheVariants.{Rows, Columns, Top, Capacity, Layout, Length, Cell, Bounds, Full, NotHeld, TerminalRows, Client, Holding}
-use Rattle.refusals.specs.declared.Asked.{Asked}
-use Rattle.refusals.specs.declared.Asked.TheVariants.{Yes, No}
 
 abbrev pub refusal_number : Refusal → ℕ
 refusal_number Rows = 1
@@ -23,6 +21,6 @@ refusal_number TerminalRows = 14
 refusal_number Client = 15
 refusal_number Holding = 16
 
-abbrev pub asked_number : Asked → ℕ
-asked_number Yes = 0
-asked_number (No x) = refusal_number x
+abbrev pub asked_number : {A : Type 0} → Result A Refusal → ℕ
+asked_number (Ok x) = 0
+asked_number (Err x) = refusal_number x

@@ -2,64 +2,30 @@
 #![tactic(auto)]
 
 ghost use Rattle.std.specs.Prelude.{◌≡◌};
-ghost use Rattle.refusals.specs.Numbers.{refusal_number, asked_number};
+ghost use Rattle.refusals.specs.Numbers.{refusal_number};
 
-// Why a call is refused: the question that got a no.
-#[derive(Clone, Copy)]
+// Why a call is refused: the question that got a no, by its number.
+#[derive(Clone, Copy, Debug, PartialEq, Eq)]
 pub enum Refusal {
-    Rows,
-    Columns,
-    Top,
-    Capacity,
-    Layout,
-    Length,
-    Cell,
-    Bounds,
-    Full,
-    NotHeld,
-    TerminalRows,
-    Client,
-    Holding,
+    Rows = 1,
+    Columns = 2,
+    Top = 3,
+    Capacity = 4,
+    Layout = 5,
+    Length = 6,
+    Cell = 7,
+    Bounds = 8,
+    Full = 9,
+    NotHeld = 10,
+    TerminalRows = 14,
+    Client = 15,
+    Holding = 16,
 }
 
-impl Refusal {
-    // The question's number.
-    pub fn number(self) -> u32
-        ensures { result ≡ refusal_number self }
-    {
-        match self {
-            Refusal::Rows => 1,
-            Refusal::Columns => 2,
-            Refusal::Top => 3,
-            Refusal::Capacity => 4,
-            Refusal::Layout => 5,
-            Refusal::Length => 6,
-            Refusal::Cell => 7,
-            Refusal::Bounds => 8,
-            Refusal::Full => 9,
-            Refusal::NotHeld => 10,
-            Refusal::TerminalRows => 14,
-            Refusal::Client => 15,
-            Refusal::Holding => 16,
-        }
-    }
-}
+impl From<Refusal> for u32 {
+    ghost from_gives = { λ refusal number. number ≡ refusal_number refusal };
 
-// What the questions that a call asks first get.
-#[derive(Clone, Copy)]
-pub enum Asked {
-    Yes,
-    No(Refusal),
-}
-
-impl Asked {
-    // The number of the first no, or 0.
-    pub fn number(self) -> u32
-        ensures { result ≡ asked_number self }
-    {
-        match self {
-            Asked::Yes => 0,
-            Asked::No(refusal) => refusal.number(),
-        }
+    fn from(refusal: Refusal) -> u32 {
+        refusal as u32
     }
 }

@@ -15,9 +15,10 @@ use lib.Dec.{ltb}
 use borrow.Author.Tests.{lt-ltb, le-ltb}
 use Rattle.permutations.proofs.BoolLaws.{yes_or_no, refuted}
 use Rattle.permutations.proofs.ListLaws.{part-is, part_length}
-use Rattle.grids.specs.declared.comparisons.Comparison.{Comparison}
+use Rattle.std.specs.declared.cmp.Ordering.{Ordering}
 use Rattle.grids.specs.Order.{◌≼◌, ◌≺◌, equal}
-use Rattle.grids.specs.Comparisons.{is_equal, compared}
+use Rattle.std.specs.Ordering.{is_eq}
+use Rattle.grids.specs.Comparisons.{compared}
 use Rattle.grids.proofs.OrderLaws.{equal-eq, eq-equal}
 use Rattle.grids.proofs.ComparisonLaws.{equal-yes, equal-no}
 use Rattle.layout.specs.Layout.{grids_of, line_length, line_start, decode, Ascends, cells_of}
@@ -37,7 +38,7 @@ module _ {size n : ℕ} {b : List ℕ} (k : Valid size n b) (e : ℕ) {a w : ℕ
   pub entry_length : (x : List ℕ) {j : ℕ} → j ≡ size → x ≡ cells_of j (take (a + w - a) (drop a b)) → length x ≡ size
   entry_length x {j} i p = ap length p ∙ length-cells j _ ∙ i
 
-  pub entry-compared : (x x' g : List ℕ) {j : ℕ} {c : Comparison} → j ≡ size → x ≡ cells_of j (take (a + w - a) (drop a b)) →
+  pub entry-compared : (x x' g : List ℕ) {j : ℕ} {c : Ordering} → j ≡ size → x ≡ cells_of j (take (a + w - a) (drop a b)) →
       c ≡ compared (take (size - 0) (x ++ x')) g → c ≡ compared (get_or (grids_of (decode b).entries) e []) g
   entry-compared x x' g {j} i p d =
       let y : x ≡ cells_of size (line_at size b e) = rw (i, entry-part k e s q) at p in
@@ -46,7 +47,7 @@ module _ {size n : ℕ} {b : List ℕ} (k : Valid size n b) (e : ℕ) {a w : ℕ
 pub past-entry : (e n : ℕ) (t : Bool) → n ≤ e → false ≡ (ltb e n && t)
 past-entry e n t h = rw (le-ltb e n h) refl
 
-pub at_entry : (e n : ℕ) (a g : List ℕ) (t : Bool) {c : Comparison} → e < n → t ≡ is_equal c → c ≡ compared a g → t ≡ (ltb e n && equal a g)
+pub at_entry : (e n : ℕ) (a g : List ℕ) (t : Bool) {c : Ordering} → e < n → t ≡ is_eq c → c ≡ compared a g → t ≡ (ltb e n && equal a g)
 at_entry e n a g t h i d = rw (lt-ltb e n h) (go (yes_or_no t))
   where
     go : (t ≡ true) ⊎ (t ≡ false) → t ≡ equal a g

@@ -8,11 +8,11 @@ ghost use Rattle.calls.specs.Valid.{Valid};
 ghost use Rattle.register.specs.Spans.{Halved};
 
 use grids::comparisons;
-use grids::comparisons::Comparison;
+use std::cmp::Ordering;
 use lines::entries;
 
 // What comparing the grid of a line's entry with a grid finds.
-fn compare_entry(register: &[u8], e: usize, count: usize, grid: &[u8]) -> Comparison
+fn compare_entry(register: &[u8], e: usize, count: usize, grid: &[u8]) -> Ordering
     requires { Valid (length grid.now) count register.now × (e < count) }
     ensures { result ≡ compared (get_or (grids_of (decode register.now).entries) e []) grid.now }
 {
@@ -40,7 +40,7 @@ fn halved(register: &[u8], count: usize, span: Span, grid: &[u8]) -> Span
 {
     let middle = span.low + (span.high - span.low) / 2;
     let found = compare_entry(register, middle, count, grid);
-    if comparisons::is_less(found) {
+    if found.is_lt() {
         return Span {
             low: middle + 1,
             high: span.high,
@@ -76,5 +76,5 @@ pub fn is_entry(register: &[u8], count: usize, e: usize, grid: &[u8]) -> bool
         return false;
     }
     let found = compare_entry(register, e, count, grid);
-    comparisons::is_equal(found)
+    found.is_eq()
 }

@@ -47,12 +47,12 @@ overflow_cast-agreed c =
     let q = c.least_orders-q.ensures in
     omega (arith, agreed-small _ _ _ _ _ _ _ (fits ((goal.at.overflow_cast-agreed c).In_default)) p q _ c.compare_arrangements-compared.ensures)
 
-pub returns-then-not-is_equal : goal.returns-then-not-is_equal
-returns-then-not-is_equal c =
+pub returns-then-not-is_eq : goal.returns-then-not-is_eq
+returns-then-not-is_eq c =
     let p = c.least_orders-p.ensures in
     let q = c.least_orders-q.ensures in
-    let u = c.unmatched-then-not-is_equal.ensures in record {
-      answer = same_differs _ _ _ _ _ _ _ (fits ((goal.at.returns-then-not-is_equal c).In_default)) p q _ c.compare_arrangements-compared.ensures _ c.is_equal.ensures (not-true _ c.if-not-is_equal.true-raw) _ _ _ (passed ((goal.at.returns-then-not-is_equal c).In_default))
+    let u = c.unmatched-then-not-is_eq.ensures in record {
+      answer = same_differs _ _ _ _ _ _ _ (fits ((goal.at.returns-then-not-is_eq c).In_default)) p q _ c.compare_arrangements-compared.ensures _ c.is_eq.ensures (not-true _ c.if-not-is_eq.true-raw) _ _ _ (passed ((goal.at.returns-then-not-is_eq c).In_default))
           u.number_is u.agreed-is u.starting;
       sizes = sizes-starting _ _ _ _ _ _ (λ e. omega (arith, u.number_is, e)) u.sizes;
     }
@@ -65,7 +65,7 @@ returns c =
     let q = c.least_orders-q.ensures in
     let i = c.inverse.ensures in
     let j = c.inverse-2.ensures in record {
-      answer = same_gives _ _ _ _ _ _ _ (fits ((goal.at.returns c).In_default)) p q _ c.compare_arrangements-compared.ensures _ c.is_equal.ensures (not-false _ c.if-not-is_equal.false-raw) _ _ _ _ _ _ _ (passed ((goal.at.returns c).In_default)) refl refl
+      answer = same_gives _ _ _ _ _ _ _ (fits ((goal.at.returns c).In_default)) p q _ c.compare_arrangements-compared.ensures _ c.is_eq.ensures (not-false _ c.if-not-is_eq.false-raw) _ _ _ _ _ _ _ (passed ((goal.at.returns c).In_default)) refl refl
           (least-produces _ _ _ _ p) (least-produces _ _ _ _ q)
           (followed_of _ _ _ _ _ _ _ _ _ l.rows-limits.0 l.rows-limits.1 p.orders.rows.whole q.orders.rows.whole p.orders.rows.size q.orders.rows.size i.size i.numbers c.composed.ensures.numbers)
           (followed_of _ _ _ _ _ _ _ _ _ l.column-limits.0 l.column-limits.1 p.orders.columns.whole q.orders.columns.whole p.orders.columns.size q.orders.columns.size j.size j.numbers c.composed-2.ensures.numbers);

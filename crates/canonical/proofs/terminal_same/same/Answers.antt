@@ -51,12 +51,12 @@ overflow_cast-agreed c =
     let q = c.least_orders-q.ensures in
     omega (arith, agreed-small _ _ _ _ _ _ _ (fits ((goal.at.overflow_cast-agreed c).In_default)) p q _ c.compare_arrangements-compared.ensures)
 
-pub returns-then-not-is_equal : goal.returns-then-not-is_equal
-returns-then-not-is_equal c =
+pub returns-then-not-is_eq : goal.returns-then-not-is_eq
+returns-then-not-is_eq c =
     let p = c.least_orders-p.ensures in
     let q = c.least_orders-q.ensures in
-    let u = c.terminal_unmatched-then-not-is_equal.ensures in record {
-      answer = same_differs _ _ _ _ _ _ _ (fits ((goal.at.returns-then-not-is_equal c).In_default)) p q _ c.compare_arrangements-compared.ensures _ c.is_equal.ensures (not-true _ c.if-not-is_equal.true-raw) _ _ _ (passed ((goal.at.returns-then-not-is_equal c).In_default))
+    let u = c.terminal_unmatched-then-not-is_eq.ensures in record {
+      answer = same_differs _ _ _ _ _ _ _ (fits ((goal.at.returns-then-not-is_eq c).In_default)) p q _ c.compare_arrangements-compared.ensures _ c.is_eq.ensures (not-true _ c.if-not-is_eq.true-raw) _ _ _ (passed ((goal.at.returns-then-not-is_eq c).In_default))
           u.number_is u.agreed-is u.starting;
       sizes = sizes-starting _ _ _ _ _ _ (λ e. omega (arith, u.number_is, e)) u.sizes;
     }
@@ -73,7 +73,7 @@ returns c =
     let j = c.inverse-2.ensures in
     let x = terminal-produces _ _ _ _ _ (few ((goal.at.returns c).In_default)) p a in
     let y = terminal-produces _ _ _ _ _ (few ((goal.at.returns c).In_default)) q b in record {
-      answer = same_gives _ _ _ _ _ _ _ (fits ((goal.at.returns c).In_default)) p q _ c.compare_arrangements-compared.ensures _ c.is_equal.ensures (not-false _ c.if-not-is_equal.false-raw) _ _ _ _ _ _ _ (passed ((goal.at.returns c).In_default)) refl refl x y
+      answer = same_gives _ _ _ _ _ _ _ (fits ((goal.at.returns c).In_default)) p q _ c.compare_arrangements-compared.ensures _ c.is_eq.ensures (not-false _ c.if-not-is_eq.false-raw) _ _ _ _ _ _ _ (passed ((goal.at.returns c).In_default)) refl refl x y
           (followed_of _ _ _ _ _ _ _ _ _ l.rows-limits.0 (few ((goal.at.returns c).In_default)) (record { permutation = x.row-permutation; rest = x.row-rest }) (record { permutation = y.row-permutation; rest = y.row-rest })
           (a.size ∙ p.orders.rows.size) (b.size ∙ q.orders.rows.size) i.size i.numbers c.composed.ensures.numbers)
           (followed_of _ _ _ _ _ _ _ _ _ l.column-limits.0 l.column-limits.1 p.orders.columns.whole q.orders.columns.whole p.orders.columns.size q.orders.columns.size j.size j.numbers c.composed-2.ensures.numbers);

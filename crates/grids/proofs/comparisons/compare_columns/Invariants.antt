@@ -1,5 +1,4 @@
--- `compare_columns` meets its contract. The loop's invariant: what is left of the two columns from row position `i` on decides.
--- The measure is what is left of `to`.
+-- The loop's invariant: what is left of the two columns from row position `i` on decides.
 use Prim.Native.Nat.{◌-◌}
 use lib.ListN.{get_or}
 use Rattle.permutations.specs.Rows.{row_numbers}
@@ -12,6 +11,3 @@ abbrev pub invariant-loop-i : goal.invariant-loop-i
 invariant-loop-i l =
     LeftFrom l.i l.to (λ t. cell l.n l.grid (get_or (row_numbers l.rows) t 0) l.a.0) l.to (λ t. cell l.n l.grid (get_or (row_numbers l.rows) t 0) l.b.0)
     (part_of_column l.n l.grid (row_numbers l.rows) l.from (l.to - l.from) l.a.0) (part_of_column l.n l.grid (row_numbers l.rows) l.from (l.to - l.from) l.b.0)
-
-abbrev pub decreases-loop-i : goal.decreases-loop-i
-decreases-loop-i l = l.to - l.i

@@ -1,19 +1,12 @@
--- `ask_limits` meets its contract: each return has passed the questions before it, and gives the number of the one that got a no.
-use native.Mathlib.Omega.{arith}
+use Rattle.std.proofs.Common.{arith}
 use Rattle.grids.proofs.QuestionSteps.{rows-no, columns-no, top-no, limits-yes}
 use Rattle.grids.proofs.questions.ask_limits.Goals as goal
 
 pub returns-then-m-lt1 : goal.returns-then-m-lt1
 returns-then-m-lt1 c = rows-no _ _ _ (λ h. omega arith)
 
-pub returns-then-m-gt8 : goal.returns-then-m-gt8
-returns-then-m-gt8 c = rows-no _ _ _ (λ h. omega arith)
-
 pub returns-then-n-lt1 : goal.returns-then-n-lt1
 returns-then-n-lt1 c = columns-no _ _ _ (omega arith, omega arith) (λ h. omega arith)
-
-pub returns-then-n-gt16 : goal.returns-then-n-gt16
-returns-then-n-gt16 c = columns-no _ _ _ (omega arith, omega arith) (λ h. omega arith)
 
 pub returns-then-top-gt15 : goal.returns-then-top-gt15
 returns-then-top-gt15 c = top-no _ _ _ (omega arith, omega arith) (omega arith, omega arith) (omega arith)
