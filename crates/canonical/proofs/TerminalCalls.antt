@@ -18,9 +18,10 @@ use native.Mathlib.Omega.{arith}
 use lib.ListN.{length, take}
 use lib.Seq.{take-take}
 use Rattle.permutations.specs.Padded.{padded}
-use Rattle.permutations.specs.declared.terminal_rows.TerminalRowPermutation.{TerminalRowPermutation}
+use Rattle.permutations.specs.Rows.{TerminalRowPermutation}
 use Rattle.permutations.specs.Rows.{row_numbers}
-use Rattle.permutations.specs.TerminalRows.{terminal_row_numbers, ListsTerminalRows}
+use Rattle.permutations.specs.Rows.{terminal_row_numbers}
+use Rattle.permutations.specs.Numbered.{Lists}
 use Rattle.permutations.specs.Columns.{column_numbers}
 use Rattle.permutations.proofs.PaddedLaws.{take-padded}
 use Rattle.grids.specs.Grids.{IsGrid}
@@ -137,5 +138,5 @@ produces-narrower width w m n a b rows columns h k p = record {
     e = take-take m w rows h
 
 pub terminal-produces : (m n : ℕ) (g : List ℕ) (o : Orders) (r : TerminalRowPermutation) → m ≤ 5 → LeastOrders m n g o →
-    ListsTerminalRows (take 5 (row_numbers o.rows)) o.rows.size r → Produces 5 m n g (least m n g) (terminal_row_numbers r) (column_numbers o.columns)
+    Lists (take 5 (row_numbers o.rows)) o.rows.size r → Produces 5 m n g (least m n g) (terminal_row_numbers r) (column_numbers o.columns)
 terminal-produces m n g o r h l e = rw e.numbers (produces-narrower 8 5 m n g (least m n g) (row_numbers o.rows) (column_numbers o.columns) h (omega arith) (least-produces m n g o l))

@@ -6,7 +6,7 @@ ghost use Rattle.canonical.specs.Answers.{Refused, Unmatched, TerminalRefused, T
 
 use permutations::columns::ColumnPermutation;
 use permutations::rows::RowPermutation;
-use permutations::terminal_rows::TerminalRowPermutation;
+use permutations::rows::TerminalRowPermutation;
 use refusals::{Asked, Refusal};
 
 // What represent returns: what its questions get, and the two orders.

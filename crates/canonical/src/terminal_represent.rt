@@ -1,13 +1,13 @@
 // A terminal's represent: at most five rows.
 ghost use Rattle.refusals.specs.Numbers.{asked_number};
-ghost use Rattle.permutations.specs.TerminalRows.{terminal_row_numbers};
+ghost use Rattle.permutations.specs.Rows.{terminal_row_numbers};
 ghost use Rattle.permutations.specs.Columns.{column_numbers};
 ghost use Rattle.canonical.specs.Represent.{TerminalRepresented, OrderSizes};
 
 use crate::answers::TerminalAnswer;
 use crate::{answers, asking, terminal_orders};
 use grids::arrangements;
-use permutations::terminal_rows::TerminalRowPermutation;
+use permutations::rows::TerminalRowPermutation;
 use refusals::Asked;
 
 // Writes the least arrangement of the grid, and returns the orders that produce it. Where a question gets a no: its number,
@@ -25,7 +25,7 @@ pub fn represent(m: usize, n: usize, top: usize, grid: &[u8], out: &mut [u8]) ->
     arrangements::write_arrangement(grid, m, n, rows, columns, out);
     TerminalAnswer {
         asked: Asked::Yes,
-        rows: TerminalRowPermutation::from_rows(rows),
+        rows: rows.narrowed::<5>(),
         columns,
     }
 }

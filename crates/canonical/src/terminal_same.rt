@@ -1,5 +1,5 @@
 // A terminal's same: at most five rows.
-ghost use Rattle.permutations.specs.TerminalRows.{terminal_row_numbers};
+ghost use Rattle.permutations.specs.Rows.{terminal_row_numbers};
 ghost use Rattle.permutations.specs.Columns.{column_numbers};
 ghost use Rattle.canonical.specs.Matching.{matching_number, matching_agreed};
 ghost use Rattle.canonical.specs.Represent.{OrderSizes};
@@ -8,7 +8,7 @@ ghost use Rattle.canonical.specs.Same.{TerminalCompared};
 use crate::answers::{Matching, TerminalMatch};
 use crate::{answers, asking, comparing, terminal_orders};
 use grids::comparisons;
-use permutations::terminal_rows::TerminalRowPermutation;
+use permutations::rows::TerminalRowPermutation;
 use refusals::Asked;
 
 // The orders by which b is the arrangement of a, as same finds them: 103 where the two are in two classes, and how many leading
@@ -28,8 +28,8 @@ pub fn same(m: usize, n: usize, top: usize, a: &[u8], b: &[u8]) -> TerminalMatch
     if !found.is_eq() {
         return answers::terminal_unmatched(Matching::Apart(agreed));
     }
-    let of_a = TerminalRowPermutation::from_rows(p.rows);
-    let of_b = TerminalRowPermutation::from_rows(q.rows);
+    let of_a = p.rows.narrowed::<5>();
+    let of_b = q.rows.narrowed::<5>();
     TerminalMatch {
         found: Matching::Same(agreed),
         rows: of_a.composed(of_b.inverse()),

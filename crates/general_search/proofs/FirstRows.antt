@@ -12,10 +12,9 @@ use Rattle.permutations.specs.Permutations.{IsPermutation, swapped}
 use Rattle.permutations.specs.Rows.{row_numbers}
 use Rattle.permutations.specs.Columns.{column_numbers}
 use Rattle.permutations.proofs.ListLaws.{length-tabulate, at-tabulate}
-use Rattle.std.specs.declared.cmp.Ordering.{Ordering}
+use Rattle.grids.specs.declared.comparisons.Comparison.{Comparison}
 use Rattle.grids.specs.Order.{rank, ◌≼◌, ◌≺◌}
-use Rattle.std.specs.Ordering.{is_lt}
-use Rattle.grids.specs.Comparisons.{compared}
+use Rattle.grids.specs.Comparisons.{is_less, compared}
 use Rattle.grids.specs.Grids.{cell, row, permuted_row, arrangement}
 use Rattle.grids.specs.Sorted.{permuted_column, Ascending}
 use Rattle.grids.proofs.OrderLaws.{≼_refl, ≼_trans, ≼-antisymm, ≺-≼, tabulate-at}
@@ -88,8 +87,8 @@ module _ (m n : ℕ) (g : List ℕ) (f : ℕ) (placed : Orders) (breaks : List �
         (λ r o e. apart r o (≼-antisymm (leading_rows 1 n g leader) _ (lead r o) (rw e at h)))
 
   -- f is the first of the rows with the greatest counts, which `all` holds, and found is the comparison of its cells with the best's first row
-  module _ (all : List ℕ) (counted : CountsRows m n g p all) (greatest : FirstGreatest m all f) (found : Ordering) (e : found ≡ compared (row_at n g 0 leader) (row_at n g 0 best)) where
-    pub first-bound : (b : Bound) → b.best ≡ lesser_orders found leader best → b.from ≡ f → MarksLess all f b.above → b.made ≡ is_lt found →
+  module _ (all : List ℕ) (counted : CountsRows m n g p all) (greatest : FirstGreatest m all f) (found : Comparison) (e : found ≡ compared (row_at n g 0 leader) (row_at n g 0 best)) where
+    pub first-bound : (b : Bound) → b.best ≡ lesser_orders found leader best → b.from ≡ f → MarksLess all f b.above → b.made ≡ is_less found →
         Bounded m n g 0 placed breaks best b
     unfolding MarksLess CountsRows
     first-bound b o z marks w = record {

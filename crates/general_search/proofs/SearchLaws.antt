@@ -20,11 +20,10 @@ use Rattle.permutations.specs.Permutations.{swapped}
 use Rattle.permutations.specs.Rows.{row_numbers, ListsRows}
 use Rattle.permutations.specs.Columns.{column_numbers}
 use Rattle.permutations.proofs.SwapLaws.{swapped-whole}
-use Rattle.std.specs.declared.cmp.Ordering.{Ordering}
-use Rattle.std.specs.declared.cmp.Ordering.TheVariants.{Less, Equal, Greater}
+use Rattle.grids.specs.declared.comparisons.Comparison.{Comparison}
+use Rattle.grids.specs.declared.comparisons.Comparison.TheVariants.{Less, Equal, Greater}
 use Rattle.grids.specs.Order.{◌≼◌, ◌≺◌}
-use Rattle.std.specs.Ordering.{is_lt, is_eq, is_gt}
-use Rattle.grids.specs.Comparisons.{compared}
+use Rattle.grids.specs.Comparisons.{is_less, is_equal, is_greater, compared}
 use Rattle.grids.proofs.OrderLaws.{≼_refl, ≼_trans, ≺-≼}
 use Rattle.grids.proofs.ComparisonLaws.{compared-less, compared-equal, compared-greater}
 use Rattle.general_search.specs.declared.search.Orders.{Orders}
@@ -122,32 +121,32 @@ module _ (m n : ℕ) (g : List ℕ) (k t : ℕ) (placed : Orders) (breaks : List
 
 -- ---- the lesser of a candidate and the best
 
-pub lesser-less : (found : Ordering) (t : Bool) (next best : Orders) → t ≡ is_lt found → t ≡ true → next ≡ lesser_orders found next best
+pub lesser-less : (found : Comparison) (t : Bool) (next best : Orders) → t ≡ is_less found → t ≡ true → next ≡ lesser_orders found next best
 lesser-less Less t next best e h = refl
 lesser-less Equal t next best e h = absurd (true≢false (sym h ∙ e))
 lesser-less Greater t next best e h = absurd (true≢false (sym h ∙ e))
 
-pub lesser-not : (found : Ordering) (t : Bool) (next best : Orders) → t ≡ is_lt found → t ≡ false → best ≡ lesser_orders found next best
+pub lesser-not : (found : Comparison) (t : Bool) (next best : Orders) → t ≡ is_less found → t ≡ false → best ≡ lesser_orders found next best
 lesser-not Less t next best e h = absurd (true≢false (sym e ∙ h))
 lesser-not Equal t next best e h = refl
 lesser-not Greater t next best e h = refl
 
-pub lesser-is : (found : Ordering) (next best out : Orders) → is_lt found ≡ true → out ≡ lesser_orders found next best → out ≡ next
+pub lesser-is : (found : Comparison) (next best out : Orders) → is_less found ≡ true → out ≡ lesser_orders found next best → out ≡ next
 lesser-is Less next best out h o = o
 lesser-is Equal next best out h o = absurd (true≢false (sym h))
 lesser-is Greater next best out h o = absurd (true≢false (sym h))
 
 -- found is the comparison of the candidate's next row with the best's
-module _ (m n : ℕ) (g : List ℕ) (k t : ℕ) (placed : Orders) (breaks : List ℕ) (best next out : Orders) (found : Ordering) (s : Searching m n g k placed breaks best)
+module _ (m n : ℕ) (g : List ℕ) (k t : ℕ) (placed : Orders) (breaks : List ℕ) (best next out : Orders) (found : Comparison) (s : Searching m n g k placed breaks best)
     (c : Candidate m n g k t placed breaks next) (km : k < m) (f : found ≡ compared (row_at n g k next) (row_at n g k best)) (o : out ≡ lesser_orders found next best) where
   -- what found says, and which of the two out is
   cases : ((row_at n g k next ≺ row_at n g k best) × (out ≡ next))
-      ⊎ (((row_at n g k next ≡ row_at n g k best) × (out ≡ best)) ⊎ ((row_at n g k best ≺ row_at n g k next) × (out ≡ best) × (is_gt found ≡ true)))
+      ⊎ (((row_at n g k next ≡ row_at n g k best) × (out ≡ best)) ⊎ ((row_at n g k best ≺ row_at n g k next) × (out ≡ best) × (is_greater found ≡ true)))
   cases = go found f o
     where
-      go : (x : Ordering) → x ≡ compared (row_at n g k next) (row_at n g k best) → out ≡ lesser_orders x next best →
+      go : (x : Comparison) → x ≡ compared (row_at n g k next) (row_at n g k best) → out ≡ lesser_orders x next best →
           ((row_at n g k next ≺ row_at n g k best) × (out ≡ next))
-          ⊎ (((row_at n g k next ≡ row_at n g k best) × (out ≡ best)) ⊎ ((row_at n g k best ≺ row_at n g k next) × (out ≡ best) × (is_gt x ≡ true)))
+          ⊎ (((row_at n g k next ≡ row_at n g k best) × (out ≡ best)) ⊎ ((row_at n g k best ≺ row_at n g k next) × (out ≡ best) × (is_greater x ≡ true)))
       go Less e h = inl (compared-less (row_at n g k next) (row_at n g k best) (sym e), h)
       go Equal e h = inr (inl (compared-equal (row_at n g k next) (row_at n g k best) (sym e), h))
       go Greater e h = inr (inr (compared-greater (row_at n g k next) (row_at n g k best) (sym e), h, refl))
@@ -158,7 +157,7 @@ module _ (m n : ℕ) (g : List ℕ) (k t : ℕ) (placed : Orders) (breaks : List
       (⊎_elim (λ x. rw x.1 (improves-refl m n g k best s.best-orders)) (λ x. rw x.1 (improves-refl m n g k best s.best-orders))) cases
 
   -- where the candidate is not above the best, its next row is now the best's
-  pub lesser-equal : is_gt found ≡ false → row_at n g k next ≡ row_at n g k out
+  pub lesser-equal : is_greater found ≡ false → row_at n g k next ≡ row_at n g k out
   lesser-equal e =
       ⊎_elim (λ x. rw x.1) (⊎_elim (λ x. rw x.1 x.0) (λ x. absurd (true≢false (sym x.2 ∙ e)))) cases
 
@@ -171,7 +170,7 @@ module _ (m n : ℕ) (g : List ℕ) (k t : ℕ) (placed : Orders) (breaks : List
       below : row_at n g k best ≼ row_at n g k next → leading_rows (suc k) n g best ≼ leading_rows (suc k) n g next
       below = bound-below m n g k t placed breaks best next s c
 
-pub equal-not-greater : (c : Ordering) (t : Bool) → t ≡ is_eq c → t ≡ true → is_gt c ≡ false
+pub equal-not-greater : (c : Comparison) (t : Bool) → t ≡ is_equal c → t ≡ true → is_greater c ≡ false
 equal-not-greater Less t e h = refl
 equal-not-greater Equal t e h = refl
 equal-not-greater Greater t e h = absurd (true≢false (sym h ∙ e))

@@ -25,8 +25,8 @@ use Rattle.std.specs.Prelude.{◌≡◌, List, Bool, true, false, ◌⊎◌, ℕ
 use Rattle.permutations.specs.Permutations.{IsPermutation, swapped}
 use Rattle.permutations.specs.Rows.{row_numbers, IsRowPermutation}
 use Rattle.permutations.specs.Columns.{column_numbers, IsColumnPermutation}
-use Rattle.std.specs.declared.cmp.Ordering.{Ordering}
-use Rattle.std.specs.declared.cmp.Ordering.TheVariants.{Less, Equal, Greater}
+use Rattle.grids.specs.declared.comparisons.Comparison.{Comparison}
+use Rattle.grids.specs.declared.comparisons.Comparison.TheVariants.{Less, Equal, Greater}
 use Rattle.grids.specs.Order.{◌≼◌}
 use Rattle.grids.specs.Grids.{row, permuted_row, arrangement}
 use Rattle.grids.specs.Sorted.{Ascending}
@@ -40,7 +40,7 @@ use Rattle.general_search.specs.Blocks.{Blocked, BlocksSorted}
 abbrev pub leading_rows : ℕ → ℕ → List ℕ → Orders → List ℕ
 leading_rows k n g o = arrangement k n (row_numbers o.rows) (column_numbers o.columns) g
 
-abbrev pub lesser_orders : Ordering → Orders → Orders → Orders
+abbrev pub lesser_orders : Comparison → Orders → Orders → Orders
 lesser_orders Less next best = next
 lesser_orders Equal next best = best
 lesser_orders Greater next best = best

@@ -6,7 +6,7 @@ ghost use Rattle.grids.specs.Comparisons.{compared};
 ghost use Rattle.general_search.specs.Search.{row_at, lesser_orders, EqualRows, Repeats, Searching, Candidate, Bounded, InCommon, Settled, Searched, BranchOutcome, Followed, FollowOutcome, LeastOrders};
 
 use crate::blocks;
-use std::cmp::Ordering;
+use grids::comparisons::Comparison;
 use grids::{cells, comparisons};
 use permutations::columns::{ColumnNumber, ColumnPermutation};
 use permutations::rows::{RowNumber, RowPermutation};
@@ -98,7 +98,7 @@ pub fn candidate(
 }
 
 // Row k of the arrangements by two pairs of orders.
-pub fn compare_at(grid: &[u8], n: usize, k: usize, a: Orders, b: Orders) -> Ordering
+pub fn compare_at(grid: &[u8], n: usize, k: usize, a: Orders, b: Orders) -> Comparison
     requires { n ≤ 16 }
     ensures { result ≡ compared (row_at n grid.now k a) (row_at n grid.now k b) }
 {
@@ -108,10 +108,10 @@ pub fn compare_at(grid: &[u8], n: usize, k: usize, a: Orders, b: Orders) -> Orde
 }
 
 // The candidate, if its comparison with the best found it less; else the best.
-pub fn lesser(found: Ordering, next: Orders, best: Orders) -> Orders
+pub fn lesser(found: Comparison, next: Orders, best: Orders) -> Orders
     ensures { result ≡ lesser_orders found next best }
 {
-    if found.is_lt() {
+    if comparisons::is_less(found) {
         return next;
     }
     best
@@ -138,9 +138,9 @@ fn lowered(
     while t < m {
         let next = candidate(grid, m, n, k, t, placed, breaks, out, false);
         let found = compare_at(grid, n, k, next, out);
-        if found.is_gt() {
+        if comparisons::is_greater(found) {
             above[t] = 1;
-        } else if found.is_lt() {
+        } else if comparisons::is_less(found) {
             out = next;
             from = t;
             made = true;
@@ -238,7 +238,7 @@ fn last(
     if !jumps {
         return Found { best: out, back: m };
     }
-    if !found.is_eq() {
+    if !comparisons::is_equal(found) {
         return Found { best: out, back: m };
     }
     let back = common(next.rows, out.rows, m);
@@ -285,7 +285,7 @@ fn follow(
     ensures { FollowOutcome m n grid.now k t placed best jumps result }
 {
     let found = compare_at(grid, n, k, next, best);
-    if found.is_gt() {
+    if comparisons::is_greater(found) {
         return Found { best, back: m };
     }
     let out = lesser(found, next, best);

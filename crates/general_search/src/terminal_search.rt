@@ -91,7 +91,7 @@ fn looks_ahead(grid: &[u8], m: usize, n: usize, start: Orders, all: [u64; 5]) ->
             RowNumber(t as u8),
             columns,
         );
-        if found.is_eq() {
+        if comparisons::is_equal(found) {
             equal = true;
         } else {
             differs = true;
@@ -140,7 +140,7 @@ fn first_bound(
         best,
         from: first,
         above,
-        made: found.is_lt(),
+        made: comparisons::is_less(found),
     }
 }
 

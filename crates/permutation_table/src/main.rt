@@ -3,8 +3,8 @@
 #![tactic(auto)]
 
 use permutations::columns::{ColumnNumber, ColumnPermutation};
-use permutations::rows::{RowNumber, RowPermutation};
-use permutations::terminal_rows::TerminalRowPermutation;
+use permutations::permutation::Permutation;
+use permutations::rows::{RowNumber, RowPermutation, TerminalRowPermutation};
 use std::io;
 
 // Prints a line: a label, and the numbers after it.
@@ -16,16 +16,13 @@ fn print_numbers(rt: &impl Print, label: &str, numbers: &[u8]) -> io::Result<()>
     println!(rt; "")
 }
 
-fn print_rows(rt: &impl Print, label: &str, p: RowPermutation) -> io::Result<()> {
-    print_numbers(rt, label, &p.bytes())
-}
-
-fn print_terminal_rows(rt: &impl Print, label: &str, p: TerminalRowPermutation) -> io::Result<()> {
-    print_numbers(rt, label, &p.bytes())
-}
-
-fn print_columns(rt: &impl Print, label: &str, q: ColumnPermutation) -> io::Result<()> {
-    print_numbers(rt, label, &q.bytes())
+// Prints a line: a label, and the numbers in an order's positions.
+fn print_order<I, const N: usize>(
+    rt: &impl Print,
+    label: &str,
+    order: Permutation<I, N>,
+) -> io::Result<()> {
+    print_numbers(rt, label, &order.at)
 }
 
 fn rows(a: u8, b: u8, size: usize) -> RowPermutation {
@@ -36,7 +33,7 @@ fn rows(a: u8, b: u8, size: usize) -> RowPermutation {
 
 // Three rows of a terminal, in an order of this size.
 fn terminal_rows(a: u8, b: u8, c: u8, size: usize) -> TerminalRowPermutation {
-    TerminalRowPermutation::from_rows(rows(a, b, size).with(2, RowNumber(c)))
+    rows(a, b, size).with(2, RowNumber(c)).narrowed()
 }
 
 fn columns(a: u8, b: u8, c: u8, size: usize) -> ColumnPermutation {
@@ -49,63 +46,63 @@ fn columns(a: u8, b: u8, c: u8, size: usize) -> ColumnPermutation {
 fn main(rt: HostRuntime) -> io::Result<()> {
     let rt = &rt;
     let p = rows(1, 0, 2);
-    print_rows(rt, "P                       ", p)?;
-    print_rows(rt, "P inverse               ", p.inverse())?;
-    print_rows(rt, "P followed by P         ", p.composed(p))?;
-    print_rows(rt, "a row twice, inverse    ", rows(1, 1, 2).inverse())?;
-    print_rows(rt, "a row too large, inverse", rows(2, 0, 2).inverse())?;
-    print_rows(rt, "sizes that differ       ", p.composed(rows(1, 0, 3)))?;
+    print_order(rt, "P                       ", p)?;
+    print_order(rt, "P inverse               ", p.inverse())?;
+    print_order(rt, "P followed by P         ", p.composed(p))?;
+    print_order(rt, "a row twice, inverse    ", rows(1, 1, 2).inverse())?;
+    print_order(rt, "a row too large, inverse", rows(2, 0, 2).inverse())?;
+    print_order(rt, "sizes that differ       ", p.composed(rows(1, 0, 3)))?;
     let q = columns(2, 0, 1, 3);
-    print_columns(rt, "Q                       ", q)?;
-    print_columns(rt, "Q inverse               ", q.inverse())?;
-    print_columns(rt, "Q followed by Q         ", q.composed(q))?;
-    print_columns(rt, "Q followed by Q inverse ", q.composed(q.inverse()))?;
-    print_columns(
+    print_order(rt, "Q                       ", q)?;
+    print_order(rt, "Q inverse               ", q.inverse())?;
+    print_order(rt, "Q followed by Q         ", q.composed(q))?;
+    print_order(rt, "Q followed by Q inverse ", q.composed(q.inverse()))?;
+    print_order(
         rt,
         "Q, then 1 0 2           ",
         q.composed(columns(1, 0, 2, 3)),
     )?;
-    print_columns(
+    print_order(
         rt,
         "1 0 2, then Q           ",
         columns(1, 0, 2, 3).composed(q),
     )?;
-    print_columns(
+    print_order(
         rt,
         "size 17                 ",
         columns(2, 0, 1, 17).inverse(),
     )?;
     let t = terminal_rows(2, 0, 1, 3);
-    print_terminal_rows(rt, "T, at a terminal        ", t)?;
-    print_terminal_rows(rt, "T inverse               ", t.inverse())?;
-    print_terminal_rows(rt, "T followed by T         ", t.composed(t))?;
-    print_terminal_rows(rt, "T followed by T inverse ", t.composed(t.inverse()))?;
-    print_terminal_rows(
+    print_order(rt, "T, at a terminal        ", t)?;
+    print_order(rt, "T inverse               ", t.inverse())?;
+    print_order(rt, "T followed by T         ", t.composed(t))?;
+    print_order(rt, "T followed by T inverse ", t.composed(t.inverse()))?;
+    print_order(
         rt,
         "T, then 1 0 2           ",
         t.composed(terminal_rows(1, 0, 2, 3)),
     )?;
-    print_terminal_rows(
+    print_order(
         rt,
         "sizes that differ       ",
         t.composed(terminal_rows(2, 0, 1, 4)),
     )?;
-    print_terminal_rows(
+    print_order(
         rt,
         "a row too large, inverse",
         terminal_rows(3, 0, 1, 3).inverse(),
     )?;
-    print_terminal_rows(
+    print_order(
         rt,
         "size 5, inverse         ",
         terminal_rows(2, 0, 1, 5).inverse(),
     )?;
-    print_terminal_rows(
+    print_order(
         rt,
         "size 6                  ",
         terminal_rows(2, 0, 1, 6).inverse(),
     )?;
-    print_terminal_rows(
+    print_order(
         rt,
         "starting                ",
         TerminalRowPermutation::identity(5),

@@ -6,7 +6,7 @@
 use Rattle.std.specs.Prelude.{◌≡◌}
 use Rattle.refusals.specs.Numbers.{asked_number}
 use Rattle.permutations.specs.Rows.{row_numbers}
-use Rattle.permutations.specs.TerminalRows.{terminal_row_numbers}
+use Rattle.permutations.specs.Rows.{terminal_row_numbers}
 use Rattle.permutations.specs.Columns.{column_numbers}
 use Rattle.canonical.specs.declared.answers.Answer.{Answer}
 use Rattle.canonical.specs.declared.answers.Match.{Match}

@@ -32,8 +32,8 @@ fn exported(answer: Answer) -> Arranged
     let asked = answer.asked;
     Arranged {
         number: asked.number(),
-        rows: answer.rows.bytes(),
-        columns: answer.columns.bytes(),
+        rows: answer.rows.at,
+        columns: answer.columns.at,
     }
 }
 
@@ -55,8 +55,8 @@ fn exported_match(answer: Match) -> Matched
     Matched {
         number: found.number(),
         agreed: found.agreed(),
-        rows: answer.rows.bytes(),
-        columns: answer.columns.bytes(),
+        rows: answer.rows.at,
+        columns: answer.columns.at,
     }
 }
 
@@ -75,8 +75,8 @@ fn terminal_exported(answer: TerminalAnswer) -> TerminalArranged
     let asked = answer.asked;
     TerminalArranged {
         number: asked.number(),
-        rows: answer.rows.bytes(),
-        columns: answer.columns.bytes(),
+        rows: answer.rows.at,
+        columns: answer.columns.at,
     }
 }
 
@@ -97,8 +97,8 @@ fn terminal_exported_match(answer: TerminalMatch) -> TerminalMatched
     TerminalMatched {
         number: found.number(),
         agreed: found.agreed(),
-        rows: answer.rows.bytes(),
-        columns: answer.columns.bytes(),
+        rows: answer.rows.at,
+        columns: answer.columns.at,
     }
 }
 
