@@ -1,6 +1,6 @@
 -- Steps of the small functions of the search.
 --
---   lowest-one, lowest-next, lowest-stays  ==  the least of some numbers: of one, and with a number more that is less, or not
+--   lowest-one, lowest-next  ==  the least of some numbers: of one, and with a number more
 --   CommonUpTo a b count i  ==  a and b begin with i entries in common, at most count
 --   common-none, common-more, common-parts, common-all  ==  counting them: at first, one more, two that differ, and up to count
 --   cut-fresh, lower-fresh  ==  nothing is cut and all is lower where the best's next row is not known
@@ -8,9 +8,9 @@
 use mathlib.Core.Path.{◌≡◌, sym, ap, ◌∙◌}
 use mathlib.Core.List.{List}
 use mathlib.Core.Bool.{Bool, true, false, true≢false}
-use Prim.Native.Nat.{ℕ, ◌+◌, ◌≤◌, ◌<◌}
+use Prim.Native.Nat.{ℕ, min, ◌+◌, ◌≤◌, ◌<◌}
 use native.Mathlib.Nat.{not-suc-le-zero}
-use native.Mathlib.Decide.{ℕ_discrete}
+use native.Mathlib.Decide.{ℕ_discrete, dec_lt}
 use native.Mathlib.Omega.{arith}
 use lib.ListN.{get_or}
 use lib.Dec.{eqb}
@@ -28,21 +28,29 @@ lowest-one p keys k row key e f = record { no_more = λ t kt tk. one t (omega ar
     one : (t : ℕ) → t ≡ k → key ≤ get_or keys (get_or p t 0) 0
     one t g = rw g (omega (arith, at_row p keys k row key e f))
 
-pub lowest-next : (p keys : List ℕ) (k t row key least : ℕ) → row ≡ get_or p t 0 → key ≡ get_or keys row 0 → k ≤ t → key < least → Lowest t k p keys least → Lowest (t + 1) k p keys key
-lowest-next p keys k t row key least e f kt h l = record { no_more = λ s ks st. go s ks st (ℕ_discrete s t); reached = (t, kt, omega arith, at_row p keys t row key e f) }
-  where
-    go : (s : ℕ) → k ≤ s → s < t + 1 → Dec (s ≡ t) → key ≤ get_or keys (get_or p s 0) 0
-    go s ks st (yes g) = rw g (omega (arith, at_row p keys t row key e f))
-    go s ks st (no ne) = omega (arith, l.no_more s ks (omega arith))
+module _ (p keys : List ℕ) (k t row key least : ℕ) (e : row ≡ get_or p t 0) (f : key ≡ get_or keys row 0) (kt : k ≤ t) (l : Lowest t k p keys least) where
+  lowest-below : key < least → Lowest (t + 1) k p keys key
+  lowest-below h = record { no_more = λ s ks st. go s ks st (ℕ_discrete s t); reached = (t, kt, omega arith, at_row p keys t row key e f) }
+    where
+      go : (s : ℕ) → k ≤ s → s < t + 1 → Dec (s ≡ t) → key ≤ get_or keys (get_or p s 0) 0
+      go s ks st (yes g) = rw g (omega (arith, at_row p keys t row key e f))
+      go s ks st (no ne) = omega (arith, l.no_more s ks (omega arith))
 
-pub lowest-stays : (p keys : List ℕ) (k t row key least : ℕ) → row ≡ get_or p t 0 → key ≡ get_or keys row 0 → least ≤ key → Lowest t k p keys least → Lowest (t + 1) k p keys least
-lowest-stays p keys k t row key least e f h l =
-    let r = l.reached in
-    record { no_more = λ s ks st. go s ks st (ℕ_discrete s t); reached = (r.0, r.1, omega (arith, r.2), r.3) }
-  where
-    go : (s : ℕ) → k ≤ s → s < t + 1 → Dec (s ≡ t) → least ≤ get_or keys (get_or p s 0) 0
-    go s ks st (yes g) = rw g (omega (arith, at_row p keys t row key e f))
-    go s ks st (no ne) = l.no_more s ks (omega arith)
+  lowest-stays : least ≤ key → Lowest (t + 1) k p keys least
+  lowest-stays h =
+      let r = l.reached in
+      record { no_more = λ s ks st. go s ks st (ℕ_discrete s t); reached = (r.0, r.1, omega (arith, r.2), r.3) }
+    where
+      go : (s : ℕ) → k ≤ s → s < t + 1 → Dec (s ≡ t) → least ≤ get_or keys (get_or p s 0) 0
+      go s ks st (yes g) = rw g (omega (arith, at_row p keys t row key e f))
+      go s ks st (no ne) = l.no_more s ks (omega arith)
+
+  pub lowest-next : (new : ℕ) → new ≡ min least key → Lowest (t + 1) k p keys new
+  lowest-next new g = go (dec_lt key least)
+    where
+      go : Dec (key < least) → Lowest (t + 1) k p keys new
+      go (yes h) = let n : new ≡ key = omega arith in rw n (lowest-below h)
+      go (no h) = let n : new ≡ least = omega arith in rw n (lowest-stays (omega arith))
 
 -- ---- entries in common
 

@@ -9,6 +9,7 @@ use crate::search::Found;
 use crate::{columns, search, settled, tables, values};
 use permutations::columns::ColumnPermutation;
 use permutations::rows::RowPermutation;
+use std::array;
 
 // Orders that give the least arrangement, where `found` says so.
 #[derive(Clone, Copy)]
@@ -34,13 +35,7 @@ fn first_places(n: usize) -> [u8; 16]
     requires { n ≤ 16 }
     ensures { FirstPlaces n result }
 {
-    let mut out = [0u8; 16];
-    let mut c = 0;
-    while c < 16 {
-        out[c] = first_place(n, c);
-        c += 1;
-    }
-    out
+    array::from_fn(|c| first_place(n, c))
 }
 
 // What the search finds from its start: columns that are told apart with no row placed need none.
@@ -103,42 +98,27 @@ fn searched(grid: &[u8], m: usize, n: usize, low: u8) -> Arranged
 
 // Whether the first cells have a third value: most grids that have one are told so at once.
 fn has_third(grid: &[u8]) -> bool {
-    if grid.len() < 3 {
+    let Some(first) = grid.first() else {
         return false;
-    }
-    let first = grid[0];
+    };
     let mut second = first;
-    let mut i = 1;
-    while i < 16 {
-        if grid.len() <= i {
-            return false;
-        }
-        let cell = grid[i];
+    for cell in grid.iter().take(16) {
         if cell != first && cell != second {
             if second != first {
                 return true;
             }
             second = cell;
         }
-        i += 1;
     }
     false
 }
 
 // Whether all cells are the same.
 fn has_one(grid: &[u8]) -> bool {
-    if grid.len() < 1 {
-        return true;
+    match grid.first() {
+        Some(first) => grid.iter().all(|cell| cell == first),
+        None => true,
     }
-    let first = grid[0];
-    let mut i = 1;
-    while i < grid.len() {
-        if grid[i] != first {
-            return false;
-        }
-        i += 1;
-    }
-    true
 }
 
 // Whether the general search is as quick: the grid has more than two values, or one value and fewer than 16 columns.

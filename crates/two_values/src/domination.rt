@@ -70,13 +70,11 @@ fn against(
     ensures { Drops m n grid.now k (row_numbers rows) marks result }
 {
     let mut out = marks;
-    let mut t = s + 1;
-    while t < m {
+    for t in s + 1..m {
         let at = loser(table, words, lows, after, m, n, rows, out[s], out[t], s, t);
         if at < 8 {
             out[at] = 0;
         }
-        t += 1;
     }
     out
 }
@@ -85,17 +83,7 @@ fn against(
 fn stands(before: [u8; 8], after: [u8; 8], s: usize) -> bool
     requires { s < 8 }
 {
-    if before[s] == 0 {
-        return false;
-    }
-    let mut i = 0;
-    while i < 8 {
-        if before[i] != after[i] {
-            return false;
-        }
-        i += 1;
-    }
-    true
+    before[s] != 0 && before == after
 }
 
 // The marks after the marked rows are held against each other: only the first of them, where nothing comes of that.
@@ -117,8 +105,7 @@ fn all_dropped(
     ensures { Drops m n grid.now k (row_numbers rows) marks result }
 {
     let mut out = marks;
-    let mut s = k;
-    while s < m {
+    for s in k..m {
         let next = against(
             grid, columns, table, m, n, low, k, rows, after, words, lows, out, s,
         );
@@ -126,7 +113,6 @@ fn all_dropped(
             return next;
         }
         out = next;
-        s += 1;
     }
     out
 }
@@ -137,13 +123,11 @@ fn marked(m: usize, k: usize, rows: RowPermutation, keys: [u16; 8], least: u16) 
     ensures { MarksLeast k m (row_numbers rows) keys least result }
 {
     let mut out = [0u8; 8];
-    let mut t = k;
-    while t < m {
+    for t in k..m {
         let row = number(rows, t);
         if keys[row] == least {
             out[t] = 1;
         }
-        t += 1;
     }
     out
 }
@@ -153,13 +137,11 @@ fn count_least(m: usize, k: usize, rows: RowPermutation, keys: [u16; 8], least: 
     requires { IsRowPermutation m rows × (m ≤ 8) }
 {
     let mut count = 0;
-    let mut t = k;
-    while t < m {
+    for t in k..m {
         let row = number(rows, t);
         if keys[row] == least {
             count += 1;
         }
-        t += 1;
     }
     count
 }
@@ -176,10 +158,8 @@ fn unmarked(marks: [u8; 8]) -> [u8; 8]
     ensures { Unmarked marks result }
 {
     let mut out = [0u8; 8];
-    let mut t = 0;
-    while t < 8 {
+    for t in 0..8 {
         out[t] = no_mark(marks[t]);
-        t += 1;
     }
     out
 }

@@ -33,13 +33,9 @@ fn lowest(keys: [u16; 8], rows: RowPermutation, m: usize, k: usize) -> u16
     ensures { Lowest m k (row_numbers rows) keys result }
 {
     let mut least = number_at(keys, rows.row(k).0 as usize);
-    let mut t = k + 1;
-    while t < m {
+    for t in k + 1..m {
         let key = number_at(keys, rows.row(t).0 as usize);
-        if key < least {
-            least = key;
-        }
-        t += 1;
+        least = least.min(key);
     }
     least
 }
@@ -48,12 +44,10 @@ fn lowest(keys: [u16; 8], rows: RowPermutation, m: usize, k: usize) -> u16
 fn common(a: RowPermutation, b: RowPermutation, count: usize) -> usize
     ensures { CommonRows (row_numbers a) (row_numbers b) count result }
 {
-    let mut i = 0;
-    while i < count {
+    for i in 0..count {
         if a.row(i).0 != b.row(i).0 {
             return i;
         }
-        i += 1;
     }
     count
 }
@@ -188,8 +182,7 @@ pub fn place(
     );
     let mut new = is_lower(fresh, known, least);
     let mut covered = [0u8; 8];
-    let mut t = k;
-    while t < m {
+    for t in k..m {
         let row = rows.row(t);
         let key = number_at(keys, row.0 as usize);
         if is_followed(key, least, dropped, covered, t, row) {
@@ -218,7 +211,6 @@ pub fn place(
             );
             covered = more;
         }
-        t += 1;
     }
     now
 }

@@ -21,12 +21,10 @@ pub fn with_symmetry(
     ensures { Symmetries m n grid.now result (kept + 1) }
 {
     let mut out = symmetries;
-    let mut i = 0;
-    while i < m {
+    for i in 0..m {
         let from = first.row(i);
         let to = second.row(i);
         out[kept * 8 + from.0 as usize] = to.0;
-        i += 1;
     }
     out
 }
@@ -43,13 +41,11 @@ fn fixes(symmetries: [u8; 32], s: usize, rows: RowPermutation, k: usize) -> bool
     requires { (s < 4) × ((i : ℕ) → i < k → get_or (row_numbers rows) i 0 < 8) }
     ensures { Fixes symmetries s (row_numbers rows) k result }
 {
-    let mut i = 0;
-    while i < k {
+    for i in 0..k {
         let row = rows.row(i);
         if symmetries[s * 8 + row.0 as usize] != row.0 {
             return false;
         }
-        i += 1;
     }
     true
 }
@@ -60,17 +56,13 @@ fn images(symmetries: [u8; 32], s: usize, m: usize, covered: [u8; 8]) -> [u8; 8]
     ensures { Images m symmetries s covered result }
 {
     let mut out = covered;
-    let mut r = 0;
-    while r < m {
-        if out[r] == 0 {
-            r += 1;
-            continue;
+    for r in 0..m {
+        if out[r] != 0 {
+            let image = index(symmetries[s * 8 + r]);
+            if image < 8 {
+                out[image] = 1;
+            }
         }
-        let image = index(symmetries[s * 8 + r]);
-        if image < 8 {
-            out[image] = 1;
-        }
-        r += 1;
     }
     out
 }
@@ -90,13 +82,11 @@ fn spread(
     ensures { Spreads m n grid.now k (row_numbers rows) covered result }
 {
     let mut out = covered;
-    let mut s = 0;
-    while s < kept {
+    for s in 0..kept {
         if fixes(symmetries, s, rows, k) {
             let more = images(symmetries, s, m, out);
             out = more;
         }
-        s += 1;
     }
     out
 }

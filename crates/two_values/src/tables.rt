@@ -8,16 +8,10 @@ pub fn by_columns(grid: &[u8], m: usize, n: usize, low: u8) -> [u16; 128]
     ensures { ByColumns m n grid.now low result }
 {
     let mut out = [0u16; 128];
-    let mut at = 0;
-    let mut i = 0;
-    while i < m {
-        let mut j = 0;
-        while j < n {
-            out[j * 8 + i] = (grid[at] != low) as u16;
-            at += 1;
-            j += 1;
+    for i in 0..m {
+        for j in 0..n {
+            out[j * 8 + i] = (grid[i * n + j] != low) as u16;
         }
-        i += 1;
     }
     out
 }
@@ -28,16 +22,10 @@ pub fn by_rows(grid: &[u8], m: usize, n: usize, low: u8) -> [u8; 128]
     ensures { ByRows m n grid.now low result }
 {
     let mut out = [1u8; 128];
-    let mut at = 0;
-    let mut i = 0;
-    while i < m {
-        let mut j = 0;
-        while j < n {
-            out[i * 16 + j] = (grid[at] == low) as u8;
-            at += 1;
-            j += 1;
+    for i in 0..m {
+        for j in 0..n {
+            out[i * 16 + j] = (grid[i * n + j] == low) as u8;
         }
-        i += 1;
     }
     out
 }

@@ -29,10 +29,8 @@ fn lowest(grid: &[u8]) -> u8
     ensures { (i : ℕ) → i < length grid.now → rank result ≤ rank (get_or grid.now i 0) }
 {
     let mut low = grid[0];
-    let mut i = 0;
-    while i < grid.len() {
-        low = lower(low, grid[i]);
-        i += 1;
+    for cell in grid {
+        low = lower(low, *cell);
     }
     low
 }
@@ -51,10 +49,8 @@ fn highest(grid: &[u8]) -> u8
     requires { 0 < length grid.now }
 {
     let mut high = grid[0];
-    let mut i = 0;
-    while i < grid.len() {
-        high = higher(high, grid[i]);
-        i += 1;
+    for cell in grid {
+        high = higher(high, *cell);
     }
     high
 }
@@ -71,10 +67,8 @@ fn has_only(grid: &[u8], low: u8, high: u8) -> bool
     ensures { result ≡ true → (i : ℕ) → i < length grid.now → (get_or grid.now i 0 ≡ low) ⊎ (get_or grid.now i 0 ≡ high) }
 {
     let mut either = true;
-    let mut i = 0;
-    while i < grid.len() {
-        either = stays_either(either, grid[i], low, high);
-        i += 1;
+    for cell in grid {
+        either = stays_either(either, *cell, low, high);
     }
     either
 }

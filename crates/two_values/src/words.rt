@@ -8,14 +8,10 @@ pub fn by_row(columns: &[u16; 128]) -> [u32; 8]
     ensures { RowWords columns.now result }
 {
     let mut out = [0u32; 8];
-    let mut c = 0;
-    while c < 16 {
-        let mut r = 0;
-        while r < 8 {
+    for c in 0..16 {
+        for r in 0..8 {
             out[r] = 2 * out[r] + columns[c * 8 + r] as u32;
-            r += 1;
         }
-        c += 1;
     }
     out
 }
@@ -26,14 +22,10 @@ pub fn by_column(rows: &[u8; 128]) -> [u8; 16]
     ensures { LowWords rows.now result }
 {
     let mut out = [0u8; 16];
-    let mut r = 0;
-    while r < 8 {
-        let mut c = 0;
-        while c < 16 {
+    for r in 0..8 {
+        for c in 0..16 {
             out[c] = 2 * out[c] + rows[r * 16 + c];
-            c += 1;
         }
-        r += 1;
     }
     out
 }

@@ -4,9 +4,6 @@ use Rattle.two_values.proofs.LoserLaws.{drops-loser}
 use Rattle.two_values.proofs.domination.against.Goals as goal
 use Rattle.two_values.proofs.domination.against.Goals.{then-at-lt8, else-at-lt8}
 
-pub overflow_add-t : goal.overflow_add-t
-overflow_add-t c = omega (arith, c.requires.0.tables.rows_fit)
-
 pub loop-t-init : goal.loop-t-init
 loop-t-init c = (omega arith, drops-none _ _ _ _ _ _ c.requires.1)
 

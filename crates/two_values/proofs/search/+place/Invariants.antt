@@ -1,4 +1,4 @@
--- `place` meets its contract. The loop's invariant: what holds before a turn (`Turn`). The measure is what is left of m; that of the calls is the number of rows that are not placed.
+-- `place` meets its contract. The loop's invariant: what holds before a turn (`Turn`).
 use mathlib.Core.Path.{◌≡◌}
 use Prim.Native.Nat.{◌-◌, ◌≤◌}
 use lib.ListN.{length}
@@ -11,6 +11,3 @@ decreases-place l = l.m - l.k
 abbrev pub invariant-loop-t : goal.invariant-loop-t
 invariant-loop-t l =
     (l.t ≤ l.m) × (length l.covered ≡ 8) × Turn l.m l.n l.grid l.low l.columns l.table l.k l.rows l.after l.fresh l.keys l.least l.dropped l.initial.now l.t l.new l.now l.covered
-
-abbrev pub decreases-loop-t : goal.decreases-loop-t
-decreases-loop-t l = l.m - l.t

@@ -1,11 +1,7 @@
--- `common` meets its contract. The loop's invariant: the two orders begin with i rows in common. The measure is what is left of count.
-use Prim.Native.Nat.{◌-◌}
+-- `common` meets its contract. The loop's invariant: the two orders begin with i rows in common.
 use Rattle.permutations.specs.Rows.{row_numbers}
 use Rattle.two_values.proofs.SearchSteps.{CommonUpTo}
 use Rattle.two_values.proofs.search.common.Given as goal
 
 abbrev pub invariant-loop-i : goal.invariant-loop-i
 invariant-loop-i l = CommonUpTo (row_numbers l.a) (row_numbers l.b) l.count l.i
-
-abbrev pub decreases-loop-i : goal.decreases-loop-i
-decreases-loop-i l = l.count - l.i

@@ -1,11 +1,7 @@
--- `fixes` meets its contract. The loop's invariant: the symmetry moves none of the first i rows. The measure is what is left of k.
-use Prim.Native.Nat.{◌-◌}
+-- `fixes` meets its contract. The loop's invariant: the symmetry moves none of the first i rows.
 use Rattle.permutations.specs.Rows.{row_numbers}
 use Rattle.two_values.proofs.SymmetryLaws.{FixesUpTo}
 use Rattle.two_values.proofs.symmetries.fixes.Given as goal
 
 abbrev pub invariant-loop-i : goal.invariant-loop-i
 invariant-loop-i l = FixesUpTo l.symmetries l.s (row_numbers l.rows) l.i
-
-abbrev pub decreases-loop-i : goal.decreases-loop-i
-decreases-loop-i l = l.k - l.i

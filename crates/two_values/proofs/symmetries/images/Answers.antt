@@ -1,20 +1,18 @@
 use native.Mathlib.Omega.{arith}
 use Rattle.two_values.proofs.SymmetryLaws.{reached-none, reached-next}
 use Rattle.two_values.proofs.symmetries.images.Goals as goal
-use Rattle.two_values.proofs.symmetries.images.Goals.{then-image-lt8, else-image-lt8}
+use Rattle.two_values.proofs.symmetries.images.Goals.{then-out-r-ne0+then-image-lt8, then-out-r-ne0+else-image-lt8, else-out-r-ne0}
 
 pub loop-r-init : goal.loop-r-init
 loop-r-init c = reached-none _ _ _ _ (omega arith)
 
-pub loop-r-preserved-then-out-r-eq0 : goal.loop-r-preserved-then-out-r-eq0
-loop-r-preserved-then-out-r-eq0 c = c.loop-r.invariant
-
 pub loop-r-preserved : goal.loop-r-preserved
 loop-r-preserved c =
     let l = c.loop-r in
-    elim c.if-image-lt8.branch [
-      | then-image-lt8 w ↦ rw w.out-is (reached-next _ _ _ _ _ l.r _ (omega arith) c.if-out-r-eq0.false c.index-image.ensures l.invariant)
-      | else-image-lt8 w ↦ rw w.out-is l.invariant
+    elim c.if-out-r-ne0.branch [
+      | then-out-r-ne0+then-image-lt8 w ↦ rw w.out-is (reached-next _ _ _ _ _ l.r _ (omega arith) w.if-out-r-ne0.true w.index-image.ensures l.invariant)
+      | then-out-r-ne0+else-image-lt8 w ↦ rw w.out-is l.invariant
+      | else-out-r-ne0 w ↦ rw w.out-is l.invariant
     ]
 
 pub returns : goal.returns

@@ -1,11 +1,7 @@
--- `with_symmetry` meets its contract. The loop's invariant: the images of the first i rows are written, and nothing before them is changed. The measure is what is left of m.
-use Prim.Native.Nat.{◌-◌}
+-- `with_symmetry` meets its contract. The loop's invariant: the images of the first i rows are written, and nothing before them is changed.
 use Rattle.permutations.specs.Rows.{row_numbers}
 use Rattle.two_values.proofs.SymmetryLaws.{Carrying}
 use Rattle.two_values.proofs.symmetries.with_symmetry.Given as goal
 
 abbrev pub invariant-loop-i : goal.invariant-loop-i
 invariant-loop-i l = Carrying (row_numbers l.first) (row_numbers l.second) l.initial.out l.kept l.i l.out
-
-abbrev pub decreases-loop-i : goal.decreases-loop-i
-decreases-loop-i l = l.m - l.i

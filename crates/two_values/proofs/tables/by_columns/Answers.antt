@@ -1,51 +1,33 @@
-use mathlib.Core.Path.{refl, sym, ap, ◌∙◌}
+use mathlib.Core.Path.{refl}
 use mathlib.Core.Bool.{not}
-use Prim.Native.Nat.{ℕ}
-use native.Mathlib.Nat.{zero-mul, suc-mul}
-use native.Mathlib.Numerals.{add-one}
 use native.Mathlib.Omega.{arith}
 use lib.ListN.{get_or}
 use lib.Dec.{eqb}
-use Rattle.two_values.specs.TwoValues.{bit}
 use Rattle.two_values.proofs.TableLaws.{column_place, column_apart, column-inside, table_none, table-cell, table-row, bit_byte, byte-most, cell-inside, cell_bit, columns-table}
 use Rattle.two_values.proofs.tables.by_columns.Goals as goal
 
 pub loop-i-init : goal.loop-i-init
-loop-i-init c = (sym (zero-mul c.args.n), omega arith, table_none column_place (cell_bit c.args.n c.args.grid.now c.args.low) column_apart column-inside 0 _ _ (omega arith) refl)
+loop-i-init c = table_none column_place (cell_bit c.args.n c.args.grid.now c.args.low) column_apart column-inside 0 _ _ (omega arith) refl
 
 pub loop-j-init : goal.loop-j-init
-loop-j-init c = (omega arith, omega arith, c.loop-i.invariant.2)
+loop-j-init c = c.loop-i.invariant
 
-pub bounds-grid-at : goal.bounds-grid-at
-bounds-grid-at c =
+pub bounds-grid-i : goal.bounds-grid-i
+bounds-grid-i c =
     let i = c.loop-i.i in
     let l = c.loop-j in
-    cell-inside c.args.m c.args.n i l.j l.at c.args.grid.now c.requires.2 l.invariant.0 (omega arith) (omega arith)
-
-pub overflow_cast-out : goal.overflow_cast-out
-overflow_cast-out c = tt
-
-pub overflow_add-at : goal.overflow_add-at
-overflow_add-at c =
-    let i = c.loop-i.i in
-    let l = c.loop-j in
-    omega (arith, cell-inside c.args.m c.args.n i l.j l.at c.args.grid.now c.requires.2 l.invariant.0 (omega arith) (omega arith))
+    cell-inside c.args.m c.args.n i l.j _ c.args.grid.now c.requires.2 refl (omega arith) (omega arith)
 
 pub loop-j-preserved : goal.loop-j-preserved
 loop-j-preserved c =
     let i = c.loop-i.i in
-    let l = c.loop-j in (
-      omega arith,
-      omega arith,
-      table-cell _ _ column_apart column-inside l.invariant.2 _ (omega arith) (omega arith) (omega arith) (byte-most (not (eqb (get_or c.args.grid.now l.at 0) c.args.low))) (bit_byte _ _ ∙ ap (λ (z : ℕ). bit c.args.low (get_or c.args.grid.now z 0)) l.invariant.0),
-    )
+    let l = c.loop-j in
+    table-cell _ _ column_apart column-inside l.invariant _ (omega arith) (omega arith) (omega arith) (byte-most (not (eqb (get_or c.args.grid.now _ 0) c.args.low))) (bit_byte _ _)
 
 pub loop-i-preserved : goal.loop-i-preserved
 loop-i-preserved c =
     let l = c.loop-j in
-    let i = c.loop-i.i in
-    let n = c.args.n in
-    (rw (add-one i, suc-mul i n) (omega arith), omega arith, table-row _ _ column_apart column-inside l.invariant.2 (omega arith))
+    table-row _ _ column_apart column-inside l.invariant (omega arith)
 
 pub returns : goal.returns
-returns c = columns-table _ _ _ _ c.loop-i.i _ (omega arith) (omega arith) c.loop-i.invariant.2
+returns c = columns-table _ _ _ _ c.loop-i.i _ (omega arith) (omega arith) c.loop-i.invariant

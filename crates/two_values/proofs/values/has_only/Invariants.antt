@@ -1,11 +1,6 @@
--- `has_only` meets its contract. The loop's invariant: where `either` is true, the cells before `i` are one of the two values. The measure is what is left of the length.
-use Prim.Native.Nat.{◌-◌, ◌≤◌}
-use lib.ListN.{length}
+-- `has_only` meets its contract. The loop's invariant: where `either` is true, the cells before `i` are one of the two values.
 use Rattle.two_values.proofs.ValueLaws.{OnlyTo}
 use Rattle.two_values.proofs.values.has_only.Given as goal
 
-abbrev pub invariant-loop-i : goal.invariant-loop-i
-invariant-loop-i l = (l.i ≤ length l.grid) × OnlyTo l.grid l.low l.high l.i l.either'
-
-abbrev pub decreases-loop-i : goal.decreases-loop-i
-decreases-loop-i l = length l.grid - l.i
+abbrev pub invariant-loop-cell : goal.invariant-loop-cell
+invariant-loop-cell l = OnlyTo l.grid l.low l.high l.cell-index l.either'

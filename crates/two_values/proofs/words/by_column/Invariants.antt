@@ -1,5 +1,5 @@
--- `by_column` meets its contract. The loops' invariant: words of r digits, and of a digit more before c. The measures are what is left of the rows, and of the columns.
-use Prim.Native.Nat.{◌+◌, ◌-◌, ◌*◌, ◌≤◌}
+-- `by_column` meets its contract. The loops' invariant: words of r digits, and of a digit more before c.
+use Prim.Native.Nat.{◌+◌, ◌*◌, ◌≤◌}
 use lib.ListN.{get_or}
 use Rattle.two_values.proofs.WordLaws.{WordedTo}
 use Rattle.two_values.proofs.words.by_column.Given as goal
@@ -7,11 +7,5 @@ use Rattle.two_values.proofs.words.by_column.Given as goal
 abbrev pub invariant-loop-c : goal.invariant-loop-c
 invariant-loop-c l = (l.c ≤ 16) × WordedTo 16 (λ e t. get_or l.rows (e * 16 + t) 0) l.r l.c l.out
 
-abbrev pub decreases-loop-c : goal.decreases-loop-c
-decreases-loop-c l = 16 - l.c
-
 abbrev pub invariant-loop-r : goal.invariant-loop-r
 invariant-loop-r l = (l.r ≤ 8) × WordedTo 16 (λ e t. get_or l.rows (e * 16 + t) 0) l.r 0 l.out
-
-abbrev pub decreases-loop-r : goal.decreases-loop-r
-decreases-loop-r l = 8 - l.r
