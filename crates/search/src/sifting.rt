@@ -24,11 +24,9 @@ fn counted(words: &[u64; 16], columns: ColumnList, s: usize, e: usize, v: u64) -
     ensures { (i : ℕ) → i < 8 → lane i result ≡ tally v words.now columns.0 i s (e - s) }
 {
     let mut count = 0u64;
-    let mut u = s;
-    while u < e {
+    for u in s..e {
         let column = columns::column_at(columns, u);
         count += at_most(words[column.0 as usize], v);
-        u += 1;
     }
     count
 }

@@ -18,10 +18,8 @@ fn by_whole_rows(grid: &[u8], m: usize) -> [u8; 128]
     ensures { ByRows m 16 grid.now result }
 {
     let mut out = [0u8; 128];
-    let mut at = 0;
-    while at < grid.len() {
+    for at in 0..grid.len() {
         out[at] = level(grid[at]);
-        at += 1;
     }
     out
 }
@@ -36,15 +34,11 @@ pub fn by_rows(grid: &[u8], m: usize, n: usize) -> [u8; 128]
     }
     let mut out = [0u8; 128];
     let mut at = 0;
-    let mut i = 0;
-    while i < m {
-        let mut j = 0;
-        while j < n {
+    for i in 0..m {
+        for j in 0..n {
             out[i * 16 + j] = level(grid[at]);
             at += 1;
-            j += 1;
         }
-        i += 1;
     }
     out
 }
@@ -58,10 +52,8 @@ pub fn by_columns(levels: &[u8; 128]) -> [u64; 16]
     let mut r = 8;
     while 0 < r {
         r -= 1;
-        let mut c = 0;
-        while c < 16 {
+        for c in 0..16 {
             out[c] = out[c] << 8 | levels[r * 16 + c] as u64;
-            c += 1;
         }
     }
     out
@@ -74,14 +66,10 @@ pub fn by_bits(grid: &[u8], levels: &[u8; 128], m: usize, n: usize, low: u8) -> 
 {
     let lowest = level(low);
     let mut out = [0u16; 128];
-    let mut c = 0;
-    while c < n {
-        let mut r = 0;
-        while r < 8 {
+    for c in 0..n {
+        for r in 0..8 {
             out[c * 8 + r] = (levels[r * 16 + c] != lowest) as u16;
-            r += 1;
         }
-        c += 1;
     }
     out
 }

@@ -6,6 +6,3 @@ use Rattle.search.proofs.found.common.Given as goal
 
 abbrev pub invariant-loop-i : goal.invariant-loop-i
 invariant-loop-i l = CommonUpTo (rows_of l.a) (rows_of l.b) l.count l.i
-
-abbrev pub decreases-loop-i : goal.decreases-loop-i
-decreases-loop-i l = l.count - l.i

@@ -5,6 +5,3 @@ use Rattle.search.proofs.found.keyed.Given as goal
 
 abbrev pub invariant-loop-i : goal.invariant-loop-i
 invariant-loop-i l = KeyedUpTo l.n l.grid l.low l.initial.out l.i l.out
-
-abbrev pub decreases-loop-i : goal.decreases-loop-i
-decreases-loop-i l = l.m - l.i

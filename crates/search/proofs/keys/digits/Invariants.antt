@@ -6,6 +6,3 @@ use Rattle.search.proofs.keys.digits.Given as goal
 
 abbrev pub invariant-loop-j : goal.invariant-loop-j
 invariant-loop-j l = (l.j ≤ l.n) × (l.number ≡ number l.j (λ i. get_or l.levels (l.start + column_at l.columns.0 i) 0))
-
-abbrev pub decreases-loop-j : goal.decreases-loop-j
-decreases-loop-j l = l.n - l.j

@@ -6,6 +6,3 @@ use Rattle.search.proofs.keys.lowest.Given as goal
 
 abbrev pub invariant-loop-t : goal.invariant-loop-t
 invariant-loop-t l = (l.t ≤ l.m) × (l.k < l.t) × Lowest l.t l.k (map row_number l.rows) l.keys l.least
-
-abbrev pub decreases-loop-t : goal.decreases-loop-t
-decreases-loop-t l = l.m - l.t

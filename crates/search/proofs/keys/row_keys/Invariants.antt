@@ -6,11 +6,5 @@ use Rattle.search.proofs.keys.row_keys.Given as goal
 abbrev pub invariant-loop-r : goal.invariant-loop-r
 invariant-loop-r l = (l.r ≤ 8) × SummedTo 8 (λ e. 0) (shifted l.bits l.after) l.c l.r l.out
 
-abbrev pub decreases-loop-r : goal.decreases-loop-r
-decreases-loop-r l = 8 - l.r
-
 abbrev pub invariant-loop-c : goal.invariant-loop-c
 invariant-loop-c l = (l.c ≤ 16) × SummedTo 8 (λ e. 0) (shifted l.bits l.after) l.c 0 l.out
-
-abbrev pub decreases-loop-c : goal.decreases-loop-c
-decreases-loop-c l = 16 - l.c

@@ -7,6 +7,3 @@ use Rattle.search.proofs.orders.columns_of.Given as goal
 
 abbrev pub invariant-loop-j : goal.invariant-loop-j
 invariant-loop-j l = (l.j ≤ 16) × (length (map column_number l.at) ≡ 16) × FilledTo (column_at l.list.0) l.j (map column_number l.at)
-
-abbrev pub decreases-loop-j : goal.decreases-loop-j
-decreases-loop-j l = 16 - l.j

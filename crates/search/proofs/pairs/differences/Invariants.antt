@@ -5,6 +5,3 @@ use Rattle.search.proofs.pairs.differences.Given as goal
 
 abbrev pub invariant-loop-c : goal.invariant-loop-c
 invariant-loop-c l = (l.c ≤ 16) × (l.count ≡ counted l.levels l.p l.q l.c)
-
-abbrev pub decreases-loop-c : goal.decreases-loop-c
-decreases-loop-c l = 16 - l.c

@@ -11,6 +11,3 @@ invariant-loop-t l =
     (l.t ≤ l.m)
     × Turn l.m l.n l.grid l.two l.low l.levels l.words l.bits l.node l.next l.rows.0 l.initial.now.best l.t l.fresh l.now l.covered.0
     × Begun l.m l.n l.grid l.two l.low l.levels l.words l.bits l.node l.next l.fn.found l.initial.fresh l.initial.now
-
-abbrev pub decreases-loop-t : goal.decreases-loop-t
-decreases-loop-t l = l.m - l.t

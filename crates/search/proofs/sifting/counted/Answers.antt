@@ -32,9 +32,6 @@ overflow_add-count c =
     let l = c.loop-u in
     record { fits = omega (arith, l.invariant.1, c.at_most-count.ensures.small, c.requires.0) }
 
-pub overflow_add-u : goal.overflow_add-u
-overflow_add-u c = record { fits = omega (arith, c.requires.0) }
-
 pub loop-u-preserved : goal.loop-u-preserved
 loop-u-preserved c =
     let l = c.loop-u in

@@ -6,6 +6,3 @@ use Rattle.search.proofs.symmetries.fixes.Given as goal
 
 abbrev pub invariant-loop-i : goal.invariant-loop-i
 invariant-loop-i l = FixesUpTo (rows_of l.symmetries) l.s (rows_of l.rows) l.i
-
-abbrev pub decreases-loop-i : goal.decreases-loop-i
-decreases-loop-i l = l.k - l.i

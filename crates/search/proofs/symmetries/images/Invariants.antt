@@ -6,6 +6,3 @@ use Rattle.search.proofs.symmetries.images.Given as goal
 
 abbrev pub invariant-loop-r : goal.invariant-loop-r
 invariant-loop-r l = Images l.m (rows_of l.symmetries) l.s l.initial.out.0 l.out.0
-
-abbrev pub decreases-loop-r : goal.decreases-loop-r
-decreases-loop-r l = l.m - l.r

@@ -5,6 +5,3 @@ use Rattle.search.proofs.symmetries.spread.Given as goal
 
 abbrev pub invariant-loop-s : goal.invariant-loop-s
 invariant-loop-s l = Spreads l.m l.n l.grid l.k (rows_of l.rows) l.initial.out.0 l.out.0
-
-abbrev pub decreases-loop-s : goal.decreases-loop-s
-decreases-loop-s l = l.kept - l.s

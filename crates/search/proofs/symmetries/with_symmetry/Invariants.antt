@@ -6,6 +6,3 @@ use Rattle.search.proofs.symmetries.with_symmetry.Given as goal
 
 abbrev pub invariant-loop-i : goal.invariant-loop-i
 invariant-loop-i l = Carrying (rows_of l.first) (rows_of l.second) (rows_of l.initial.out) l.kept l.i (rows_of l.out)
-
-abbrev pub decreases-loop-i : goal.decreases-loop-i
-decreases-loop-i l = l.m - l.i

@@ -7,11 +7,5 @@ use Rattle.search.proofs.tables.by_bits.Given as goal
 abbrev pub invariant-loop-r : goal.invariant-loop-r
 invariant-loop-r l = (l.r ≤ 8) × RunTo (bit_at l.levels l.lowest) (l.c * 8 + l.r) l.out
 
-abbrev pub decreases-loop-r : goal.decreases-loop-r
-decreases-loop-r l = 8 - l.r
-
 abbrev pub invariant-loop-c : goal.invariant-loop-c
 invariant-loop-c l = (l.c ≤ l.n) × RunTo (bit_at l.levels l.lowest) (l.c * 8) l.out
-
-abbrev pub decreases-loop-c : goal.decreases-loop-c
-decreases-loop-c l = l.n - l.c

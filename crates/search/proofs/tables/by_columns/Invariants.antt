@@ -8,9 +8,6 @@ use Rattle.search.proofs.tables.by_columns.Given as goal
 abbrev pub invariant-loop-c : goal.invariant-loop-c
 invariant-loop-c l = (l.r < 8) × (l.c ≤ 16) × TurnedTo 16 (word_to l.levels) (7 - l.r) l.c l.out
 
-abbrev pub decreases-loop-c : goal.decreases-loop-c
-decreases-loop-c l = 16 - l.c
-
 abbrev pub invariant-loop-r : goal.invariant-loop-r
 invariant-loop-r l = (l.r ≤ 8) × TurnedTo 16 (word_to l.levels) (8 - l.r) 0 l.out
 

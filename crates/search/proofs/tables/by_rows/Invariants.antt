@@ -7,11 +7,5 @@ use Rattle.search.proofs.tables.by_rows.Given as goal
 abbrev pub invariant-loop-j : goal.invariant-loop-j
 invariant-loop-j l = (l.at ≡ l.i * l.n + l.j) × (l.j ≤ l.n) × RunTo (level_at l.n l.grid) (l.i * 16 + l.j) l.out
 
-abbrev pub decreases-loop-j : goal.decreases-loop-j
-decreases-loop-j l = l.n - l.j
-
 abbrev pub invariant-loop-i : goal.invariant-loop-i
 invariant-loop-i l = (l.at ≡ l.i * l.n) × (l.i ≤ l.m) × RunTo (level_at l.n l.grid) (l.i * 16) l.out
-
-abbrev pub decreases-loop-i : goal.decreases-loop-i
-decreases-loop-i l = l.m - l.i

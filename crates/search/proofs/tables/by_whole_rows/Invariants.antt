@@ -5,6 +5,3 @@ use Rattle.search.proofs.tables.by_whole_rows.Given as goal
 
 abbrev pub invariant-loop-at : goal.invariant-loop-at
 invariant-loop-at l = (l.at ≤ length l.grid) × RunTo (level_at 16 l.grid) l.at l.out
-
-abbrev pub decreases-loop-at : goal.decreases-loop-at
-decreases-loop-at l = length l.grid - l.at

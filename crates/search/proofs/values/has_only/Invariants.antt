@@ -5,6 +5,3 @@ use Rattle.search.proofs.values.has_only.Given as goal
 
 abbrev pub invariant-loop-i : goal.invariant-loop-i
 invariant-loop-i l = (l.i ≤ length l.grid) × OnlyTo l.grid l.low l.high l.i l.either'
-
-abbrev pub decreases-loop-i : goal.decreases-loop-i
-decreases-loop-i l = length l.grid - l.i

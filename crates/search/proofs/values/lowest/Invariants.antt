@@ -5,6 +5,3 @@ use Rattle.search.proofs.values.lowest.Given as goal
 
 abbrev pub invariant-loop-i : goal.invariant-loop-i
 invariant-loop-i l = (l.i ≤ length l.grid) × LowestTo l.grid l.i l.low
-
-abbrev pub decreases-loop-i : goal.decreases-loop-i
-decreases-loop-i l = length l.grid - l.i
