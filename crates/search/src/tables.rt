@@ -49,9 +49,7 @@ pub fn by_columns(levels: &[u8; 128]) -> [u64; 16]
     ensures { ByColumns levels.now result }
 {
     let mut out = [0u64; 16];
-    let mut r = 8;
-    while 0 < r {
-        r -= 1;
+    for r in (0..8).rev() {
         for c in 0..16 {
             out[c] = out[c] << 8 | levels[r * 16 + c] as u64;
         }
