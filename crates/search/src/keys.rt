@@ -46,14 +46,9 @@ pub fn lowest(keys: &[u16; 8], rows: [RowNumber; 8], m: usize, k: usize) -> u16
     requires { (k < m) × (m ≤ 8) × RowsWithin (map row_number rows) }
     ensures { Lowest m k (map row_number rows) keys.now result }
 {
-    let first = rows[k];
-    let mut least = keys[first.0 as usize];
+    let mut least = keys[rows[k].0 as usize];
     for t in k + 1..m {
-        let row = rows[t];
-        let key = keys[row.0 as usize];
-        if key < least {
-            least = key;
-        }
+        least = least.min(keys[rows[t].0 as usize]);
     }
     least
 }

@@ -1,4 +1,4 @@
--- `common` meets its contract. The loop's invariant: the two orders begin with i rows in common. The measure is what is left of count.
+-- `common` meets its contract. The loop's invariant: the two orders begin with i rows in common.
 use Rattle.std.proofs.Common.{◌-◌}
 use Rattle.search.specs.Search.{rows_of}
 use Rattle.search.proofs.FoundLaws.{CommonUpTo}

@@ -1,4 +1,4 @@
--- `keyed` meets its contract. The loop's invariant: the keys of the first i rows are written, and nothing else is changed. The measure is what is left of m.
+-- `keyed` meets its contract. The loop's invariant: the keys of the first i rows are written, and nothing else is changed.
 use Rattle.std.proofs.Common.{◌-◌}
 use Rattle.search.proofs.FoundLaws.{KeyedUpTo}
 use Rattle.search.proofs.found.keyed.Given as goal

@@ -1,4 +1,4 @@
--- `digits` meets its contract. The loop's invariant: the number of the digits before j. The measure is what is left of n.
+-- `digits` meets its contract. The loop's invariant: the number of the digits before j.
 use Rattle.std.proofs.Common.{◌≡◌, ◌+◌, ◌-◌, ◌≤◌, get_or}
 use Rattle.branches.specs.Keys.{number}
 use Rattle.search.specs.ColumnLists.{column_at}

@@ -1,4 +1,4 @@
--- `with_key` meets its contract. The loop's invariant: the set has the rows from position k up to t that have the key. The measure is what is left of m.
+-- `with_key` meets its contract. The loop's invariant: the set has the rows from position k up to t that have the key.
 use Rattle.std.proofs.Common.{◌+◌, ◌-◌, ◌≤◌, map}
 use Rattle.permutations.specs.Rows.{row_number}
 use Rattle.search.specs.Keys.{WithKey}

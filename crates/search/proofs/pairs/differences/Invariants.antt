@@ -1,4 +1,4 @@
--- `differences` meets its contract. The loop's invariant: in how many of the first c columns the rows differ. The measure is what is left of 16.
+-- `differences` meets its contract. The loop's invariant: in how many of the first c columns the rows differ.
 use Rattle.std.proofs.Common.{◌≡◌, ◌-◌, ◌≤◌}
 use Rattle.search.proofs.DifferenceLaws.{counted}
 use Rattle.search.proofs.pairs.differences.Given as goal

@@ -1,4 +1,4 @@
--- `mask` meets its contract, which says nothing: no sum and no shift goes too far. The measure is what is left of 16.
+-- `mask` meets its contract, which says nothing: no sum and no shift goes too far.
 use Rattle.std.proofs.Common.{◌-◌, ◌<◌, ◌≤◌}
 use Rattle.search.proofs.pairs.mask.Given as goal
 

@@ -1,4 +1,4 @@
--- `place` meets its contract. The loop's invariant: what holds before a turn (`Turn`), and what held before the loop (`Begun`). The measure is what is left of m; that of the calls is the number of rows that are not placed.
+-- `place` meets its contract. The loop's invariant: what holds before a turn (`Turn`), and what held before the loop (`Begun`).
 use Rattle.std.proofs.Common.{◌-◌, ◌≤◌}
 use Rattle.search.proofs.TurnLaws.{Begun, Turn}
 use Rattle.search.proofs.placing.+place.Given as goal

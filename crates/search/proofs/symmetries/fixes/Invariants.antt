@@ -1,4 +1,4 @@
--- `fixes` meets its contract. The loop's invariant: the symmetry moves none of the first i rows. The measure is what is left of k.
+-- `fixes` meets its contract. The loop's invariant: the symmetry moves none of the first i rows.
 use Rattle.std.proofs.Common.{◌-◌}
 use Rattle.search.specs.Search.{rows_of}
 use Rattle.search.proofs.SymmetryLaws.{FixesUpTo}

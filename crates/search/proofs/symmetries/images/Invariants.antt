@@ -1,4 +1,4 @@
--- `images` meets its contract. The loop's invariant: only rows that are reached are of the set. The measure is what is left of m.
+-- `images` meets its contract. The loop's invariant: only rows that are reached are of the set.
 use Rattle.std.proofs.Common.{◌-◌}
 use Rattle.search.specs.Search.{rows_of}
 use Rattle.search.specs.Symmetries.{Images}

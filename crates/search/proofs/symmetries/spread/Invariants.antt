@@ -1,4 +1,4 @@
--- `spread` meets its contract. The loop's invariant: what covers the rows of the set at first covers those of the set now. The measure is what is left of kept.
+-- `spread` meets its contract. The loop's invariant: what covers the rows of the set at first covers those of the set now.
 use Rattle.std.proofs.Common.{◌-◌}
 use Rattle.search.specs.Search.{rows_of, Spreads}
 use Rattle.search.proofs.symmetries.spread.Given as goal

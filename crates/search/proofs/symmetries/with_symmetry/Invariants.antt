@@ -1,4 +1,4 @@
--- `with_symmetry` meets its contract. The loop's invariant: the images of the first i rows are written, and nothing before them is changed. The measure is what is left of m.
+-- `with_symmetry` meets its contract. The loop's invariant: the images of the first i rows are written, and nothing before them is changed.
 use Rattle.std.proofs.Common.{◌-◌}
 use Rattle.search.specs.Search.{rows_of}
 use Rattle.search.proofs.SymmetryLaws.{Carrying}

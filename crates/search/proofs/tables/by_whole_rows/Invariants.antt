@@ -1,4 +1,4 @@
--- `by_whole_rows` meets its contract. The loop's invariant: the levels before `at` are in the table. The measure is what is left of the length.
+-- `by_whole_rows` meets its contract. The loop's invariant: the levels before `at` are in the table.
 use Rattle.std.proofs.Common.{◌-◌, ◌≤◌, length}
 use Rattle.search.proofs.TableLaws.{RunTo, level_at}
 use Rattle.search.proofs.tables.by_whole_rows.Given as goal
