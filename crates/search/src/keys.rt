@@ -55,7 +55,7 @@ pub fn lowest(keys: &[u16; 8], rows: [RowNumber; 8], m: usize, k: usize) -> u16
 
 // The rows from position k on that have a key.
 pub fn with_key(keys: &[u16; 8], rows: [RowNumber; 8], m: usize, k: usize, key: u16) -> RowSet
-    requires { (m ≤ 8) × RowsWithin (map row_number rows) }
+    requires { (k ≤ m) × (m ≤ 8) × RowsWithin (map row_number rows) }
     ensures { WithKey m k (map row_number rows) keys.now key result.0 }
 {
     let mut out = 0u64;

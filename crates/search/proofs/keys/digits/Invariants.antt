@@ -5,4 +5,4 @@ use Rattle.search.specs.ColumnLists.{column_at}
 use Rattle.search.proofs.keys.digits.Given as goal
 
 abbrev pub invariant-loop-j : goal.invariant-loop-j
-invariant-loop-j l = (l.j ≤ l.n) × (l.number ≡ number l.j (λ i. get_or l.levels (l.start + column_at l.columns.0 i) 0))
+invariant-loop-j l = l.number ≡ number l.j (λ i. get_or l.levels (l.start + column_at l.columns.0 i) 0)

@@ -1,4 +1,4 @@
--- `columns_of` meets its contract. The loop's invariant: the columns before place j are those of the list. The measure is what is left of 16.
+-- `columns_of` meets its contract. The loop's invariant: the columns before place j are those of the list.
 use Rattle.std.proofs.Common.{◌≡◌, map, length}
 use Rattle.permutations.specs.Columns.{column_number}
 use Rattle.search.specs.ColumnLists.{column_at}

@@ -4,4 +4,4 @@ use Rattle.search.proofs.DifferenceLaws.{counted}
 use Rattle.search.proofs.pairs.differences.Given as goal
 
 abbrev pub invariant-loop-c : goal.invariant-loop-c
-invariant-loop-c l = (l.c ≤ 16) × (l.count ≡ counted l.levels l.p l.q l.c)
+invariant-loop-c l = l.count ≡ counted l.levels l.p l.q l.c

@@ -3,4 +3,4 @@ use Rattle.std.proofs.Common.{◌-◌, ◌<◌, ◌≤◌}
 use Rattle.search.proofs.pairs.mask.Given as goal
 
 abbrev pub invariant-loop-c : goal.invariant-loop-c
-invariant-loop-c l = (l.c ≤ 16) × (l.out < 65536)
+invariant-loop-c l = l.out < 65536

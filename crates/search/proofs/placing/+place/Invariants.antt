@@ -8,6 +8,5 @@ decreases-place l = l.m - l.node.placed
 
 abbrev pub invariant-loop-t : goal.invariant-loop-t
 invariant-loop-t l =
-    (l.t ≤ l.m)
-    × Turn l.m l.n l.grid l.two l.low l.levels l.words l.bits l.node l.next l.rows.0 l.initial.now.best l.t l.fresh l.now l.covered.0
+    Turn l.m l.n l.grid l.two l.low l.levels l.words l.bits l.node l.next l.rows.0 l.initial.now.best l.t l.fresh l.now l.covered.0
     × Begun l.m l.n l.grid l.two l.low l.levels l.words l.bits l.node l.next l.fn.found l.initial.fresh l.initial.now

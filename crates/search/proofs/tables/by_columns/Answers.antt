@@ -19,14 +19,10 @@ loop-r-preserved c =
     let e : (7 - (r - 1)) + 1 ≡ 8 - (r - 1) = omega arith in
     rw e at (turned_turn l.invariant (λ x a b. absurd (omega arith)))
 
-pub overflow_cast-out : goal.overflow_cast-out
-overflow_cast-out c =
-    omega (arith, c.requires ((c.loop-r.r - 1) * 16 + c.loop-c.c))
-
 pub loop-c-preserved : goal.loop-c-preserved
 loop-c-preserved c =
     let l = c.loop-c in
-    turned-cell l.invariant _ (omega arith) (word_next c.args.levels.now c.requires _ _ _ _ (omega arith) (omega arith) (l.invariant.todo l.c (omega arith) (omega arith)))
+    rw c.from.ensures (turned-cell l.invariant _ (omega arith) (word_next c.args.levels.now c.requires _ _ _ _ (omega arith) (omega arith) (l.invariant.todo l.c (omega arith) (omega arith))))
 
 pub returns : goal.returns
 returns c =
