@@ -4,10 +4,10 @@
 --   column-most        ==  a column of a list is at most 15
 --   digit-next         ==  a number to base 16 with a digit more
 --   number-room        ==  a number of less than 16 digits has room for one more
---   lowest-one, lowest-lower, lowest-stays  ==  the least of some keys: of one, and with a key more that is less, or not
+--   lowest-one, lowest-next  ==  the least of some keys: of one, and with a key more
 --   with_none, with-next, with_all  ==  the rows that have a key: at first, with a row more, and at the end
-use Rattle.std.proofs.Common.{◌≡◌, ℕ, zero, suc, ◌+◌, ◌-◌, ◌*◌, ◌^◌, ◌<◌, ◌≤◌, eqb, ◌⊎◌, List, map, get_or, sym, ap, ◌∙◌, inl, inr, mul-suc, add-one, arith, pow_mono, pow-add, eq-eqb, eqb-true}
-use native.Mathlib.Decide.{ℕ_discrete}
+use Rattle.std.proofs.Common.{◌≡◌, ℕ, zero, suc, ◌+◌, ◌-◌, ◌*◌, ◌^◌, ◌<◌, ◌≤◌, eqb, ◌⊎◌, List, map, min, get_or, sym, ap, ◌∙◌, inl, inr, mul-suc, add-one, arith, pow_mono, pow-add, eq-eqb, eqb-true}
+use native.Mathlib.Decide.{ℕ_discrete, dec_lt}
 use lib.Bits.{bit_or}
 use Rattle.permutations.specs.Rows.{row_number}
 use Rattle.permutations.specs.declared.rows.RowNumber.{RowNumber}
@@ -66,11 +66,12 @@ module _ {t k : ℕ} {p keys : List ℕ} {least : ℕ} (l : Lowest t k p keys le
       go (yes g) = rw g (omega (arith, e))
       go (no ne) = omega (arith, l.no_more s ks (omega arith))
 
-  pub lowest-lower : k ≤ t → key < least → Lowest (t + 1) k p keys key
-  lowest-lower kt h = record { no_more = among key (omega arith) (omega arith); reached = (t, kt, omega arith, e) }
-
-  pub lowest-stays : least ≤ key → Lowest (t + 1) k p keys least
-  lowest-stays h = let r = l.reached in record { no_more = among least (omega arith) h; reached = (r.0, r.1, omega (arith, r.2), r.3) }
+  pub lowest-next : k ≤ t → (v : ℕ) → v ≡ min least key → Lowest (t + 1) k p keys v
+  lowest-next kt v m = record { no_more = among v (omega arith) (omega arith); reached = go (dec_lt key least) }
+    where
+      go : Dec (key < least) → (s : ℕ) × (k ≤ s) × (s < t + 1) × (get_or keys (get_or p s 0) 0 ≡ v)
+      go (yes lt) = (t, kt, omega arith, omega (arith, e))
+      go (no ge) = let r = l.reached in (r.0, r.1, omega (arith, r.2), omega (arith, r.3))
 
 -- ---- the rows that have a key
 

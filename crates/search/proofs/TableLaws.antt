@@ -3,7 +3,7 @@
 --   RunTo f p x        ==  x has 128 numbers, f i at each index i before p, and 0 from there on
 --   run_none, run-next, run-skip  ==  at first, with a number more, and past numbers that are 0
 --   level_at n g i      ==  what the table by rows has at index i
---   level-cell, level-past, row-past, level-whole  ==  for a cell, past column n, and for 16 columns
+--   level-cell, level-past, row-past  ==  for a cell, and past column n
 --   rows-table         ==  the table by rows at the end
 --   bit_at y v i        ==  what the table by bits has at index i
 --   bit-cell           ==  for a cell
@@ -107,12 +107,6 @@ module _ (n : ℕ) (g : List ℕ) where
     holds = λ r c rm cn. h.before (r * 16 + c) (omega arith) (omega arith) ∙ level-cell r c cn n16;
     past = λ r c r8 nc c16. run-zero h (r * 16 + c) (omega arith) (level-past r c nc c16);
   }
-
-pub level-whole : (g : List ℕ) (i : ℕ) → level (get_or g i 0) ≡ level_at 16 g i
-unfolding level_at
-level-whole g i =
-    ap (λ (z : ℕ). level (get_or g z 0)) (omega arith)
-    ∙ sym (inside-before (i % 16) 16 (level (cell 16 g (i / 16) (i % 16))) (omega arith))
 
 -- ---- by bits
 

@@ -64,10 +64,8 @@ fn keyed(grid: &[u8], levels: &[u8; 128], m: usize, n: usize, low: u8, found: Fo
     let columns = columns::listed(n, after);
     let best = found.best;
     let mut out = found;
-    let mut i = 0;
-    while i < m {
+    for i in 0..m {
         out.keys[i] = keys::digits(levels, n, best[i], columns);
-        i += 1;
     }
     out.ready = true;
     out
@@ -105,12 +103,10 @@ fn common(a: [RowNumber; 8], b: [RowNumber; 8], count: usize) -> u8
     requires { count ≤ 8 }
     ensures { CommonRows (rows_of a) (rows_of b) count result }
 {
-    let mut i = 0;
-    while i < count {
+    for i in 0..count {
         if a[i].0 != b[i].0 {
             return i as u8;
         }
-        i += 1;
     }
     count as u8
 }

@@ -19,11 +19,9 @@ pub fn digits(levels: &[u8; 128], n: usize, row: RowNumber, columns: ColumnList)
 {
     let start = row.0 as usize * 16;
     let mut number = 0u64;
-    let mut j = 0;
-    while j < n {
+    for j in 0..n {
         let column = columns::column_at(columns, j);
         number = 16 * number + levels[start + column.0 as usize] as u64;
-        j += 1;
     }
     number
 }
@@ -34,15 +32,11 @@ pub fn row_keys(bits: &[u16; 128], after: [u8; 16]) -> [u16; 8]
     ensures { RowKeys bits.now after result }
 {
     let mut out = [0u16; 8];
-    let mut c = 0;
-    while c < 16 {
+    for c in 0..16 {
         let power = after[c] as u16;
-        let mut r = 0;
-        while r < 8 {
+        for r in 0..8 {
             out[r] += bits[c * 8 + r] << power;
-            r += 1;
         }
-        c += 1;
     }
     out
 }
@@ -52,31 +46,22 @@ pub fn lowest(keys: &[u16; 8], rows: [RowNumber; 8], m: usize, k: usize) -> u16
     requires { (k < m) × (m ≤ 8) × RowsWithin (map row_number rows) }
     ensures { Lowest m k (map row_number rows) keys.now result }
 {
-    let first = rows[k];
-    let mut least = keys[first.0 as usize];
-    let mut t = k + 1;
-    while t < m {
-        let row = rows[t];
-        let key = keys[row.0 as usize];
-        if key < least {
-            least = key;
-        }
-        t += 1;
+    let mut least = keys[rows[k].0 as usize];
+    for t in k + 1..m {
+        least = least.min(keys[rows[t].0 as usize]);
     }
     least
 }
 
 // The rows from position k on that have a key.
 pub fn with_key(keys: &[u16; 8], rows: [RowNumber; 8], m: usize, k: usize, key: u16) -> RowSet
-    requires { (m ≤ 8) × RowsWithin (map row_number rows) }
+    requires { (k ≤ m) × (m ≤ 8) × RowsWithin (map row_number rows) }
     ensures { WithKey m k (map row_number rows) keys.now key result.0 }
 {
     let mut out = 0u64;
-    let mut t = k;
-    while t < m {
+    for t in k..m {
         let row = rows[t];
         out |= ((keys[row.0 as usize] == key) as u64) << (8 * row.0 as u64 + 7);
-        t += 1;
     }
     RowSet(out)
 }

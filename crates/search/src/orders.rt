@@ -63,10 +63,8 @@ fn columns_of(list: ColumnList, n: usize) -> ColumnPermutation
     ensures { ListsColumns (tabulate 0 16 (column_at list.0)) n result }
 {
     let mut at = [ColumnNumber(0); 16];
-    let mut j = 0;
-    while j < 16 {
-        at[j] = columns::column_at(list, j);
-        j += 1;
+    for (j, column) in at.iter_mut().enumerate() {
+        *column = columns::column_at(list, j);
     }
     ColumnPermutation { at, size: n }
 }

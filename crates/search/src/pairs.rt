@@ -41,10 +41,8 @@ pub fn differences(levels: &[u8; 128], a: RowNumber, b: RowNumber) -> u8
     let p = a.0 as usize * 16;
     let q = b.0 as usize * 16;
     let mut count = 0u8;
-    let mut c = 0;
-    while c < 16 {
+    for c in 0..16 {
         count += (levels[p + c] != levels[q + c]) as u8;
-        c += 1;
     }
     count
 }
@@ -56,10 +54,8 @@ pub fn mask(levels: &[u8; 128], a: RowNumber, b: RowNumber) -> u32
     let p = a.0 as usize * 16;
     let q = b.0 as usize * 16;
     let mut out = 0u16;
-    let mut c = 0;
-    while c < 16 {
+    for c in 0..16 {
         out |= ((levels[p + c] != levels[q + c]) as u16) << c as u16;
-        c += 1;
     }
     out as u32
 }

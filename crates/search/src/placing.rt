@@ -103,8 +103,7 @@ pub fn place(
         grid, levels, words, bits, m, n, two, low, node, next.rows, now.kept,
     );
     let mut covered = RowSet(0);
-    let mut t = k;
-    while t < m {
+    for t in k..m {
         let row = order[t];
         if is_followed(rows, covered, row) {
             let deeper = node::deeper(
@@ -122,7 +121,6 @@ pub fn place(
                 grid, m, n, k, order, symmetries, kept, covered, row,
             );
         }
-        t += 1;
     }
     now
 }

@@ -20,15 +20,13 @@ fn at_most(word: u64, v: u64) -> u64
 
 // In each byte: how many of the columns at places s to e have a level of at most v in this row.
 fn counted(words: &[u64; 16], columns: ColumnList, s: usize, e: usize, v: u64) -> u64
-    requires { (e ≤ 16) × (v ≤ 15) × LevelWords words.now }
+    requires { (s ≤ e) × (e ≤ 16) × (v ≤ 15) × LevelWords words.now }
     ensures { (i : ℕ) → i < 8 → lane i result ≡ tally v words.now columns.0 i s (e - s) }
 {
     let mut count = 0u64;
-    let mut u = s;
-    while u < e {
+    for u in s..e {
         let column = columns::column_at(columns, u);
         count += at_most(words[column.0 as usize], v);
-        u += 1;
     }
     count
 }

@@ -24,11 +24,9 @@ pub fn with_symmetry(
     ensures { Symmetries m n grid.now (rows_of result) (kept + 1) }
 {
     let mut out = symmetries;
-    let mut i = 0;
-    while i < m {
+    for i in 0..m {
         let from = first[i];
         out[kept * 8 + from.0 as usize] = second[i];
-        i += 1;
     }
     out
 }
@@ -38,13 +36,11 @@ fn fixes(symmetries: [RowNumber; 32], s: usize, rows: [RowNumber; 8], m: usize, 
     requires { (s < 4) × (m ≤ 8) × (k ≤ m) × IsPadded 8 m (rows_of rows) }
     ensures { Fixes (rows_of symmetries) s (rows_of rows) k result }
 {
-    let mut i = 0;
-    while i < k {
+    for i in 0..k {
         let row = rows[i];
         if symmetries[s * 8 + row.0 as usize].0 != row.0 {
             return false;
         }
-        i += 1;
     }
     true
 }
@@ -55,15 +51,13 @@ fn images(symmetries: [RowNumber; 32], s: usize, m: usize, covered: RowSet) -> R
     ensures { Images m (rows_of symmetries) s covered.0 result.0 }
 {
     let mut out = covered;
-    let mut r = 0;
-    while r < m {
+    for r in 0..m {
         let image = symmetries[s * 8 + r];
         if image.0 < 8 {
             if row_sets::has(out, RowNumber(r as u8)) {
                 out = row_sets::with(out, image);
             }
         }
-        r += 1;
     }
     out
 }
@@ -83,12 +77,10 @@ fn spread(
     ensures { Spreads m n grid.now k (rows_of rows) covered.0 result.0 }
 {
     let mut out = covered;
-    let mut s = 0;
-    while s < kept {
+    for s in 0..kept {
         if fixes(symmetries, s, rows, m, k) {
             out = images(symmetries, s, m, out);
         }
-        s += 1;
     }
     out
 }

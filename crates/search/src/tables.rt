@@ -12,39 +12,16 @@ fn level(value: u8) -> u8
     cells::rank(value) & 15
 }
 
-// The levels of a grid of 16 columns by rows.
-fn by_whole_rows(grid: &[u8], m: usize) -> [u8; 128]
-    requires { (m ≤ 8) × (length grid.now ≡ m * 16) }
-    ensures { ByRows m 16 grid.now result }
-{
-    let mut out = [0u8; 128];
-    let mut at = 0;
-    while at < grid.len() {
-        out[at] = level(grid[at]);
-        at += 1;
-    }
-    out
-}
-
 // The levels of a grid by rows.
 pub fn by_rows(grid: &[u8], m: usize, n: usize) -> [u8; 128]
     requires { (m ≤ 8) × (n ≤ 16) × (length grid.now ≡ m * n) }
     ensures { ByRows m n grid.now result }
 {
-    if n == 16 {
-        return by_whole_rows(grid, m);
-    }
-    let mut out = [0u8; 128];
-    let mut at = 0;
-    let mut i = 0;
-    while i < m {
-        let mut j = 0;
-        while j < n {
-            out[i * 16 + j] = level(grid[at]);
-            at += 1;
-            j += 1;
+    let mut out = [0; 128];
+    for i in 0..m {
+        for j in 0..n {
+            out[i * 16 + j] = level(grid[i * n + j]);
         }
-        i += 1;
     }
     out
 }
@@ -54,14 +31,10 @@ pub fn by_columns(levels: &[u8; 128]) -> [u64; 16]
     requires { (i : ℕ) → slice_index levels.now i ≤ 15 }
     ensures { ByColumns levels.now result }
 {
-    let mut out = [0u64; 16];
-    let mut r = 8;
-    while 0 < r {
-        r -= 1;
-        let mut c = 0;
-        while c < 16 {
-            out[c] = out[c] << 8 | levels[r * 16 + c] as u64;
-            c += 1;
+    let mut out = [0; 16];
+    for r in (0..8).rev() {
+        for c in 0..16 {
+            out[c] = out[c] << 8 | u64::from(levels[r * 16 + c]);
         }
     }
     out
@@ -73,15 +46,11 @@ pub fn by_bits(grid: &[u8], levels: &[u8; 128], m: usize, n: usize, low: u8) -> 
     ensures { ByBits m n grid.now low result }
 {
     let lowest = level(low);
-    let mut out = [0u16; 128];
-    let mut c = 0;
-    while c < n {
-        let mut r = 0;
-        while r < 8 {
-            out[c * 8 + r] = (levels[r * 16 + c] != lowest) as u16;
-            r += 1;
+    let mut out = [0; 128];
+    for c in 0..n {
+        for r in 0..8 {
+            out[c * 8 + r] = u16::from(levels[r * 16 + c] != lowest);
         }
-        c += 1;
     }
     out
 }

@@ -29,10 +29,8 @@ fn lowest(grid: &[u8]) -> u8
     ensures { (result ≤ 15) × ((i : ℕ) → i < length grid.now → rank result ≤ rank (slice_index grid.now i)) }
 {
     let mut low = grid[0];
-    let mut i = 0;
-    while i < grid.len() {
-        low = lower(low, grid[i]);
-        i += 1;
+    for value in grid {
+        low = lower(low, *value);
     }
     low
 }
@@ -51,10 +49,8 @@ fn highest(grid: &[u8]) -> u8
     requires { 0 < length grid.now }
 {
     let mut high = grid[0];
-    let mut i = 0;
-    while i < grid.len() {
-        high = higher(high, grid[i]);
-        i += 1;
+    for value in grid {
+        high = higher(high, *value);
     }
     high
 }
@@ -71,10 +67,8 @@ fn has_only(grid: &[u8], low: u8, high: u8) -> bool
     ensures { result ≡ true → (i : ℕ) → i < length grid.now → (slice_index grid.now i ≡ low) ⊎ (slice_index grid.now i ≡ high) }
 {
     let mut either = true;
-    let mut i = 0;
-    while i < grid.len() {
-        either = stays_either(either, grid[i], low, high);
-        i += 1;
+    for value in grid {
+        either = stays_either(either, *value, low, high);
     }
     either
 }

@@ -1,4 +1,4 @@
--- `common` meets its contract. The loop's invariant: the two orders begin with i rows in common. The measure is what is left of count.
+-- `common` meets its contract. The loop's invariant: the two orders begin with i rows in common.
 use Rattle.std.proofs.Common.{◌-◌}
 use Rattle.search.specs.Search.{rows_of}
 use Rattle.search.proofs.FoundLaws.{CommonUpTo}
@@ -6,6 +6,3 @@ use Rattle.search.proofs.found.common.Given as goal
 
 abbrev pub invariant-loop-i : goal.invariant-loop-i
 invariant-loop-i l = CommonUpTo (rows_of l.a) (rows_of l.b) l.count l.i
-
-abbrev pub decreases-loop-i : goal.decreases-loop-i
-decreases-loop-i l = l.count - l.i

@@ -6,12 +6,12 @@ use Rattle.search.proofs.keys.digits.Goals as goal
 
 pub loop-j-init : goal.loop-j-init
 unfolding number
-loop-j-init c = (omega arith, refl)
+loop-j-init c = refl
 
 pub overflow_mul-number : goal.overflow_mul-number
 overflow_mul-number c =
     let l = c.loop-j in
-    omega (arith, l.invariant.1, number-room l.j (λ i. get_or c.args.levels.now (c.args.row.0 * 16 + column_at c.args.columns.0 i) 0) (λ i. c.requires.2 _) (omega arith))
+    omega (arith, l.invariant, number-room l.j (λ i. get_or c.args.levels.now (c.args.row.0 * 16 + column_at c.args.columns.0 i) 0) (λ i. c.requires.2 _) (omega arith))
 
 pub overflow_cast-number : goal.overflow_cast-number
 overflow_cast-number c =
@@ -32,13 +32,13 @@ overflow_cast-number-in-loop-j c =
 pub overflow_add-number-in-loop-j : goal.overflow_add-number-in-loop-j
 overflow_add-number-in-loop-j c =
     let l = c.loop-j in
-    omega (arith, c.requires.2 (c.args.row.0 * 16 + c.column_at-column.result.0), l.invariant.1, number-room l.j (λ i. get_or c.args.levels.now (c.args.row.0 * 16 + column_at c.args.columns.0 i) 0) (λ i. c.requires.2 _) (omega arith))
+    omega (arith, c.requires.2 (c.args.row.0 * 16 + c.column_at-column.result.0), l.invariant, number-room l.j (λ i. get_or c.args.levels.now (c.args.row.0 * 16 + column_at c.args.columns.0 i) 0) (λ i. c.requires.2 _) (omega arith))
 
 pub loop-j-preserved : goal.loop-j-preserved
 loop-j-preserved c =
     let l = c.loop-j in
     let e = c.column_at-column.ensures in
-    (omega arith, digit-next l.j (λ i. get_or c.args.levels.now (c.args.row.0 * 16 + column_at c.args.columns.0 i) 0) _ _ l.invariant.1 (ap (λ (z : ℕ). get_or c.args.levels.now (c.args.row.0 * 16 + z) 0) e))
+    digit-next l.j (λ i. get_or c.args.levels.now (c.args.row.0 * 16 + column_at c.args.columns.0 i) 0) _ _ l.invariant (ap (λ (z : ℕ). get_or c.args.levels.now (c.args.row.0 * 16 + z) 0) e)
 
 pub returns : goal.returns
-returns c = let l = c.loop-j in let e : l.j ≡ c.args.n = omega arith in rw e at l.invariant.1
+returns c = let l = c.loop-j in let e : l.j ≡ c.args.n = omega arith in rw e at l.invariant

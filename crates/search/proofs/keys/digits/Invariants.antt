@@ -1,11 +1,8 @@
--- `digits` meets its contract. The loop's invariant: the number of the digits before j. The measure is what is left of n.
+-- `digits` meets its contract. The loop's invariant: the number of the digits before j.
 use Rattle.std.proofs.Common.{◌≡◌, ◌+◌, ◌-◌, ◌≤◌, get_or}
 use Rattle.branches.specs.Keys.{number}
 use Rattle.search.specs.ColumnLists.{column_at}
 use Rattle.search.proofs.keys.digits.Given as goal
 
 abbrev pub invariant-loop-j : goal.invariant-loop-j
-invariant-loop-j l = (l.j ≤ l.n) × (l.number ≡ number l.j (λ i. get_or l.levels (l.start + column_at l.columns.0 i) 0))
-
-abbrev pub decreases-loop-j : goal.decreases-loop-j
-decreases-loop-j l = l.n - l.j
+invariant-loop-j l = l.number ≡ number l.j (λ i. get_or l.levels (l.start + column_at l.columns.0 i) 0)

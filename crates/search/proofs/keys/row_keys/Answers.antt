@@ -4,13 +4,13 @@ use Rattle.search.proofs.LoopLaws.{summed-none, summed-cell, summed_turn, shifte
 use Rattle.search.proofs.keys.row_keys.Goals as goal
 
 pub loop-c-init : goal.loop-c-init
-loop-c-init c = (omega arith, summed-none 8 _ _ _ refl (λ x b. get_or-replicate 8 x 0 0 b))
+loop-c-init c = summed-none 8 _ _ _ refl (λ x b. get_or-replicate 8 x 0 0 b)
 
 pub overflow_cast-power : goal.overflow_cast-power
 overflow_cast-power c = omega (arith, c.requires.1 c.loop-c.c)
 
 pub loop-r-init : goal.loop-r-init
-loop-r-init c = (omega arith, c.loop-c.invariant.1)
+loop-r-init c = c.loop-c.invariant
 
 pub overflow_shl-out : goal.overflow_shl-out
 overflow_shl-out c = omega (arith, c.requires.1 c.loop-c.c)
@@ -21,7 +21,7 @@ overflow_add-out-in-loop-r c =
     let col = c.loop-c.c in
     omega (
       arith,
-      l.invariant.1.sum.todo l.r (omega arith) (omega arith),
+      l.invariant.sum.todo l.r (omega arith) (omega arith),
       shifted-exact c.args.bits.now c.args.after c.requires.0 c.requires.1 col l.r,
       shifted_fits c.args.bits.now c.args.after c.requires.0 c.requires.2 col l.r (omega arith),
     )
@@ -29,10 +29,10 @@ overflow_add-out-in-loop-r c =
 pub loop-r-preserved : goal.loop-r-preserved
 loop-r-preserved c =
     let l = c.loop-r.invariant in
-    (omega arith, summed-cell l.1 _ (omega arith) (shifted-exact c.args.bits.now c.args.after c.requires.0 c.requires.1 _ _))
+    summed-cell l _ (omega arith) (shifted-exact c.args.bits.now c.args.after c.requires.0 c.requires.1 _ _)
 
 pub loop-c-preserved : goal.loop-c-preserved
-loop-c-preserved c = (omega arith, summed_turn c.loop-r.invariant.1 (λ x b xw. absurd (omega arith)))
+loop-c-preserved c = summed_turn c.loop-r.invariant (λ x b xw. absurd (omega arith))
 
 pub returns : goal.returns
-returns c = let l = c.loop-c in let e : l.c ≡ 16 = omega arith in keys-summed _ _ _ (rw e at l.invariant.1)
+returns c = let l = c.loop-c in let e : l.c ≡ 16 = omega arith in keys-summed _ _ _ (rw e at l.invariant)

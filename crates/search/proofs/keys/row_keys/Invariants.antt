@@ -1,16 +1,10 @@
--- `row_keys` meets its contract. The loops' invariant: the sums of c turns, and of a turn more before r. The measures are what is left of the columns, and of the rows.
+-- `row_keys` meets its contract. The loops' invariant: the sums of c turns, and of a turn more before r.
 use Rattle.std.proofs.Common.{◌-◌, ◌≤◌}
 use Rattle.search.proofs.LoopLaws.{SummedTo, shifted}
 use Rattle.search.proofs.keys.row_keys.Given as goal
 
 abbrev pub invariant-loop-r : goal.invariant-loop-r
-invariant-loop-r l = (l.r ≤ 8) × SummedTo 8 (λ e. 0) (shifted l.bits l.after) l.c l.r l.out
-
-abbrev pub decreases-loop-r : goal.decreases-loop-r
-decreases-loop-r l = 8 - l.r
+invariant-loop-r l = SummedTo 8 (λ e. 0) (shifted l.bits l.after) l.c l.r l.out
 
 abbrev pub invariant-loop-c : goal.invariant-loop-c
-invariant-loop-c l = (l.c ≤ 16) × SummedTo 8 (λ e. 0) (shifted l.bits l.after) l.c 0 l.out
-
-abbrev pub decreases-loop-c : goal.decreases-loop-c
-decreases-loop-c l = 16 - l.c
+invariant-loop-c l = SummedTo 8 (λ e. 0) (shifted l.bits l.after) l.c 0 l.out

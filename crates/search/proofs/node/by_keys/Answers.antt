@@ -1,5 +1,5 @@
 -- `by_keys` meets its contract: the rows with the least key give the least next row.
-use Rattle.std.proofs.Common.{refl}
+use Rattle.std.proofs.Common.{refl, arith}
 use Rattle.search.proofs.NodeLaws.{keys-next, after_is, powers-within, rows-within}
 use Rattle.search.proofs.node.by_keys.Goals as goal
 
@@ -16,7 +16,7 @@ lowest-least-requires c =
 pub with_key-rows-requires : goal.with_key-rows-requires
 with_key-rows-requires c =
     let s = c.requires.0 in
-    (s.tables.rows_fit, rows-within s)
+    (omega (arith, s.placed-fits), s.tables.rows_fit, rows-within s)
 
 pub returns : goal.returns
 returns c =

@@ -1,12 +1,9 @@
--- `columns_of` meets its contract. The loop's invariant: the columns before place j are those of the list. The measure is what is left of 16.
-use Rattle.std.proofs.Common.{◌≡◌, ◌-◌, ◌≤◌, map, length}
+-- `columns_of` meets its contract. The loop's invariant: the columns before place j are those of the list.
+use Rattle.std.proofs.Common.{◌≡◌, map, length}
 use Rattle.permutations.specs.Columns.{column_number}
 use Rattle.search.specs.ColumnLists.{column_at}
 use Rattle.search.proofs.LoopLaws.{FilledTo}
 use Rattle.search.proofs.orders.columns_of.Given as goal
 
 abbrev pub invariant-loop-j : goal.invariant-loop-j
-invariant-loop-j l = (l.j ≤ 16) × (length (map column_number l.at) ≡ 16) × FilledTo (column_at l.list.0) l.j (map column_number l.at)
-
-abbrev pub decreases-loop-j : goal.decreases-loop-j
-decreases-loop-j l = 16 - l.j
+invariant-loop-j l = (length (map column_number l.column-items) ≡ 16) × FilledTo (column_at l.list.0) l.j (map column_number l.column-items)

@@ -3,13 +3,13 @@ use Rattle.search.proofs.DifferenceLaws.{counted_none, counted-more, counted-mos
 use Rattle.search.proofs.pairs.differences.Goals as goal
 
 pub loop-c-init : goal.loop-c-init
-loop-c-init c = (omega arith, counted_none _ _ _)
+loop-c-init c = counted_none _ _ _
 
 pub overflow_add-count-in-loop-c-2 : goal.overflow_add-count-in-loop-c-2
-overflow_add-count-in-loop-c-2 c = let e = counted-more _ _ _ _ c.loop-c.invariant.1 in omega (arith, counted-most _ _ _ _ e)
+overflow_add-count-in-loop-c-2 c = let e = counted-more _ _ _ _ c.loop-c.invariant in omega (arith, counted-most _ _ _ _ e)
 
 pub loop-c-preserved : goal.loop-c-preserved
-loop-c-preserved c = (omega arith, counted-more _ _ _ _ c.loop-c.invariant.1)
+loop-c-preserved c = counted-more _ _ _ _ c.loop-c.invariant
 
 pub returns : goal.returns
-returns c = let l = c.loop-c in let z : l.c ≡ 16 = omega arith in rw z at l.invariant.1 ∙ counted-all _ _ _
+returns c = let l = c.loop-c in let z : l.c ≡ 16 = omega arith in rw z at l.invariant ∙ counted-all _ _ _

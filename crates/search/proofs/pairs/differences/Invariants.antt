@@ -1,10 +1,7 @@
--- `differences` meets its contract. The loop's invariant: in how many of the first c columns the rows differ. The measure is what is left of 16.
+-- `differences` meets its contract. The loop's invariant: in how many of the first c columns the rows differ.
 use Rattle.std.proofs.Common.{◌≡◌, ◌-◌, ◌≤◌}
 use Rattle.search.proofs.DifferenceLaws.{counted}
 use Rattle.search.proofs.pairs.differences.Given as goal
 
 abbrev pub invariant-loop-c : goal.invariant-loop-c
-invariant-loop-c l = (l.c ≤ 16) × (l.count ≡ counted l.levels l.p l.q l.c)
-
-abbrev pub decreases-loop-c : goal.decreases-loop-c
-decreases-loop-c l = 16 - l.c
+invariant-loop-c l = l.count ≡ counted l.levels l.p l.q l.c

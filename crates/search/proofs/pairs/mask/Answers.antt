@@ -3,4 +3,4 @@ use Rattle.search.proofs.HigherLaws.{or-below}
 use Rattle.search.proofs.pairs.mask.Goals as goal
 
 pub loop-c-preserved : goal.loop-c-preserved
-loop-c-preserved c = (omega arith, or-below _ _ c.loop-c.invariant.1)
+loop-c-preserved c = or-below _ _ c.loop-c.invariant

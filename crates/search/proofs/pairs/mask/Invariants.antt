@@ -1,9 +1,6 @@
--- `mask` meets its contract, which says nothing: no sum and no shift goes too far. The measure is what is left of 16.
+-- `mask` meets its contract, which says nothing: no sum and no shift goes too far.
 use Rattle.std.proofs.Common.{◌-◌, ◌<◌, ◌≤◌}
 use Rattle.search.proofs.pairs.mask.Given as goal
 
 abbrev pub invariant-loop-c : goal.invariant-loop-c
-invariant-loop-c l = (l.c ≤ 16) × (l.out < 65536)
-
-abbrev pub decreases-loop-c : goal.decreases-loop-c
-decreases-loop-c l = 16 - l.c
+invariant-loop-c l = l.out < 65536

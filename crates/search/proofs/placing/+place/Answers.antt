@@ -52,31 +52,31 @@ loop-t-init t c =
     let h =
     begun-either {old = c.args.found} ready.stands (omega (arith, s.placed-fits, c.if-k-m.false)) c.next_rows-next.ensures ready.best ready.ready refl c.is_cut.ensures c.if-is_cut.false c.is_lower-fresh.ensures c.is_written.ensures {now = c.if-is_written.now}
     (elim c.if-is_written.branch [ then-is_written w ↦ inl (w.if-is_written.true, w.now-is) | else-is_written w ↦ inr (w.if-is_written.false, w.now-is) ]) in
-    (omega (arith, h.within), turn-first h c.chosen-rows.ensures, h)
+    (turn-first h c.chosen-rows.ensures, h)
 
 pub is_followed-requires : goal.is_followed-requires
-is_followed-requires t c = turn-row-below c.loop-t-test.true c.loop-t.invariant.1
+is_followed-requires t c = turn-row-below c.loop-t-test.true c.loop-t.invariant.0
 
 pub deeper-deeper-requires : goal.deeper-deeper-requires
 deeper-deeper-requires t c =
-    let h = c.loop-t.invariant.1 in
+    let h = c.loop-t.invariant.0 in
     (standing-node h.stands h.within, h.next, h.following.first, c.loop-t-test.true, turn-row c.loop-t-test.true h)
 
 pub place-now-requires : goal.place-now-requires
 place-now-requires t c =
-    let h = c.loop-t.invariant.1 in
+    let h = c.loop-t.invariant.0 in
     let d = c.deeper-deeper.ensures in
     (omega (arith, c.decreases, h.within, d.placed), turn-stands c.loop-t-test.true h _ c.is_followed.ensures c.if-is_followed.true _ d)
 
 pub returns-then-now-k : goal.returns-then-now-k
 returns-then-now-k t c =
-    let h = c.loop-t.invariant.1 in
-    let start = c.loop-t.invariant.2 in
+    let h = c.loop-t.invariant.0 in
+    let start = c.loop-t.invariant.1 in
     turn-back c.loop-t-test.true h _ c.is_followed.ensures c.if-is_followed.true _ c.deeper-deeper.ensures _ c.place-now.ensures c.if-now-k.true _ (sym start.kept-best ∙ start.same-best)
 
 pub covered_with-covered-requires : goal.covered_with-covered-requires
 covered_with-covered-requires t c =
-    let h = c.loop-t.invariant.1 in
+    let h = c.loop-t.invariant.0 in
     let s = h.stands in
     (s.tables.rows_fit, h.within, s.rows, c.place-now.ensures.symmetries, h.set, turn-row-below c.loop-t-test.true h)
 
@@ -87,14 +87,13 @@ loop-t-preserved t c =
     let test = c.is_followed.ensures in
     elim c.if-is_followed.branch [
       | then-is_followed+else-now-k w ↦ (
-        omega arith,
-        rw (w.now-is, w.fresh-is, w.covered-is) (turn-next tm l.invariant.1 _ test w.if-is_followed.true _ w.deeper-deeper.ensures _ w.place-now.ensures w.if-now-k.false _ w.covered_with-covered.ensures),
-        l.invariant.2,
+        rw (w.now-is, w.fresh-is, w.covered-is) (turn-next tm l.invariant.0 _ test w.if-is_followed.true _ w.deeper-deeper.ensures _ w.place-now.ensures w.if-now-k.false _ w.covered_with-covered.ensures),
+        l.invariant.1,
       )
-      | else-is_followed w ↦ (omega arith, rw (w.now-is, w.fresh-is, w.covered-is) (turn-skip tm l.invariant.1 _ test w.if-is_followed.false), l.invariant.2)
+      | else-is_followed w ↦ (rw (w.now-is, w.fresh-is, w.covered-is) (turn-skip tm l.invariant.0 _ test w.if-is_followed.false), l.invariant.1)
     ]
 
 pub returns : goal.returns
 returns t c =
-    let start = c.loop-t.invariant.2 in
-    turn-all c.loop-t-test.false c.loop-t.invariant.1 _ (sym start.kept-best ∙ start.same-best)
+    let start = c.loop-t.invariant.1 in
+    turn-all c.loop-t-test.false c.loop-t.invariant.0 _ (sym start.kept-best ∙ start.same-best)

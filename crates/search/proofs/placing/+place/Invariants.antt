@@ -1,4 +1,4 @@
--- `place` meets its contract. The loop's invariant: what holds before a turn (`Turn`), and what held before the loop (`Begun`). The measure is what is left of m; that of the calls is the number of rows that are not placed.
+-- `place` meets its contract. The loop's invariant: what holds before a turn (`Turn`), and what held before the loop (`Begun`).
 use Rattle.std.proofs.Common.{◌-◌, ◌≤◌}
 use Rattle.search.proofs.TurnLaws.{Begun, Turn}
 use Rattle.search.proofs.placing.+place.Given as goal
@@ -8,9 +8,5 @@ decreases-place l = l.m - l.node.placed
 
 abbrev pub invariant-loop-t : goal.invariant-loop-t
 invariant-loop-t l =
-    (l.t ≤ l.m)
-    × Turn l.m l.n l.grid l.two l.low l.levels l.words l.bits l.node l.next l.rows.0 l.initial.now.best l.t l.fresh l.now l.covered.0
+    Turn l.m l.n l.grid l.two l.low l.levels l.words l.bits l.node l.next l.rows.0 l.initial.now.best l.t l.fresh l.now l.covered.0
     × Begun l.m l.n l.grid l.two l.low l.levels l.words l.bits l.node l.next l.fn.found l.initial.fresh l.initial.now
-
-abbrev pub decreases-loop-t : goal.decreases-loop-t
-decreases-loop-t l = l.m - l.t

