@@ -1,5 +1,6 @@
 -- What the code of prune finds, and what it answers from it.
 --
+--   order-fails, order-holds  ==  a further low and high are not in order, or are
 --   Spans a b s          ==  s is the number of values that rank within a to b
 --   span_counts          ==  it is counted by the numbers a and b
 --   removed-at-first     ==  no cell, no value removed
@@ -20,7 +21,7 @@
 use mathlib.Core.Path.{◌≡◌, refl, sym, ap, ◌∙◌}
 use mathlib.Core.List.Memᴰ
 use mathlib.Core.List.{List, [], ◌∷◌, foldr}
-use mathlib.Core.Bool.{Bool, true, false}
+use mathlib.Core.Bool.{Bool, true, false, ◌&&◌, and-true}
 use mathlib.Core.Logic.{◌↔◌}
 use Prim.Native.Nat.{ℕ, zero, suc, ◌+◌, ◌*◌, ◌-◌, ◌≤◌, ◌<◌}
 use native.Mathlib.Decide.{dec_lt}
@@ -28,8 +29,10 @@ use native.Mathlib.Nat.{add-zero, zero-add}
 use native.Mathlib.Numerals.{add-one}
 use native.Mathlib.Omega.{arith}
 use lib.ListN.{length, get_or}
+use lib.Dec.{leb}
+use borrow.Author.Tests.{leb-true, le-leb}
 use Rattle.permutations.specs.Lists.{tabulate, numbers, select}
-use Rattle.permutations.proofs.BoolLaws.{refuted}
+use Rattle.permutations.proofs.BoolLaws.{and_yes, refuted}
 use Rattle.permutations.proofs.ListLaws.{length-numbers}
 use Rattle.permutations.proofs.SelectLaws.{select_yes, select_no, length-select}
 use Rattle.grids.specs.Order.{rank}
@@ -46,6 +49,14 @@ use Rattle.bounds.specs.Demand2.{Prunes}
 use Rattle.bounds.proofs.BoundsLaws.{bounds-wider, order-asked, ranks-within, between-fewer}
 use Rattle.bounds.proofs.PruneLaws.{prune-pass, prune-asked, pruned-refused, pruned-some, pruned-none, prunes}
 use Rattle.bounds.proofs.NarrowedLaws.{narrowed-obeyed, narrowed_low, narrowed-high, narrowed-inside, narrowed-removed}
+
+-- ---- question 8
+
+pub order-fails : (b : Bool) (x y : ℕ) → y < x → false ≡ (b && leb x y)
+order-fails b x y h = sym (refuted (b && leb x y) (λ e. leb-true x y (and_yes b (leb x y) e).1, λ k. absurd (omega arith)) (λ k. omega arith))
+
+pub order-holds : (b : Bool) (x y : ℕ) → x ≤ y → b ≡ (b && leb x y)
+order-holds b x y h = rw (le-leb x y h) (sym (and-true b))
 
 -- ---- the values between two bounds
 

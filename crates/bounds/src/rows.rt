@@ -16,8 +16,8 @@ pub struct Rows<'a> {
 }
 
 impl<'a> Rows<'a> {
-    // The end of the columns from `from` on at which the lows equal the sorted row at `shift` columns before. It is a column number or
-    // how many columns there are, and both are compared and sliced by alike, so it is no Option.
+    // The end of the columns, from `from` on, in which the lows equal the sorted row at `shift` columns before. An end, as of a slice, and
+    // no Option: where they equal it in all it is how many columns there are.
     fn agreement(&self, shift: usize, from: usize) -> usize
         requires { (shift ≤ from) × (from ≤ length self.now.lows.now) }
         ensures { AgreeTo (length self.now.lows.now) (cell_at self.now.lows.now) (cell_at self.now.sorted) shift from result }
