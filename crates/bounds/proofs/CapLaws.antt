@@ -9,17 +9,20 @@
 --   highs-lowered     ==  highs that are x's values before x and s part, and at most the cap there, are those that let x lead
 --   lows-raised      ==  lows that are at least the thresholds are those that let x lead
 use mathlib.Core.Path.{◌≡◌, refl, sym, ap, ◌∙◌}
-use mathlib.Core.Bool.{true, false}
+use mathlib.Core.Bool.{true, false, cond}
 use mathlib.Core.Logic.{◌↔◌}
 use Prim.Native.Nat.{ℕ, ◌+◌, ◌≤◌, ◌<◌}
 use native.Mathlib.Decide.{ℕ_discrete, dec_lt}
 use native.Mathlib.Omega.{arith}
 use lib.Dec.{ltb}
 use borrow.Author.Tests.{lt-ltb, le-ltb}
+use Rattle.std.specs.declared.cmp.Ordering.TheVariants.{Less, Equal, Greater}
+use Rattle.std.specs.Ordering.{is_lt, nat_cmp, ord_max, ord_min}
+use Rattle.std.specs.Cmp.{nat_cmp_is}
 use Rattle.grids.specs.Neighbours.{IsPrevious}
 use Rattle.grids.specs.Order.{rank}
 use Rattle.grids.proofs.OrderLaws.{rank-antisymm}
-use Rattle.bounds.specs.declared.rows.RowLows.{RowLows}
+use Rattle.bounds.specs.declared.lows.RowLows.{RowLows}
 use Rattle.bounds.specs.Rows.{put, Values, Leads, IsSorted, NoLater, Parted, higher, lower, low_for, IsLows, RaisedTo, Raised, IsCap, IsHighs}
 use Rattle.bounds.proofs.LeadsLaws.{put_same, put_other, put_self, leads-ext, leads-sorted}
 use Rattle.bounds.proofs.ThresholdLaws.{agreed, parted-leads}
@@ -55,6 +58,32 @@ module _ (a b : ℕ) where
 
   pub higher-within : (top : ℕ) → a ≤ top → b ≤ top → higher a b ≤ top
   higher-within top h k = higher-all (λ z. z ≤ top) (λ l. k) (λ l. h)
+
+  -- ---- what the library's functions find
+
+  pub max-higher : ord_max (λ x y. nat_cmp (rank x) (rank y)) a b ≡ higher a b
+  max-higher =
+      higher-all (λ z. cond (is_lt (nat_cmp (rank b) (rank a))) a b ≡ z)
+      (λ h. rw (sym (nat_cmp_is (rank b) (rank a) Greater h)) refl)
+      (λ h. equal-or-lower (dec_lt (rank b) (rank a)) h)
+    where
+      equal-or-lower : Dec (rank b < rank a) → rank b ≤ rank a → cond (is_lt (nat_cmp (rank b) (rank a))) a b ≡ a
+      equal-or-lower (yes l) h = rw (sym (nat_cmp_is (rank b) (rank a) Less l)) refl
+      equal-or-lower (no l) h =
+          let e : rank b ≡ rank a = omega arith in
+          rw (sym (nat_cmp_is (rank b) (rank a) Equal e)) (rank-antisymm b a h (omega arith))
+
+  pub min-lower : ord_min (λ x y. nat_cmp (rank x) (rank y)) a b ≡ lower a b
+  min-lower =
+      lower-all (λ z. cond (is_lt (nat_cmp (rank b) (rank a))) b a ≡ z)
+      (λ h. rw (sym (nat_cmp_is (rank b) (rank a) Less h)) refl)
+      (λ h. equal-or-higher (dec_lt (rank a) (rank b)) h)
+    where
+      equal-or-higher : Dec (rank a < rank b) → rank a ≤ rank b → cond (is_lt (nat_cmp (rank b) (rank a))) b a ≡ a
+      equal-or-higher (yes l) h = rw (sym (nat_cmp_is (rank b) (rank a) Greater l)) refl
+      equal-or-higher (no l) h =
+          let e : rank b ≡ rank a = omega arith in
+          rw (sym (nat_cmp_is (rank b) (rank a) Equal e)) refl
 
 -- ---- the cap
 

@@ -22,7 +22,6 @@ use lib.ListN.{length, get_or, take, drop, get_or-append}
 use lib.Seq.{take-length, drop-length, length-take-le, get_or-take, get_or-drop, get_or-append-add}
 use lib.Arith.{digits_lt}
 use borrow.Rule.Slice.PartMut.{same_len_mid, mid_len}
-use Rattle.permutations.proofs.ListLaws.{part_length}
 use Rattle.grids.specs.Order.{rank}
 use Rattle.grids.proofs.QuestionLaws.{size_fits}
 use Rattle.bounds.specs.Bounds.{IsBounds}
@@ -74,8 +73,8 @@ module _ (i n : ℕ) (l : List ℕ) where
   pub part-size : i * n + n ≤ length l → length (take (i * n + n - i * n) (drop (i * n) l)) ≡ n
   part-size h = mid_len (i * n) (i * n + n) l h ∙ omega arith
 
-pub first_part : (n : ℕ) (l : List ℕ) (j : ℕ) → j < n → cell_at (take (n - 0) l) j ≡ row_of n l 0 j
-first_part n l j b = let q : 0 * n + j ≡ j = omega (arith, zero-mul n) in get_or-take (n - 0) l j 0 (omega arith) ∙ ap (cell_at l) (sym q)
+pub first_part : (n : ℕ) (l : List ℕ) (j : ℕ) → j < n → cell_at (take n l) j ≡ row_of n l 0 j
+first_part n l j b = let q : 0 * n + j ≡ j = omega (arith, zero-mul n) in get_or-take n l j 0 b ∙ ap (cell_at l) (sym q)
 
 -- ---- one row more
 
@@ -124,12 +123,13 @@ pub record Progress (i m n : ℕ) (low high low' high' : List ℕ) : Type 0 wher
   pub low-size : length low' ≡ m * n
   pub high-size : length high' ≡ m * n
   pub narrowed : (top : ℕ) → IsBounds (m * n) top low high → Narrowed i n top low high low' high'
+  -- from row i on the lows are as they were
+  pub rest : (k : ℕ) → i * n ≤ k → get_or low' k 0 ≡ get_or low k 0
 
 -- row 0 and row i are within the lists
 pub record RowFits (i n : ℕ) (low high low' high' : List ℕ) : Type 0 where
   pub first-low : n ≤ length low
   pub first-high : n ≤ length high'
-  pub old-low : i * n + n ≤ length low
   pub old-high : i * n + n ≤ length high
   pub new-low : i * n + n ≤ length low'
   pub small : i * n + n ≤ 128
@@ -152,6 +152,7 @@ narrow-none m n low high low' high' s = record {
     low-kept = λ k h. refl;
     high-kept = λ k h. refl;
   };
+  rest = λ k h. refl;
 }
 
 module _ {i m n : ℕ} {low high low' high' old-low old-high : List ℕ} (s : NarrowSizes m n low high old-low old-high) (p : Progress i m n low high low' high') (im : i < m) where
@@ -165,46 +166,48 @@ module _ {i m n : ℕ} {low high low' high' old-low old-high : List ℕ} (s : Na
   row_fits = record {
     first-low = omega (arith, s.low-size, row_within);
     first-high = omega (arith, p.high-size, row_within);
-    old-low = omega (arith, s.low-size, row_within);
     old-high = omega (arith, s.high-size, row_within);
     new-low = omega (arith, p.low-size, row_within);
     small = omega (arith, row_within, size_fits m n s.rows-limits.1 s.column-limits.1);
   }
 
-  pub row-sizes : RowSizes (length (take (n - 0) low)) (take (i * n + n - i * n) (drop (i * n) low)) (take (i * n + n - i * n) (drop (i * n) high)) (take (n - 0) high')
+  pub row-sizes : RowSizes (length (take n low)) (take (i * n + n - i * n) (drop (i * n) high)) (take n high')
       (take (i * n + n - i * n) (drop (i * n) low'))
   row-sizes =
       let f = row_fits in
-      let e = part_length low n f.first-low in
+      let e = length-take-le n low f.first-low in
       record {
         some = omega (arith, e, s.column-limits.0);
         limit = omega (arith, e, s.column-limits.1);
-        low-size = part-size i n low f.old-low ∙ sym e;
         high-size = part-size i n high f.old-high ∙ sym e;
-        highs-size = part_length high' n f.first-high ∙ sym e;
+        highs-size = length-take-le n high' f.first-high ∙ sym e;
         lows-size = part-size i n low' f.new-low ∙ sym e;
       }
 
-  pub row-values : Values (m * n) 15 (cell_at high) → Values (length (take (n - 0) low)) 15 (cell_at (take (i * n + n - i * n) (drop (i * n) high)))
+  -- row i of the new lows is still that of the old
+  row-low : (j : ℕ) → j < n → cell_at (take (i * n + n - i * n) (drop (i * n) low')) j ≡ row_of n low i j
+  row-low j jn = row-part i n low' j jn ∙ p.rest (i * n + j) (omega arith)
+
+  pub row-values : Values (m * n) 15 (cell_at high) → Values (length (take n low)) 15 (cell_at (take (i * n + n - i * n) (drop (i * n) high)))
   row-values h j b =
-      let e = part_length low n row_fits.first-low in
+      let e = length-take-le n low row_fits.first-low in
       rw (row-part i n high j (omega arith)) (h (i * n + j) (omega (arith, row_within)))
 
-  pub narrow-fails : (highs lows : ℕ → ℕ) → RowOutcome false (length (take (n - 0) low)) (cell_at (take (n - 0) low)) (cell_at (take (i * n + n - i * n) (drop (i * n) low)))
-      (cell_at (take (i * n + n - i * n) (drop (i * n) high))) (cell_at (take (n - 0) high')) highs lows → AllLead m n (row_of n low 0) high → ⊥
+  pub narrow-fails : (highs lows : ℕ → ℕ) → RowOutcome false (length (take n low)) (cell_at (take n low)) (cell_at (take (i * n + n - i * n) (drop (i * n) low')))
+      (cell_at (take (i * n + n - i * n) (drop (i * n) high))) (cell_at (take n high')) highs lows → AllLead m n (row_of n low 0) high → ⊥
   unfolding RowOutcome
   narrow-fails highs lows f all =
-      f (rw (part_length low n (omega (arith, s.low-size, row_within)))
+      f (rw (length-take-le n low (omega (arith, s.low-size, row_within)))
       (leads-ext n (row_of n low 0) _ (row_of n high i) _ (λ j b. sym (first_part n low j b)) (λ j b. sym (row-part i n high j b)) (all i p.from im)))
 
-  module _ (highs lows : List ℕ) (he : length highs ≡ length (take (n - 0) high')) (le : length lows ≡ length (take (i * n + n - i * n) (drop (i * n) low')))
-      (f : RowOutcome true (length (take (n - 0) low)) (cell_at (take (n - 0) low)) (cell_at (take (i * n + n - i * n) (drop (i * n) low)))
-      (cell_at (take (i * n + n - i * n) (drop (i * n) high))) (cell_at (take (n - 0) high')) (cell_at highs) (cell_at lows)) where
+  module _ (highs lows : List ℕ) (he : length highs ≡ length (take n high')) (le : length lows ≡ length (take (i * n + n - i * n) (drop (i * n) low')))
+      (f : RowOutcome true (length (take n low)) (cell_at (take n low)) (cell_at (take (i * n + n - i * n) (drop (i * n) low')))
+      (cell_at (take (i * n + n - i * n) (drop (i * n) high))) (cell_at (take n high')) (cell_at highs) (cell_at lows)) where
     new-low : List ℕ
     new-low = take (i * n) low' ++ (lows ++ drop (i * n + n - i * n) (drop (i * n) low'))
 
     new-high : List ℕ
-    new-high = highs ++ drop (n - 0) high'
+    new-high = highs ++ drop n high'
 
     low-replaced : Replaced (i * n) n low' lows new-low
     unfolding new-low
@@ -212,7 +215,7 @@ module _ {i m n : ℕ} {low high low' high' old-low old-high : List ℕ} (s : Na
 
     high-replaced : Replaced 0 n high' highs new-high
     unfolding new-high
-    high-replaced = let q : n - 0 ≡ n = omega arith in rw q (part-replaced 0 n high' highs (omega (arith, row_fits.first-high)) (he ∙ part_length high' n row_fits.first-high))
+    high-replaced = part-replaced 0 n high' highs (omega (arith, row_fits.first-high)) (he ∙ length-take-le n high' row_fits.first-high)
 
     module _ (top : ℕ) (b : IsBounds (m * n) top low high) where
       old : Narrowed i n top low high low' high'
@@ -228,12 +231,12 @@ module _ {i m n : ℕ} {low high low' high' old-low old-high : List ℕ} (s : Na
       row : RowPruned n top (row_of n low 0) (row_of n low i) (row_of n high i) (row_of n high' 0) (row_of n new-high 0) (row_of n new-low i)
       unfolding RowOutcome
       row =
-          let g = rw (part_length low n (omega (arith, s.low-size, row_within))) at f in
-          row-pruned-ext n top (cell_at (take (n - 0) low)) (cell_at (take (i * n + n - i * n) (drop (i * n) low))) (cell_at (take (i * n + n - i * n) (drop (i * n) high)))
-          (cell_at (take (n - 0) high')) (cell_at highs) (cell_at lows) _ _ _ _ _ _ (first_part n low) (row-part i n low) (row-part i n high) (first_part n high')
+          let g = rw (length-take-le n low (omega (arith, s.low-size, row_within))) at f in
+          row-pruned-ext n top (cell_at (take n low)) (cell_at (take (i * n + n - i * n) (drop (i * n) low'))) (cell_at (take (i * n + n - i * n) (drop (i * n) high)))
+          (cell_at (take n high')) (cell_at highs) (cell_at lows) _ _ _ _ _ _ (first_part n low) row-low (row-part i n high) (first_part n high')
           (λ j jn. let q : 0 * n + j ≡ 0 + j = omega (arith, zero-mul n) in rw q (sym (high-replaced.inside j jn))) (λ j jn. sym (low-replaced.inside j jn))
           (g top (λ j jn. rw (first_part n low j jn) (b.low-cap (0 * n + j) (digits_lt (omega arith) jn)))
-          (λ j jn. rw (row-part i n low j jn) (b.low-cap (i * n + j) (digits_lt im jn)))
+          (λ j jn. rw (row-low j jn) (b.low-cap (i * n + j) (digits_lt im jn)))
           (λ j jn. rw (row-part i n high j jn) (b.high-cap (i * n + j) (digits_lt im jn)))
           (λ j jn. rw (first_part n high' j jn) (old.lowered.within j jn)) (λ j jn. rw (first_part n low j jn, first_part n high' j jn) (ordered j jn)))
 
@@ -266,7 +269,7 @@ module _ {i m n : ℕ} {low high low' high' old-low old-high : List ℕ} (s : Na
           both : (z : ℕ → ℕ) → AllLead (i + 1) n z high ↔ (AllLead i n z high × Leads n z (row_of n high i))
           both z = (λ h. (λ r r0 ri. h r r0 (omega arith), h i p.from (omega arith)), λ q. before-or-here (λ r. Leads n z (row_of n high r)) q.0 q.1)
 
-    pub narrow_next : Progress (i + 1) m n low high (take (i * n) low' ++ (lows ++ drop (i * n + n - i * n) (drop (i * n) low'))) (highs ++ drop (n - 0) high')
+    pub narrow_next : Progress (i + 1) m n low high (take (i * n) low' ++ (lows ++ drop (i * n + n - i * n) (drop (i * n) low'))) (highs ++ drop n high')
     unfolding new-low new-high
     narrow_next = record {
       from = omega arith;
@@ -274,6 +277,7 @@ module _ {i m n : ℕ} {low high low' high' old-low old-high : List ℕ} (s : Na
       low-size = low-replaced.size ∙ p.low-size;
       high-size = high-replaced.size ∙ p.high-size;
       narrowed = narrowed-next;
+      rest = λ k nk. low-replaced.after k (omega (arith, suc-mul i n)) ∙ p.rest k (omega (arith, suc-mul i n));
     }
 
 pub narrow-all : {i m n : ℕ} {low high low' high' : List ℕ} → Progress i m n low high low' high' → m ≤ i → (top : ℕ) → IsBounds (m * n) top low high → Narrowed m n top low high low' high'

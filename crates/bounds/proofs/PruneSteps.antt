@@ -1,12 +1,12 @@
 -- What the code of prune finds, and what it answers from it.
 --
 --   order-fails, order-holds  ==  a further low and high are not in order, or are
---   ordered-none, ordered-next  ==  question 8 of no cell, and of a cell more
 --   Spans a b s          ==  s is the number of values that rank within a to b
 --   span_counts          ==  it is counted by the numbers a and b
 --   removed-at-first     ==  no cell, no value removed
 --   span-falls, cell-removed  ==  of the spans of a cell, the old and the new: the difference, and the values removed with one cell more
 -- The first no of two bounds:
+--   InOrder low high     ==  each low is at most its high
 --   bounds-lengths-no, bounds-cells-no, bounds-order-no  ==  those before get a yes, this one a no: 6, 7, 8
 --   bounds-yes           ==  each gets a yes
 -- The answers of prune:
@@ -16,11 +16,11 @@
 --   narrow-ready         ==  the arguments fit narrow
 --   prune-none           ==  narrow says no: 102
 --   Wrote m n top low high low' high', narrow-wrote  ==  narrow says yes, and has written low' and high'
---   parts_within, parts-fit, removed-ready  ==  what it wrote, at the beginning of two arrays, fits the calls after it
+--   sizes-fit, removed-ready  ==  what it wrote fits the calls after it
 --   prune-some           ==  with the values removed and the new bounds: 0
 use mathlib.Core.Path.{◌≡◌, refl, sym, ap, ◌∙◌}
 use mathlib.Core.List.Memᴰ
-use mathlib.Core.List.{List, [], ◌∷◌, ◌++◌, foldr}
+use mathlib.Core.List.{List, [], ◌∷◌, foldr}
 use mathlib.Core.Bool.{Bool, true, false, ◌&&◌, and-true}
 use mathlib.Core.Logic.{◌↔◌}
 use Prim.Native.Nat.{ℕ, zero, suc, ◌+◌, ◌*◌, ◌-◌, ◌≤◌, ◌<◌}
@@ -28,12 +28,12 @@ use native.Mathlib.Decide.{dec_lt}
 use native.Mathlib.Nat.{add-zero, zero-add}
 use native.Mathlib.Numerals.{add-one}
 use native.Mathlib.Omega.{arith}
-use lib.ListN.{length, get_or, take}
+use lib.ListN.{length, get_or}
 use lib.Dec.{leb}
 use borrow.Author.Tests.{leb-true, le-leb}
-use Rattle.permutations.specs.Lists.{tabulate, numbers, select, every}
+use Rattle.permutations.specs.Lists.{tabulate, numbers, select}
 use Rattle.permutations.proofs.BoolLaws.{and_yes, refuted}
-use Rattle.permutations.proofs.ListLaws.{every-next, part-within, part-is, part_length, length-numbers}
+use Rattle.permutations.proofs.ListLaws.{length-numbers}
 use Rattle.permutations.proofs.SelectLaws.{select_yes, select_no, length-select}
 use Rattle.grids.specs.Order.{rank}
 use Rattle.grids.specs.Asked.{limits_no}
@@ -46,7 +46,7 @@ use Rattle.bounds.specs.Rows.{cell_at, Values}
 use Rattle.bounds.specs.Narrowed.{row_of, AllLead, Narrowed, NarrowOutcome, NarrowSizes, Inside, removed_by}
 use Rattle.bounds.specs.Prune.{question8, bounds_questions, prune_questions, pruned_to}
 use Rattle.bounds.specs.Demand2.{Prunes}
-use Rattle.bounds.proofs.BoundsLaws.{bounds-wider, ranks-within, between-fewer}
+use Rattle.bounds.proofs.BoundsLaws.{bounds-wider, order-asked, ranks-within, between-fewer}
 use Rattle.bounds.proofs.PruneLaws.{prune-pass, prune-asked, pruned-refused, pruned-some, pruned-none, prunes}
 use Rattle.bounds.proofs.NarrowedLaws.{narrowed-obeyed, narrowed_low, narrowed-high, narrowed-inside, narrowed-removed}
 
@@ -57,14 +57,6 @@ order-fails b x y h = sym (refuted (b && leb x y) (λ e. leb-true x y (and_yes b
 
 pub order-holds : (b : Bool) (x y : ℕ) → x ≤ y → b ≡ (b && leb x y)
 order-holds b x y h = rw (le-leb x y h) (sym (and-true b))
-
-pub ordered-none : (low high : List ℕ) → true ≡ (question8 0 low high).answer
-unfolding question8 numbers tabulate every
-ordered-none low high = refl
-
-pub ordered-next : (k : ℕ) (low high : List ℕ) → (question8 (k + 1) low high).answer ≡ ((question8 k low high).answer && leb (rank (get_or low k 0)) (rank (get_or high k 0)))
-unfolding question8
-ordered-next k low high = every-next (λ k. leb (rank (get_or low k 0)) (rank (get_or high k 0))) k
 
 -- ---- the values between two bounds
 
@@ -158,6 +150,9 @@ module _ (size top : ℕ) (low high lows highs : List ℕ) (i : Inside size top 
 
 -- ---- questions 6, 7 and 8
 
+abbrev pub InOrder : List ℕ → List ℕ → Type 0
+InOrder low high = (k : ℕ) → k < length low → rank (get_or low k 0) ≤ rank (get_or high k 0)
+
 module _ (size top : ℕ) (low high : List ℕ) where
   lengths-decide : ((question6 size (low ∷ high ∷ [])).answer ≡ true) ↔ ((length low ≡ size) × (length high ≡ size))
   lengths-decide =
@@ -177,21 +172,22 @@ module _ (size top : ℕ) (low high : List ℕ) where
     unfolding question7
     bounds-cells-no e = sym (past-lengths ∙ first_no-stop (question7 top (low ∷ high ∷ [])) _ e)
 
-    -- t is the answer to question 8
-    module _ (e : (question7 top (low ∷ high ∷ [])).answer ≡ true) (t : Bool) (ordered : t ≡ (question8 (length low) low high).answer) where
+    -- past question 7
+    module _ (e : (question7 top (low ∷ high ∷ [])).answer ≡ true) where
       past-cells : first_no (bounds_questions size top low high) ≡ first_no (question8 size low high ∷ [])
       past-cells = past-lengths ∙ first_no-pass (question7 top (low ∷ high ∷ [])) _ e
 
-      order-answer : (question8 size low high).answer ≡ t
-      order-answer = sym (rw sizes.0 at ordered)
-
-      pub bounds-order-no : t ≡ false → 8 ≡ first_no (bounds_questions size top low high)
+      pub bounds-order-no : (InOrder low high → ⊥) → 8 ≡ first_no (bounds_questions size top low high)
       unfolding question8
-      bounds-order-no f = sym (past-cells ∙ first_no-stop (question8 size low high) [] (order-answer ∙ f))
+      bounds-order-no f =
+          let e : (question8 size low high).answer ≡ false = rw (← sizes.0) (refuted (question8 (length low) low high).answer (order-asked (length low) low high) f) in
+          sym (past-cells ∙ first_no-stop (question8 size low high) [] e)
 
-      pub bounds-yes : t ≡ true → 0 ≡ first_no (bounds_questions size top low high)
+      pub bounds-yes : InOrder low high → 0 ≡ first_no (bounds_questions size top low high)
       unfolding first_no
-      bounds-yes f = sym (past-cells ∙ first_no-pass (question8 size low high) [] (order-answer ∙ f))
+      bounds-yes f =
+          let e : (question8 size low high).answer ≡ true = rw (← sizes.0) ((order-asked (length low) low high).1 f) in
+          sym (past-cells ∙ first_no-pass (question8 size low high) [] e)
 
 -- ---- the call
 
@@ -227,16 +223,15 @@ module _ (m n top : ℕ) (low high : List ℕ) where
     pub prune-size : m * n ≤ 128
     prune-size = size_fits m n limits.rows-limits.1 limits.column-limits.1
 
-    pub narrow-ready : (x y : List ℕ) → length x ≡ 128 → length y ≡ 128 →
-        NarrowSizes m n low high (take (m * n - 0) x) (take (m * n - 0) y) × Values (m * n) 15 (cell_at high)
+    pub narrow-ready : (x y : List ℕ) → length x ≡ m * n → length y ≡ m * n → NarrowSizes m n low high x y × Values (m * n) 15 (cell_at high)
     narrow-ready x y hx hy = (
       record {
         rows-limits = limits.rows-limits;
         column-limits = limits.column-limits;
         low-size = bounds.low-size;
         high-size = bounds.high-size;
-        new-low-size = part_length x (m * n) (omega (arith, prune-size));
-        new-high-size = part_length y (m * n) (omega (arith, prune-size));
+        new-low-size = hx;
+        new-high-size = hy;
       },
       (bounds-wider limits.top-limit bounds).high-cap,
     )
@@ -251,8 +246,7 @@ module _ (m n top : ℕ) (low high : List ℕ) where
     pub narrow-wrote : (t : Bool) (low' high' : List ℕ) → NarrowOutcome t m n low high low' high' → t ≡ true → Wrote m n top low high low' high'
     narrow-wrote t low' high' w f = record { asked = e; narrowed = rw f at w }
 
--- what narrow wrote stands at the beginning of two arrays, before x' and before y'
-module _ (m n top : ℕ) (low high low' high' : List ℕ) (w : Wrote m n top low high low' high') (x' y' : List ℕ) where
+module _ {m n top : ℕ} {low high low' high' : List ℕ} (w : Wrote m n top low high low' high') where
   some-row : 1 ≤ m
   some-row = (limits m n top low high w.asked).rows-limits.0
 
@@ -262,56 +256,29 @@ module _ (m n top : ℕ) (low high low' high' : List ℕ) (w : Wrote m n top low
   result : Narrowed m n top low high low' high'
   result = w.narrowed top old-bounds
 
-  new-sizes : (length low' ≡ m * n) × (length high' ≡ m * n)
-  new-sizes = (result.low-size ∙ old-bounds.low-size, result.high-size ∙ old-bounds.high-size)
+  pub sizes-fit : (length low ≡ length low') × (length high ≡ length high')
+  sizes-fit = (sym result.low-size, sym result.high-size)
 
-  abbrev low_part : List ℕ
-  low_part = take (m * n - 0) (low' ++ x')
-
-  abbrev high_part : List ℕ
-  high_part = take (m * n - 0) (high' ++ y')
-
-  low-part-is : low_part ≡ low'
-  low-part-is = part-is low' x' (m * n) new-sizes.0
-
-  high-part-is : high_part ≡ high'
-  high-part-is = part-is high' y' (m * n) new-sizes.1
-
-  pub parts_within : (m * n ≤ length (low' ++ x')) × (m * n ≤ length (high' ++ y'))
-  parts_within = (part-within low' x' (m * n) new-sizes.0, part-within high' y' (m * n) new-sizes.1)
-
-  low-part-size : length low_part ≡ length low
-  low-part-size = ap length low-part-is ∙ result.low-size
-
-  high-part-size : length high_part ≡ length high
-  high-part-size = ap length high-part-is ∙ result.high-size
-
-  pub parts-fit : (length low ≡ length low_part) × (length high ≡ length high_part)
-  parts-fit = (sym low-part-size, sym high-part-size)
-
-  parts-inside : (cap : ℕ) → top ≤ cap → Inside (length low) cap low high low_part high_part
-  parts-inside cap h =
+  inside : (cap : ℕ) → top ≤ cap → Inside (length low) cap low high low' high'
+  inside cap h =
       let b = bounds-wider h old-bounds in
-      rw (old-bounds.low-size, low-part-is, high-part-is) (narrowed-inside m n cap low high some-row b low' high' (w.narrowed cap b))
+      rw old-bounds.low-size (narrowed-inside m n cap low high some-row b low' high' (w.narrowed cap b))
 
-  pub removed-ready : (length low ≤ 128) × Inside (length low) 15 low high low_part high_part
-  removed-ready = (omega (arith, old-bounds.low-size, prune-size m n top low high w.asked), parts-inside 15 (limits m n top low high w.asked).top-limit)
+  pub removed-ready : (length low ≤ 128) × Inside (length low) 15 low high low' high'
+  removed-ready = (omega (arith, old-bounds.low-size, prune-size m n top low high w.asked), inside 15 (limits m n top low high w.asked).top-limit)
 
-  pub prune-some : (count : ℕ) (lows highs : List ℕ) →
-      ((cap : ℕ) → Inside (length low) cap low high low_part high_part → count ≡ removed_by (length low) cap low high low_part high_part) →
-      lows ≡ low_part → highs ≡ high_part →
-      Prunes m n top low high (pruned_to 0 count lows highs)
-  prune-some count lows highs counted cl ch = prunes m n top low high _ (rw (ec, el, eh) (sym (pruned-some m n top low high w.asked obeyed)))
+  pub prune-some : {count : ℕ} → ((cap : ℕ) → Inside (length low) cap low high low' high' → count ≡ removed_by (length low) cap low high low' high') →
+      Prunes m n top low high (pruned_to 0 count low' high')
+  prune-some {count} counted = prunes m n top low high _ (rw (ec, el, eh) (sym (pruned-some m n top low high w.asked obeyed)))
     where
       obeyed : Obeyed (Allperm m n) (m * n) top low high
       obeyed = (narrowed-obeyed m n top low high some-row old-bounds).0 result.leads
 
       ec : count ≡ removed (allperm m n) (m * n) top low high
-      ec = counted top (parts-inside top (omega arith)) ∙ rw (old-bounds.low-size, low-part-is, high-part-is)
-          (sym (narrowed-removed m n top low high some-row old-bounds low' high' result))
+      ec = counted top (inside top (omega arith)) ∙ rw old-bounds.low-size (sym (narrowed-removed m n top low high some-row old-bounds low' high' result))
 
-      el : lows ≡ kept_low (allperm m n) (m * n) top low high
-      el = cl ∙ low-part-is ∙ sym (narrowed_low m n top low high some-row old-bounds low' high' result)
+      el : low' ≡ kept_low (allperm m n) (m * n) top low high
+      el = sym (narrowed_low m n top low high some-row old-bounds low' high' result)
 
-      eh : highs ≡ kept_high (allperm m n) (m * n) top low high
-      eh = ch ∙ high-part-is ∙ sym (narrowed-high m n top low high some-row old-bounds low' high' result)
+      eh : high' ≡ kept_high (allperm m n) (m * n) top low high
+      eh = sym (narrowed-high m n top low high some-row old-bounds low' high' result)

@@ -12,7 +12,7 @@ use borrow.Author.Tests.{lt-ltb, le-ltb}
 use Rattle.grids.specs.Neighbours.{IsNext}
 use Rattle.grids.specs.Order.{rank}
 use Rattle.grids.proofs.OrderLaws.{rank-antisymm}
-use Rattle.bounds.specs.declared.rows.RowLows.{RowLows}
+use Rattle.bounds.specs.declared.lows.RowLows.{RowLows}
 use Rattle.bounds.specs.Rows.{put, Values, Leads, IsSorted, AgreeTo, NoLater, Parted, Threshold, low_for, IsLows}
 use Rattle.bounds.proofs.LeadsLaws.{sorted-value}
 use Rattle.bounds.proofs.InsertedLaws.{Spot, spot-value}

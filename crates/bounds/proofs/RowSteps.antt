@@ -1,39 +1,31 @@
 -- The steps of the code that prunes row 0 with another row.
 --
---   agree-more       ==  two rows that agree up to a column, and at it, agree up to the next
 --   LoweredTo c x h h'  ==  the highs h of row 0 have become its lows x before column c, and are as they were from there on
---   lowered_none, lowered-next  ==  at first, and a column further
+--   lowered-copied   ==  so they have where the lows before column c are copied
 --   lowered-all, lowered-capped  ==  the highs where the rows do not part, and where they do
---   raised-next      ==  the new lows, a column further
 --   sorted-within    ==  the values of a sorted row are those of the row
 --   row-none, row-pruned  ==  what is said of the two rows, by whether the lows of row 0 lead the highs of the other
 --   agree-decided    ==  whether a row comes no later than another, by the column up to which they agree
 --   below-decided, under-later  ==  what the code finds at a column
 --   parted-at, above_at  ==  where two rows part, and which of them is above
-use mathlib.Core.Path.{◌≡◌, refl, ap, ◌∙◌}
-use mathlib.Core.List.{List}
+use mathlib.Core.Path.{◌≡◌, ap, ◌∙◌}
+use mathlib.Core.List.{List, ◌++◌}
 use mathlib.Core.Bool.{Bool, true, false}
 use Prim.Native.Nat.{ℕ, ◌+◌, ◌-◌, ◌≤◌, ◌<◌}
-use native.Mathlib.Decide.{ℕ_discrete, dec_lt}
+use native.Mathlib.Decide.{dec_lt}
 use native.Mathlib.Omega.{arith}
 use lib.Dec.{ltb}
-use lib.ListN.{length, set, length-set}
-use lib.Seq.{get_or-set_same, get_or-set_other}
+use lib.ListN.{length, set, take, drop, get_or-append, length-append}
+use lib.Seq.{get_or-set_same, get_or-set_other, get_or-take, get_or-drop, get_or-append-add, length-take-le}
+use Rattle.std.proofs.lemmas.List.{length-drop}
 use borrow.Author.Tests.{lt-ltb, le-ltb}
 use Rattle.grids.specs.Order.{rank}
 use Rattle.grids.proofs.OrderLaws.{rank-antisymm}
-use Rattle.bounds.specs.declared.rows.RowLows.{RowLows}
-use Rattle.bounds.specs.Rows.{cell_at, Values, IsSorted, AgreeTo, SaysBelow, SaysUnder, NoLater, SaysNoLater, Parted, higher, lower, low_for, IsLows, RaisedTo, IsCap, IsHighs, RowOutcome}
+use Rattle.bounds.specs.declared.lows.RowLows.{RowLows}
+use Rattle.bounds.specs.Rows.{cell_at, Values, IsSorted, AgreeTo, SaysBelow, SaysUnder, NoLater, SaysNoLater, Parted, lower, IsLows, RaisedTo, IsCap, IsHighs, RowOutcome}
 use Rattle.bounds.proofs.LeadsLaws.{leads-sorted, agree_same, agree_differ, agree-no-later}
 use Rattle.bounds.proofs.ThresholdLaws.{parted-leads}
 use Rattle.bounds.proofs.CapLaws.{highs-lowered, lows-raised}
-
-pub agree-more : (u v : ℕ → ℕ) (from t : ℕ) → ((j : ℕ) → from ≤ j → j < t → u j ≡ v j) → u t ≡ v t → (j : ℕ) → from ≤ j → j < t + 1 → u j ≡ v j
-agree-more u v from t h e j fj jt = go (ℕ_discrete j t)
-  where
-    go : Dec (j ≡ t) → u j ≡ v j
-    go (yes d) = rw d e
-    go (no ne) = h j fj (omega arith)
 
 module _ {n : ℕ} {x s : ℕ → ℕ} {from at : ℕ} (g : AgreeTo n x s 0 from at) where
   pub agree-decided : (b : Bool) → SaysBelow b n x s 0 at → SaysNoLater b n x s from
@@ -75,21 +67,19 @@ pub record LoweredTo (c : ℕ) (x h h' : List ℕ) : Type 0 where
   pub done : (j : ℕ) → j < c → cell_at h' j ≡ cell_at x j
   pub rest : (j : ℕ) → c ≤ j → cell_at h' j ≡ cell_at h j
 
-pub lowered_none : (x h : List ℕ) → LoweredTo 0 x h h
-lowered_none x h = record { size = refl; done = λ j b. absurd (omega arith); rest = λ j b. refl }
+pub lowered-copied : (c : ℕ) (x h : List ℕ) → c ≤ length x → c ≤ length h → LoweredTo c x h (take c x ++ drop c h)
+lowered-copied c x h cx ch = record {
+  size = omega (arith, length-append (take c x) (drop c h), front, length-drop c h);
+  done = λ j b. get_or-append (take c x) (drop c h) 0 j (omega (arith, front)) ∙ get_or-take c x j 0 b;
+  rest = λ j b.
+      let q : c + (j - c) ≡ j = omega arith in
+      rw q at (rw front at (get_or-append-add (take c x) (drop c h) (j - c) 0) ∙ get_or-drop c h (j - c) 0);
+}
+  where
+    front : length (take c x) ≡ c
+    front = length-take-le c x cx
 
 module _ {c : ℕ} {x h h' : List ℕ} (l : LoweredTo c x h h') where
-  pub lowered-next : c < length h → LoweredTo (c + 1) x h (set h' c (cell_at x c))
-  lowered-next b = record {
-    size = length-set h' c _ ∙ l.size;
-    done = λ j k. go j k (ℕ_discrete j c);
-    rest = λ j k. get_or-set_other h' c j _ 0 (omega arith) ∙ l.rest j (omega arith);
-  }
-    where
-      go : (j : ℕ) → j < c + 1 → Dec (j ≡ c) → cell_at (set h' c (cell_at x c)) j ≡ cell_at x j
-      go j k (yes e) = rw e (get_or-set_same h' c (cell_at x c) 0 (omega (arith, l.size)))
-      go j k (no ne) = get_or-set_other h' c j _ 0 ne ∙ l.done j (omega arith)
-
   module _ {n : ℕ} {s : ℕ → ℕ} (d : Parted n (cell_at x) s c) where
     pub lowered-all : n ≤ c → IsHighs n (cell_at x) s (cell_at h) (cell_at h')
     lowered-all nc = highs-lowered d (cell_at h) (cell_at h') l.done (λ cn. absurd (omega arith)) (λ j cj jn. absurd (omega arith))
@@ -102,27 +92,18 @@ module _ {c : ℕ} {x h h' : List ℕ} (l : LoweredTo c x h h') where
 
 -- ---- the lows of the other row, and both rows
 
-pub raised-next : (z : RowLows) (l y l' : List ℕ) (c v : ℕ) → c < length l' → RaisedTo c z (cell_at l) (cell_at y) (cell_at l') → v ≡ higher (cell_at l c) (low_for z (cell_at y c)) →
-    RaisedTo (c + 1) z (cell_at l) (cell_at y) (cell_at (set l' c v))
-unfolding RaisedTo
-raised-next z l y l' c v b h e j jc = go (ℕ_discrete j c)
-  where
-    go : Dec (j ≡ c) → cell_at (set l' c v) j ≡ higher (cell_at l j) (low_for z (cell_at y j))
-    go (yes d) = rw d (get_or-set_same l' c v 0 b ∙ e)
-    go (no ne) = get_or-set_other l' c j v 0 ne ∙ h j (omega arith)
-
 pub sorted-within : {n : ℕ} {y s : ℕ → ℕ} (top : ℕ) → IsSorted n y s → Values n top y → Values n top s
 sorted-within top o yv t tn = rw (o.values t tn) (yv _ (o.permutation.within t tn))
 
-module _ {n : ℕ} {x y s : ℕ → ℕ} {at : ℕ} (o : IsSorted n y s) (g : AgreeTo n x s 0 0 at) where
-  pub row-none : (l h h' l' : ℕ → ℕ) → SaysBelow false n x s 0 at → RowOutcome false n x l y h h' l'
+module _ {n : ℕ} {y s : ℕ → ℕ} (o : IsSorted n y s) (x : ℕ → ℕ) where
+  pub row-none : (l h h' l' : ℕ → ℕ) → SaysNoLater false n x s 0 → RowOutcome false n x l y h h' l'
   unfolding RowOutcome SaysNoLater
-  row-none l h h' l' b k = agree-decided g false b ((leads-sorted x o).0 k)
+  row-none l h h' l' b k = b ((leads-sorted x o).0 k)
 
-  pub row-pruned : (z : RowLows) (l h h' l' : ℕ → ℕ) → SaysBelow true n x s 0 at → IsLows n x s z → RaisedTo n z l y l' → IsHighs n x s h h' → RowOutcome true n x l y h h' l'
+  pub row-pruned : {at : ℕ} (p : Parted n x s at) (z : RowLows) (l h h' l' : ℕ → ℕ) → IsLows n x s z → RaisedTo n z l y l' → IsHighs n x s h h' → RowOutcome true n x l y h h' l'
   unfolding RowOutcome IsHighs
-  row-pruned z l h h' l' b lows raised highs top xv lv yv hv ordered = record {
-    leads = parted-leads (parted-at g b) o;
+  row-pruned p z l h h' l' lows raised highs top xv lv yv hv ordered = record {
+    leads = parted-leads p o;
     raised = lows-raised z lows top y l l' raised xv (sorted-within top o yv) lv o;
     lowered = highs top y xv (sorted-within top o yv) hv ordered o;
   }

@@ -23,14 +23,14 @@
 --   Raised Rule n top y l l'      ==  of the values from l up to y's in a column, the rule allows exactly those that rank no lower than l'
 --   Lowered Rule n top x h h'      ==  of the values from x's up to h in a column, the rule allows exactly those that rank no higher than h'
 --   IsHighs n x s h h'            ==  where s is y sorted, x leads y with the values up to h in a column exactly if they rank no higher than h'
---   RowSizes n low high highs lows  ==  the slices of a row have its length, 1 to 16
+--   RowSizes n high highs lows  ==  the slices of a row have its length, 1 to 16
 --   RowPruned n top x l y h h' l' ==  x leads y; the lows l of y's row become l', and the highs h of x's row become h'
 --   RowOutcome b n x l y h h' l'  ==  b tells whether x leads y, and if it does, the row is pruned
 use Rattle.std.specs.Prelude.{◌≡◌, List, Bool, true, false, ◌↔◌, ℕ, ◌-◌, ◌≤◌, ◌<◌, length, get_or, eqb, ltb}
 use Rattle.permutations.specs.Lists.{tabulate}
 use Rattle.permutations.specs.Permutations.{IsPermutation}
 use Rattle.grids.specs.Order.{rank, ◌≼◌}
-use Rattle.bounds.specs.declared.rows.RowLows.{RowLows}
+use Rattle.bounds.specs.declared.lows.RowLows.{RowLows}
 
 abbrev pub cell_at : List ℕ → ℕ → ℕ
 cell_at l j = get_or l j 0
@@ -128,10 +128,9 @@ IsHighs n x s h h' =
 
 -- ---- both
 
-pub record RowSizes (n : ℕ) (low high highs lows : List ℕ) : Type 0 where
+pub record RowSizes (n : ℕ) (high highs lows : List ℕ) : Type 0 where
   pub some : 0 < n
   pub limit : n ≤ 16
-  pub low-size : length low ≡ n
   pub high-size : length high ≡ n
   pub highs-size : length highs ≡ n
   pub lows-size : length lows ≡ n

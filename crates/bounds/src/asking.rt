@@ -12,16 +12,10 @@ use refusals::{Asked, Refusal};
 pub fn ask_bounds(size: usize, top: usize, low: &[u8], high: &[u8]) -> Asked
     ensures { asked_number result ≡ first_no (bounds_questions size top low.now high.now) }
 {
-    if low.len() != size {
+    if low.len() != size || high.len() != size {
         return Asked::No(Refusal::Length);
     }
-    if high.len() != size {
-        return Asked::No(Refusal::Length);
-    }
-    if !questions::is_capped(low, top) {
-        return Asked::No(Refusal::Cell);
-    }
-    if !questions::is_capped(high, top) {
+    if !questions::is_capped(low, top) || !questions::is_capped(high, top) {
         return Asked::No(Refusal::Cell);
     }
     if !order::is_ordered(low, high) {

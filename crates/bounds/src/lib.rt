@@ -2,8 +2,10 @@
 #![tactic(auto)]
 
 pub mod asking;
+mod lows;
 mod order;
 pub mod prune;
+mod ranks;
 mod rows;
 mod sorting;
 mod values;

@@ -53,20 +53,17 @@ fn narrow(m: usize, n: usize, low: &[u8], high: &[u8], lows: &mut [u8], highs: &
 {
     lows.copy_from_slice(low);
     highs.copy_from_slice(high);
-    let mut i = 1;
-    while i < m {
+    for i in 1..m {
         let start = i * n;
         let end = start + n;
         if !rows::prune_row(
-            &low[0..n],
-            &low[start..end],
+            &low[..n],
             &high[start..end],
-            &mut highs[0..n],
+            &mut highs[..n],
             &mut lows[start..end],
         ) {
             return false;
         }
-        i += 1;
     }
     true
 }
@@ -84,12 +81,14 @@ pub fn prune(m: usize, n: usize, top: usize, low: &mut [u8], high: &mut [u8]) ->
         return Pruning::Refused(refusal);
     }
     let mut lows = [0u8; 128];
+    let lows = &mut lows[..size];
     let mut highs = [0u8; 128];
-    if !narrow(m, n, low, high, &mut lows[0..size], &mut highs[0..size]) {
+    let highs = &mut highs[..size];
+    if !narrow(m, n, low, high, lows, highs) {
         return Pruning::NoGrid;
     }
-    let count = values::removed(low, high, &lows[0..size], &highs[0..size]);
-    low.copy_from_slice(&lows[0..size]);
-    high.copy_from_slice(&highs[0..size]);
+    let count = values::removed(low, high, lows, highs);
+    low.copy_from_slice(lows);
+    high.copy_from_slice(highs);
     Pruning::Removed(count)
 }

@@ -1,196 +1,166 @@
 // Row 0 and another row: what the lows of row 0 and the highs of the other leave to each other. By document 000, once the leading
 // columns where row 0's lows and the sorted highs agree are passed, row 0 loses values from above and the other row from below.
-ghost use Rattle.std.specs.Prelude.{◌≡◌, ◌≤◌, ◌<◌, length};
-ghost use Rattle.bounds.specs.Rows.{cell_at, Values, AgreeTo, SaysBelow, SaysNoLater, SaysUnder, Parted, higher, lower, low_for, IsLows, IsCap, RaisedTo, IsHighs, RowSizes, RowOutcome};
+ghost use Rattle.std.specs.Prelude.{◌≡◌, ◌≤◌, ◌<◌, false, length, MatchOption};
+ghost use Rattle.bounds.specs.Rows.{cell_at, Values, AgreeTo, SaysBelow, SaysNoLater, SaysUnder, Parted, IsCap, IsLows, IsHighs, RowSizes, RowOutcome};
 
-use crate::sorting;
+use crate::lows::RowLows;
+use crate::{ranks, sorting};
 use grids::cells;
 
-// The lowest values that a row allows, by a cell's high: the high itself below `floor`, `least` from there on, `raised` from `limit` on.
+// The lows of row 0 beside the sorted highs of another row.
 #[derive(Clone, Copy)]
-pub struct RowLows {
-    pub floor: u8,
-    pub limit: u8,
-    pub least: u8,
-    pub raised: u8,
+pub struct Rows<'a> {
+    pub lows: &'a [u8],
+    pub sorted: [u8; 16],
+    ghost short: { length lows.now ≤ 16 },
 }
 
-// The one of two values that ranks higher.
-fn higher(a: u8, b: u8) -> u8
-    ensures { result ≡ higher a b }
-{
-    if cells::rank(a) < cells::rank(b) {
-        b
-    } else {
-        a
-    }
-}
-
-// The one of two values that ranks lower.
-fn lower(a: u8, b: u8) -> u8
-    ensures { result ≡ lower a b }
-{
-    if cells::rank(b) < cells::rank(a) {
-        b
-    } else {
-        a
-    }
-}
-
-// The first column from `from` on at which x differs from the sorted row at `shift` columns before; the length of x if none does.
-fn agreement(x: &[u8], sorted: &[u8; 16], shift: usize, from: usize) -> usize
-    requires { (length x.now ≤ 16) × (shift ≤ from) × (from ≤ length x.now) }
-    ensures { AgreeTo (length x.now) (cell_at x.now) (cell_at sorted.now) shift from result }
-{
-    let mut t = from;
-    while t < x.len() {
-        if x[t] != sorted[t - shift] {
-            return t;
+impl<'a> Rows<'a> {
+    // The end of the columns, from `from` on, in which the lows equal the sorted row at `shift` columns before. An end, as of a slice, and
+    // no Option: where they equal it in all it is how many columns there are.
+    fn agreement(&self, shift: usize, from: usize) -> usize
+        requires { (shift ≤ from) × (from ≤ length self.now.lows.now) }
+        ensures { AgreeTo (length self.now.lows.now) (cell_at self.now.lows.now) (cell_at self.now.sorted) shift from result }
+    {
+        for t in from..self.lows.len() {
+            if self.lows[t] != self.sorted[t - shift] {
+                return t;
+            }
         }
-        t += 1;
+        self.lows.len()
     }
-    t
-}
 
-// Whether x ends before a column, or has there a value that ranks below the sorted row's at `shift` columns before.
-fn is_below(x: &[u8], sorted: &[u8; 16], shift: usize, at: usize) -> bool
-    requires { (length x.now ≤ 16) × (shift ≤ at) }
-    ensures { SaysBelow result (length x.now) (cell_at x.now) (cell_at sorted.now) shift at }
-{
-    if x.len() <= at {
-        return true;
+    // Whether the lows end before a column, or have there a value that ranks below the sorted row's at `shift` columns before.
+    #[tactic(auto, unfolding(crate::specs::Rows::SaysBelow))]
+    fn is_below(&self, shift: usize, at: usize) -> bool
+        requires { shift ≤ at }
+        ensures { SaysBelow result (length self.now.lows.now) (cell_at self.now.lows.now) (cell_at self.now.sorted) shift at }
+    {
+        self.lows.len() <= at || cells::rank(self.lows[at]) < cells::rank(self.sorted[at - shift])
     }
-    cells::rank(x[at]) < cells::rank(sorted[at - shift])
-}
 
-// Whether x, compared from a column on, comes no later than the sorted row.
-fn is_no_later(x: &[u8], sorted: &[u8; 16], from: usize) -> bool
-    requires { (length x.now ≤ 16) × (from ≤ length x.now) }
-    ensures { SaysNoLater result (length x.now) (cell_at x.now) (cell_at sorted.now) from }
-{
-    let at = agreement(x, sorted, 0, from);
-    is_below(x, sorted, 0, at)
-}
-
-// The highest value that row 0 may have at the first column where its lows x and the other row's sorted highs differ.
-fn cap(x: &[u8], sorted: &[u8; 16], at: usize) -> u8
-    requires { (length x.now ≤ 16) × (at < length x.now) × Parted (length x.now) (cell_at x.now) (cell_at sorted.now) at }
-    ensures { IsCap (length x.now) (cell_at x.now) (cell_at sorted.now) at result }
-{
-    let highest = sorted[at];
-    if is_no_later(x, sorted, at + 1) {
-        return highest;
+    // Whether the lows, compared from a column on, come no later than the sorted row.
+    fn is_no_later(&self, from: usize) -> bool
+        requires { from ≤ length self.now.lows.now }
+        ensures { SaysNoLater result (length self.now.lows.now) (cell_at self.now.lows.now) (cell_at self.now.sorted) from }
+    {
+        self.is_below(0, self.agreement(0, from))
     }
-    cells::previous(highest)
-}
 
-// Lowers the highs of row 0: before column `at` to its lows, and at it to the cap.
-fn lower_highs(x: &[u8], sorted: &[u8; 16], at: usize, highs: &mut [u8])
-    requires { (length x.now ≤ 16) × (length highs.old ≡ length x.now) × Parted (length x.now) (cell_at x.now) (cell_at sorted.now) at }
-    ensures { IsHighs (length x.now) (cell_at x.now) (cell_at sorted.now) (cell_at highs.old) (cell_at highs.new) }
-{
-    let mut c = 0;
-    while c < at {
-        highs[c] = x[c];
-        c += 1;
-    }
-    if at < x.len() {
-        highs[at] = lower(highs[at], cap(x, sorted, at));
+    // The rows parted, where the lows come no later than the sorted row.
+    fn parting(self) -> Option<Parting<'a>>
+        ensures { MatchOption result (SaysNoLater false (length self.entry.lows.now) (cell_at self.entry.lows.now) (cell_at self.entry.sorted) 0) (λ p. p.rows ≡ self.entry) }
+    {
+        let at = self.agreement(0, 0);
+        if self.is_below(0, at) {
+            Some(Parting { rows: self, at })
+        } else {
+            None
+        }
     }
 }
 
-// Whether the sorted row has, just before a column, a value above x's at that column; so too where x ends before it.
-fn is_under(x: &[u8], sorted: &[u8; 16], at: usize) -> bool
-    requires { (length x.now ≤ 16) × (0 < length x.now) }
-    ensures { SaysUnder result (length x.now) (cell_at x.now) (cell_at sorted.now) at }
-{
-    if at == 0 {
-        return false;
-    }
-    is_below(x, sorted, 1, at)
+// Rows of which the lows come no later than the sorted highs, and the first column where they differ; how many columns there are if
+// none does.
+#[derive(Clone, Copy)]
+pub struct Parting<'a> {
+    pub rows: Rows<'a>,
+    pub at: usize,
+    ghost parted: { Parted (length rows.lows.now) (cell_at rows.lows.now) (cell_at rows.sorted) at },
 }
 
-// What the lows x of row 0 ask of the other row, by the first column where x and the other row's sorted highs differ.
-fn row_lows(x: &[u8], sorted: &[u8; 16], at: usize) -> RowLows
-    requires { (length x.now ≤ 16) × (0 < length x.now) × Values (length x.now) 15 (cell_at sorted.now) × Parted (length x.now) (cell_at x.now) (cell_at sorted.now) at }
-    ensures { IsLows (length x.now) (cell_at x.now) (cell_at sorted.now) result }
-{
-    if is_under(x, sorted, at) {
-        let last = sorted[at - 1];
-        return RowLows {
-            floor: last,
-            limit: last,
-            least: last,
-            raised: last,
+impl Parting<'_> {
+    // The highest value that row 0 may have at the column where the rows differ.
+    fn cap(&self) -> u8
+        requires { self.now.at < length self.now.rows.lows.now }
+        ensures { IsCap (length self.now.rows.lows.now) (cell_at self.now.rows.lows.now) (cell_at self.now.rows.sorted) self.now.at result }
+    {
+        let highest = self.rows.sorted[self.at];
+        if self.rows.is_no_later(self.at + 1) {
+            highest
+        } else {
+            cells::previous(highest)
+        }
+    }
+
+    // Lowers the highs of row 0: before the column where the rows differ to its lows, and at it to the cap.
+    fn lower_highs(&self, highs: &mut [u8])
+        requires { length highs.old ≡ length self.now.rows.lows.now }
+        ensures { IsHighs (length self.now.rows.lows.now) (cell_at self.now.rows.lows.now) (cell_at self.now.rows.sorted) (cell_at highs.old) (cell_at highs.new) }
+    {
+        let at = self.at;
+        highs[..at].copy_from_slice(&self.rows.lows[..at]);
+        if at < highs.len() {
+            highs[at] = ranks::lower(highs[at], self.cap());
+        }
+    }
+
+    // Whether the sorted row has, just before the column where the rows differ, a value above the lows' at that column; so too where the
+    // lows end before it.
+    #[tactic(auto, unfolding(crate::specs::Rows::SaysUnder, crate::specs::Rows::SaysBelow))]
+    fn is_under(&self) -> bool
+        requires { 0 < length self.now.rows.lows.now }
+        ensures { SaysUnder result (length self.now.rows.lows.now) (cell_at self.now.rows.lows.now) (cell_at self.now.rows.sorted) self.now.at }
+    {
+        self.at != 0 && self.rows.is_below(1, self.at)
+    }
+
+    // What the lows of row 0 ask of the other row.
+    #[tactic(auto, unfolding(crate::specs::Rows::SaysUnder, crate::specs::Rows::SaysBelow))]
+    fn row_lows(&self) -> RowLows
+        requires { (0 < length self.now.rows.lows.now) × Values (length self.now.rows.lows.now) 15 (cell_at self.now.rows.sorted) }
+        ensures { IsLows (length self.now.rows.lows.now) (cell_at self.now.rows.lows.now) (cell_at self.now.rows.sorted) result }
+    {
+        let Rows { lows, sorted } = self.rows;
+        let at = self.at;
+        if self.is_under() {
+            let last = sorted[at - 1];
+            return RowLows {
+                floor: last,
+                limit: last,
+                least: last,
+                raised: last,
+            };
+        }
+        let least = lows[at];
+        let floor = sorted[at];
+        let end = self.rows.agreement(1, at + 1);
+        if self.rows.is_below(1, end) {
+            return RowLows {
+                floor,
+                limit: floor,
+                least,
+                raised: least,
+            };
+        }
+        let limit = if self.rows.is_no_later(end) {
+            sorted[end]
+        } else {
+            sorted[end - 1]
         };
-    }
-    let least = x[at];
-    let floor = sorted[at];
-    let end = agreement(x, sorted, 1, at + 1);
-    if is_below(x, sorted, 1, end) {
-        return RowLows {
+        RowLows {
             floor,
-            limit: floor,
+            limit,
             least,
-            raised: least,
-        };
-    }
-    let raised = cells::next(least);
-    if is_no_later(x, sorted, end) {
-        return RowLows {
-            floor,
-            limit: sorted[end],
-            least,
-            raised,
-        };
-    }
-    RowLows {
-        floor,
-        limit: sorted[end - 1],
-        least,
-        raised,
+            raised: cells::next(least),
+        }
     }
 }
 
-// The lowest value that a row allows where the high is y.
-fn low_for(lows: RowLows, y: u8) -> u8
-    ensures { result ≡ low_for lows y }
+// Prunes row 0 and another row, of one length: x has the lows of row 0, and `highs` its highs, which are lowered; `high` has the highs
+// of the other row, and `lows` its lows, which are raised. False where x leads no row within the bounds.
+pub fn prune_row(x: &[u8], high: &[u8], highs: &mut [u8], lows: &mut [u8]) -> bool
+    requires { RowSizes (length x.now) high.now highs.old lows.old × Values (length x.now) 15 (cell_at high.now) }
+    ensures { RowOutcome result (length x.now) (cell_at x.now) (cell_at lows.old) (cell_at high.now) (cell_at highs.old) (cell_at highs.new) (cell_at lows.new) }
 {
-    let rank = cells::rank(y);
-    if rank < cells::rank(lows.floor) {
-        return y;
-    }
-    if rank < cells::rank(lows.limit) {
-        return lows.least;
-    }
-    lows.raised
-}
-
-// Writes the new lows of a row: the old one, or the lowest value that the row allows, whichever is higher.
-fn raise_lows(allowed: RowLows, low: &[u8], high: &[u8], lows: &mut [u8])
-    requires { (length high.now ≡ length low.now) × (length lows.old ≡ length low.now) }
-    ensures { RaisedTo (length low.now) allowed (cell_at low.now) (cell_at high.now) (cell_at lows.new) }
-{
-    let mut c = 0;
-    while c < low.len() {
-        lows[c] = higher(low[c], low_for(allowed, high[c]));
-        c += 1;
-    }
-}
-
-// Prunes row 0 and another row, of one length: x has the lows of row 0, and `highs` its highs, which are lowered; `low` and
-// `high` have the bounds of the other row, whose new lows are written to `lows`. False where x leads no row within the bounds.
-pub fn prune_row(x: &[u8], low: &[u8], high: &[u8], highs: &mut [u8], lows: &mut [u8]) -> bool
-    requires { RowSizes (length x.now) low.now high.now highs.old lows.old × Values (length x.now) 15 (cell_at high.now) }
-    ensures { RowOutcome result (length x.now) (cell_at x.now) (cell_at low.now) (cell_at high.now) (cell_at highs.old) (cell_at highs.new) (cell_at lows.new) }
-{
-    let sorted = sorting::sorted(high);
-    let at = agreement(x, &sorted, 0, 0);
-    if !is_below(x, &sorted, 0, at) {
+    let rows = Rows {
+        lows: x,
+        sorted: sorting::sorted(high),
+    };
+    let Some(parting) = rows.parting() else {
         return false;
-    }
-    let allowed = row_lows(x, &sorted, at);
-    lower_highs(x, &sorted, at, highs);
-    raise_lows(allowed, low, high, lows);
+    };
+    parting.lower_highs(highs);
+    parting.row_lows().raise(high, lows);
     true
 }

@@ -9,7 +9,7 @@ fn span(low: u8, high: u8) -> u32
     requires { rank low ≤ rank high }
     ensures { (top : ℕ) → low ≤ top → high ≤ top → result ≡ length (between top low high) }
 {
-    (high - low) as u32 + 1
+    u32::from(high - low) + 1
 }
 
 // How many values new bounds within the old ones leave out, summed over the cells.
@@ -18,10 +18,9 @@ pub fn removed(low: &[u8], high: &[u8], lows: &[u8], highs: &[u8]) -> u32
     ensures { (top : ℕ) → Inside (length low.now) top low.now high.now lows.now highs.now → result ≡ removed_by (length low.now) top low.now high.now lows.now highs.now }
 {
     let mut count = 0;
-    let mut k = 0;
-    while k < low.len() {
+    // four slices side by side: an index says so in fewer words than three zips
+    for k in 0..low.len() {
         count += span(low[k], high[k]) - span(lows[k], highs[k]);
-        k += 1;
     }
     count
 }

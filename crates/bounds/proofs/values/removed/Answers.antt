@@ -7,7 +7,7 @@ use Rattle.bounds.proofs.values.removed.Goals as goal
 use Rattle.bounds.proofs.values.removed.Goals.{After-span-in-loop-k}
 
 pub loop-k-init : goal.loop-k-init
-loop-k-init c = record { within = omega arith; few = omega arith; counted = λ top i. removed-at-first _ _ _ _ _ }
+loop-k-init c = record { few = omega arith; counted = λ top i. removed-at-first _ _ _ _ _ }
 
 pub span-requires : goal.span-requires
 span-requires c = c.requires.1.old.in_order c.loop-k.k (omega arith)
@@ -31,7 +31,6 @@ pub loop-k-preserved : goal.loop-k-preserved
 loop-k-preserved c =
     let l = c.loop-k in
     record {
-      within = omega arith;
       few = omega (arith, falls ((goal.at.loop-k-preserved c).After-span-in-loop-k), l.invariant.few);
       counted = λ top h. cell-removed _ top _ _ _ _ h l.k _ _ (omega arith) c.span.ensures c.span-in-loop-k.ensures _ (l.invariant.counted top h);
     }
@@ -39,5 +38,5 @@ loop-k-preserved c =
 pub returns : goal.returns
 returns c top h =
     let i = c.loop-k.invariant in
-    let e : c.loop-k.k ≡ length c.args.low.now = omega (arith, i.within) in
+    let e : c.loop-k.k ≡ length c.args.low.now = omega arith in
     i.counted top h ∙ rw e

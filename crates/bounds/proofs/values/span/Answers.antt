@@ -2,8 +2,8 @@
 use Rattle.bounds.proofs.PruneSteps.{span_counts}
 use Rattle.bounds.proofs.values.span.Goals as goal
 
-pub overflow_sub-result : goal.overflow_sub-result
-overflow_sub-result c = (span_counts _ _ c.requires).0
+pub overflow_sub-high : goal.overflow_sub-high
+overflow_sub-high c = (span_counts _ _ c.requires).0
 
 pub returns : goal.returns
-returns c = (span_counts _ _ c.requires).1
+returns c = rw c.from.ensures (span_counts _ _ c.requires).1
