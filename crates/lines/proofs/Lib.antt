@@ -2,7 +2,6 @@ pub mod ByteLaws
 pub mod EqualityLaws
 pub mod FieldLaws
 pub mod FillLaws
-pub mod FirstLaws
 pub mod HeadLaws
 pub mod HoldingLaws
 pub mod LineLaws

@@ -1,13 +1,17 @@
 -- Numbers read and written byte by byte.
 --
 --   digit-space, digit-other  ==  what a space, and any other byte, does to the number before it
---   read-three                ==  three bytes read one after another, after a number
---   number-three, number-six  ==  three bytes, and twice three bytes, so read are the number that they state
+--   ReadTo s k x              ==  x is the number that the first k bytes of s state
+--   read-none, read-room, read-next, read-all  ==  no byte; a digit more has room; a byte more; all of them
+--   lent w at b, length-lent  ==  the w bytes from a place on; how many they are
+--   number-lent               ==  the number that they state, as read from them
 --   no_field                  ==  a field without a place
 --   lead-none, lead-some      ==  the last place of a number of which nothing is left, and of another
 --   Written x w k y o         ==  the field of x, w wide, is written into o from place k on; y is what is left of x before k
 --   written_last, written_next, written_all  ==  its last digit is written; one digit more; all of them
-use Rattle.std.proofs.Common.{◌≡◌, ℕ, zero, suc, ◌+◌, ◌-◌, ◌*◌, ◌/◌, ◌%◌, ◌<◌, ◌≤◌, List, [], ◌∷◌, ◌++◌, length, get_or, take, drop, set, sym, refl, ap, ◌∙◌, append_assoc, arith, length-set, drop_of_length-le, drop-cons, get_or-set_same, drop-drop, drop-set-lt, take-add, ne_eqb}
+use Rattle.std.proofs.Common.{◌≡◌, ℕ, zero, suc, ◌+◌, ◌-◌, ◌*◌, ◌/◌, ◌%◌, ◌^◌, ◌<◌, ◌≤◌, List, [], ◌∷◌, ◌++◌, length, get_or, take, drop, set, sym, refl, ap, ◌∙◌, append_assoc, arith, length-set, drop_of_length-le, drop-cons, get_or-set_same, drop-set-lt, take-suc, take_all, add-one, ne_eqb, length-drop, length-take-le}
+use Rattle.std.proofs.Math.Nat.{pow-suc, pow-le-pow_right, mul-le-mul_left}
+use Rattle.std.proofs.lemmas.Nat.{pow-add}
 use Rattle.layout.specs.Decimal.{lead, field, digit, value_from, value}
 use Rattle.layout.specs.Layout.{number_at}
 use Rattle.layout.proofs.DecimalLaws.{value-append}
@@ -20,29 +24,44 @@ pub digit-other : (acc b x : ℕ) → (b ≡ 32 → ⊥) → x ≡ acc * 10 + (b
 unfolding digit
 digit-other acc b x n e = rw (ne_eqb b 32 n, digit) e
 
--- one byte more
-next : (w acc i j x : ℕ) (b : List ℕ) → i + suc w ≤ length b → j ≡ i + 1 → x ≡ digit acc (get_or b i 0) → value_from acc (take (suc w) (drop i b)) ≡ value_from x (take w (drop j b))
-unfolding value_from
-next w acc i j x b h p e =
-    let q : j ≡ suc i = omega arith in
-    rw (drop-cons b i 0 (omega arith), q, e)
+pub record ReadTo (s : List ℕ) (k x : ℕ) : Type 0 where
+  pub value-is : x ≡ value (take k s)
+  pub small : x + 23 ≤ 23 * 10 ^ k
 
-pub read-three : (u v x y i : ℕ) (b : List ℕ) → i + 3 ≤ length b → v ≡ digit u (get_or b i 0) → x ≡ digit v (get_or b (i + 1) 0) → y ≡ digit x (get_or b (i + 2) 0) →
-    y ≡ value_from u (take 3 (drop i b))
-unfolding value_from
-read-three u v x y i b h p q r =
-    sym (next 2 u i (i + 1) v b (omega arith) refl p
-    ∙ next 1 v (i + 1) (i + 2) x b (omega arith) (omega arith) q
-    ∙ next 0 x (i + 2) (i + 3) y b (omega arith) (omega arith) r)
+pub read-none : (s : List ℕ) → ReadTo s 0 0
+unfolding value value_from
+read-none s = record { value-is = refl; small = omega arith }
 
-pub number-three : (y i : ℕ) (b : List ℕ) → y ≡ value_from 0 (take 3 (drop i b)) → y ≡ number_at 3 i b
-unfolding number_at value
-number-three y i b e = e
+pub read-room : {s : List ℕ} {k x : ℕ} → ReadTo s k x → k < length s → length s ≤ 6 → x ≤ 10000000
+read-room {s} {k} {x} r h b =
+    let p : 10 ^ k ≤ 10 ^ 5 = pow-le-pow_right (omega arith) {i = k} {j = 5} (omega arith) in
+    omega (arith, r.small, mul-le-mul_left 23 p)
 
-pub number-six : (x y i : ℕ) (b : List ℕ) → x ≡ value_from 0 (take 3 (drop i b)) → y ≡ value_from x (take 3 (drop (i + 3) b)) → y ≡ number_at 6 i b
-unfolding number_at value
-number-six x y i b p q =
-    rw (take-add 3 3 (drop i b), drop-drop 3 i b, value-append 0 (take 3 (drop i b)) (take 3 (drop (i + 3) b)), ← p) q
+pub read-next : {s : List ℕ} {k x : ℕ} (y : ℕ) → ReadTo s k x → k < length s → y ≡ digit x (get_or s k 0) → y ≤ x * 10 + 207 → ReadTo s (k + 1) y
+unfolding value value_from
+read-next {s} {k} {x} y r h e b = record {
+  value-is = e ∙ ap (λ (z : ℕ). digit z (get_or s k 0)) r.value-is ∙ rw (add-one, take-suc s k 0 h) (sym (value-append 0 (take k s) (get_or s k 0 ∷ [])));
+  small = let p = pow-suc 10 k in rw add-one (omega (arith, r.small));
+}
+
+pub read-all : {s : List ℕ} {k x : ℕ} → ReadTo s k x → k ≡ length s → (x ≡ value s) × (x < 10 ^ (length s + 2))
+read-all {s} {k} {x} r h =
+    (r.value-is ∙ rw (take_all k s (omega arith)), let e : 10 ^ (k + 2) ≡ 10 ^ k * 100 = pow-add 10 k 2 in rw (← h) (omega (arith, r.small)))
+
+-- the bytes of a field, lent
+abbrev pub lent : ℕ → ℕ → List ℕ → List ℕ
+lent w at b = take (at + w - at) (drop at b)
+
+pub length-lent : (w at : ℕ) (b : List ℕ) → at + w ≤ length b → length (lent w at b) ≡ w
+length-lent w at b h =
+    let z : at + w - at ≡ w = omega arith in
+    rw z (length-take-le w (drop at b) (omega (arith, length-drop at b)))
+
+pub number-lent : (w at : ℕ) (b : List ℕ) {x : ℕ} → at + w ≤ length b → (x ≡ value (lent w at b)) × (x < 10 ^ (length (lent w at b) + 2)) → (x ≡ number_at w at b) × (x < 10 ^ (w + 2))
+unfolding number_at
+number-lent w at b h r =
+    let z : at + w - at ≡ w = omega arith in
+    (r.0 ∙ ap (λ (n : ℕ). value (take n (drop at b))) z, rw (length-lent w at b h) at r.1)
 
 pub no_field : (l : List ℕ) (x : ℕ) → length l ≡ 0 → l ≡ field (length l) x
 unfolding field

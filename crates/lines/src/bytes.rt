@@ -6,19 +6,19 @@ ghost use Rattle.lines.specs.Bytes.{above, ten, stated};
 pub fn above(byte: u8, base: u8) -> u8
     ensures { result ≡ above byte base }
 {
-    std::num::wrapping_sub_u8(byte, base)
+    byte.wrapping_sub(base)
 }
 
 // 10 for a 1, 0 for another byte.
 fn ten(byte: u8) -> u8
     ensures { result ≡ ten byte }
 {
-    if byte == 49 { 10 } else { 0 }
+    if byte == b'1' { 10 } else { 0 }
 }
 
 // The cell whose field ends with a byte and has another before it; round the 256 where they end none.
 pub fn stated(byte: u8, before: u8) -> u8
     ensures { result ≡ stated byte before }
 {
-    std::num::wrapping_add_u8(above(byte, 48), ten(before))
+    above(byte, b'0').wrapping_add(ten(before))
 }

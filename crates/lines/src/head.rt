@@ -1,6 +1,6 @@
 // Line 1 of a register.
-ghost use Rattle.std.specs.Prelude.{◌≡◌, ◌+◌, ◌≤◌, length};
-ghost use Rattle.layout.specs.Layout.{number_width, count_place, head_length, head_line};
+ghost use Rattle.std.specs.Prelude.{◌≡◌, ◌+◌, ◌<◌, ◌≤◌, length};
+ghost use Rattle.layout.specs.Layout.{number_at, number_width, count_place, head_length, head_line};
 ghost use Rattle.layout.specs.Lines.{with_field};
 ghost use Rattle.lines.specs.Head.{shape_of, States};
 
@@ -33,17 +33,25 @@ pub struct Head {
     pub count: usize,
 }
 
+// The number that the field from a place on states.
+pub fn read_field(bytes: &[u8], at: usize) -> usize
+    requires { at + number_width ≤ length bytes.now }
+    ensures { (result ≡ number_at number_width at bytes.now) × (result < 100000000) }
+{
+    numbers::read_number(&bytes[at..at + WIDTH])
+}
+
 // The numbers that line 1 states.
 pub fn read_head(register: &[u8]) -> Head
     requires { head_length ≤ length register.now }
     ensures { States register.now result }
 {
     Head {
-        rows: numbers::six_wide(register, ROWS),
-        columns: numbers::six_wide(register, COLUMNS),
-        top: numbers::six_wide(register, TOP),
-        capacity: numbers::six_wide(register, CAPACITY),
-        count: numbers::six_wide(register, COUNT),
+        rows: read_field(register, ROWS),
+        columns: read_field(register, COLUMNS),
+        top: read_field(register, TOP),
+        capacity: read_field(register, CAPACITY),
+        count: read_field(register, COUNT),
     }
 }
 
@@ -52,8 +60,7 @@ pub fn write_field(out: &mut [u8], at: usize, number: usize)
     requires { at + number_width ≤ length out.old }
     ensures { out.new ≡ with_field at number out.old }
 {
-    let end = at + WIDTH;
-    numbers::write_number(&mut out[at..end], number);
+    numbers::write_number(&mut out[at..at + WIDTH], number);
 }
 
 // Writes line 1 over all of a slice of its length.
@@ -66,7 +73,7 @@ pub fn write_head(out: &mut [u8], head: Head)
     write_field(out, TOP, head.top);
     write_field(out, CAPACITY, head.capacity);
     write_field(out, COUNT, head.count);
-    out[FEED] = 10;
+    out[FEED] = b'\n';
 }
 
 // Writes the count alone.

@@ -6,12 +6,21 @@ ghost use Rattle.layout.specs.Layout.{clients, cell_width, line_length, holdings
 use crate::entries::{CLIENTS, WIDTH};
 use crate::numbers;
 
+// Where a client's holding begins, in the line of an entry with so many cells.
+fn place(size: usize, client: usize) -> usize
+    requires { (size ≤ 128) × (1 ≤ client) × (client ≤ clients) }
+    ensures { result ≡ cell_width * (size + (client - 1)) }
+{
+    WIDTH * (size + (client - 1))
+}
+
 // What a client holds of an entry with so many cells.
 pub fn read_holding(line: &[u8], size: usize, client: usize) -> usize
     requires { (size ≤ 128) × (1 ≤ client) × (client ≤ clients) × (line_length size ≤ length line.now) }
     ensures { (result ≡ holding client (holdings_of size line.now)) × (result < 100000) }
 {
-    numbers::three_wide(line, WIDTH * (size + (client - 1)))
+    let at = place(size, client);
+    numbers::read_number(&line[at..at + WIDTH])
 }
 
 // Writes what a client holds of it.
@@ -19,9 +28,8 @@ pub fn write_holding(part: &mut [u8], size: usize, client: usize, number: usize)
     requires { (size ≤ 128) × (1 ≤ client) × (client ≤ clients) × (line_length size ≤ length part.old) }
     ensures { part.new ≡ take (cell_width * (size + (client - 1))) part.old ++ (field cell_width number ++ drop cell_width (drop (cell_width * (size + (client - 1))) part.old)) }
 {
-    let at = WIDTH * (size + (client - 1));
-    let end = at + WIDTH;
-    numbers::write_number(&mut part[at..end], number);
+    let at = place(size, client);
+    numbers::write_number(&mut part[at..at + WIDTH], number);
 }
 
 // What another client, or this one, holds once this client's holding is `left`.
@@ -30,9 +38,10 @@ fn holding_after(line: &[u8], size: usize, client: usize, left: usize, other: us
     ensures { result ≡ holding other (changed client left (holdings_of size line.now)) }
 {
     if other == client {
-        return left;
+        left
+    } else {
+        read_holding(line, size, other)
     }
-    read_holding(line, size, other)
 }
 
 // Whether anyone holds the entry once this client's holding is `left`.
@@ -40,12 +49,10 @@ pub fn still_held(line: &[u8], size: usize, client: usize, left: usize) -> bool
     requires { (size ≤ 128) × (1 ≤ client) × (client ≤ clients) × (line_length size ≤ length line.now) }
     ensures { result ≡ some_held (changed client left (holdings_of size line.now)) }
 {
-    let mut other = 1;
-    while other <= CLIENTS {
+    for other in 1..=CLIENTS {
         if 0 < holding_after(line, size, client, left, other) {
             return true;
         }
-        other += 1;
     }
     false
 }

@@ -1,34 +1,43 @@
-use Rattle.std.proofs.Common.{arith, length-set}
-use Rattle.layout.specs.Layout.{entry_width, line_length}
+-- `write_line` meets its contract.
+use Rattle.std.proofs.Common.{◌≡◌, ℕ, ◌-◌, ◌*◌, length, take, drop, arith, length-set, length-drop, length-take-le}
+use Rattle.layout.specs.Layout.{cell_width, entry_width, line_length, changed}
 use Rattle.layout.specs.Lines.{first_entry}
 use Rattle.layout.proofs.HoldingLaws.{first-fitted}
-use Rattle.lines.proofs.FirstLaws.{length-first}
-use Rattle.lines.proofs.LineLaws.{entry-none, entry_next, entry-all}
+use Rattle.lines.proofs.LineLaws.{entry-written}
 use Rattle.lines.proofs.entries.write_line.Goals as goal
 
-pub loop-k-init : goal.loop-k-init
-loop-k-init c = entry-none _ _
-
-pub slice_bounds-write_number-end : goal.slice_bounds-write_number-end
+pub write_fields-requires : goal.write_fields-requires
 unfolding line_length entry_width
-slice_bounds-write_number-end c = omega arith
+write_fields-requires c = (omega arith, omega arith)
 
-pub write_number-requires : goal.write_number-requires
-write_number-requires c = tt
-
-pub loop-k-preserved : goal.loop-k-preserved
+pub slice_bounds-write_fields-start : goal.slice_bounds-write_fields-start
 unfolding line_length entry_width
-loop-k-preserved c =
+slice_bounds-write_fields-start c = omega arith
+
+pub slice_bounds-write_fields-count : goal.slice_bounds-write_fields-count
+unfolding line_length entry_width
+slice_bounds-write_fields-count c = omega arith
+
+pub write_fields-requires-2 : goal.write_fields-requires-2
+unfolding line_length entry_width
+write_fields-requires-2 c =
     let a = c.args in
-    entry_next _ c.loop-k.invariant (omega (arith, length-first a.client a.grid.now)) (omega arith) c.number-x.ensures c.write_number.ensures
+    let o = c.write_fields.new.part in
+    let at : ℕ = cell_width * length a.grid.now in
+    let l : length (take (length o - at) (drop at o)) ≡ length o - at = length-take-le (length o - at) (drop at o) (omega (arith, length-drop at o)) in
+    simp length-set (omega arith, omega (arith, l))
 
-pub bounds-part-at : goal.bounds-part-at
+pub overflow_sub-part : goal.overflow_sub-part
 unfolding line_length entry_width
-bounds-part-at c = let a = c.args in omega (arith, length-first a.client a.grid.now)
+overflow_sub-part c = omega arith
 
-pub shape_of-part : goal.shape_of-part
-shape_of-part c = simp length-set c.loop-k.invariant.so_far.size
+pub bounds-part-line_length : goal.bounds-part-line_length
+unfolding line_length entry_width
+bounds-part-line_length c = omega arith
 
 pub returns : goal.returns
+unfolding line_length changed
 returns c =
-    entry-all _ (first_entry c.args.client c.args.grid.now) (first-fitted c.args.client c.args.grid.now) c.loop-k.invariant (omega arith) c.requires.3
+    let a = c.args in
+    entry-written a.part.now (first_entry a.client a.grid.now) (length c.write_fields.new.part - cell_width * length a.grid.now) (c.line_length.result - 1)
+    (first-fitted a.client a.grid.now).held c.requires.3 (omega arith) (omega arith) c.write_fields.ensures c.write_fields-2.ensures

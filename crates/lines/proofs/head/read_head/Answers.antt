@@ -4,4 +4,4 @@ use Rattle.lines.proofs.head.read_head.Goals as goal
 
 pub returns : goal.returns
 unfolding count decode_shape
-returns c = record { shape = cc; counts = c.six_wide-5.ensures.0 }
+returns c = record { shape = cc; counts = c.read_field-5.ensures.0 }

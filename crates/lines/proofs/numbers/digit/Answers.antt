@@ -6,8 +6,5 @@ use Rattle.lines.proofs.numbers.digit.Goals as goal
 pub returns-then-byte-eq32 : goal.returns-then-byte-eq32
 returns-then-byte-eq32 c = (digit-space _ _ c.if-byte-eq32.true, omega arith)
 
-pub returns-then-byte-lt48 : goal.returns-then-byte-lt48
-returns-then-byte-lt48 c = (digit-other _ _ _ c.if-byte-eq32.false (omega arith), omega arith)
-
-pub returns : goal.returns
-returns c = (digit-other _ _ _ c.if-byte-eq32.false (omega arith), omega arith)
+pub returns-else-byte-eq32 : goal.returns-else-byte-eq32
+returns-else-byte-eq32 c = (digit-other _ _ _ c.if-byte-eq32.false (omega arith), omega arith)

@@ -5,5 +5,5 @@ use Rattle.lines.proofs.numbers.last_digit.Goals as goal
 pub returns-then-left-eq0 : goal.returns-then-left-eq0
 returns-then-left-eq0 c = lead-none _ c.if-left-eq0.true
 
-pub returns : goal.returns
-returns c = lead-some _ c.if-left-eq0.false
+pub returns-else-left-eq0 : goal.returns-else-left-eq0
+returns-else-left-eq0 c = lead-some _ c.if-left-eq0.false
