@@ -11,13 +11,22 @@
 --   bounds-yes           ==  each gets a yes
 -- The answers of prune:
 --   prune-limits-no, prune-bounds-no  ==  a question gets a no: one of 1 to 3, one of 6 to 8
---   prune-yes            ==  no question gets a no
+--   prune-yes, prune-passed  ==  no question gets a no
+--   refused-as           ==  what `?` hands on is the refusal
 --   prune-size           ==  past the questions: there are at most 128 cells
 --   narrow-ready         ==  the arguments fit narrow
 --   prune-none           ==  narrow says no: 102
 --   Wrote m n top low high low' high', narrow-wrote  ==  narrow says yes, and has written low' and high'
 --   sizes-fit, removed-ready  ==  what it wrote fits the calls after it
 --   prune-some           ==  with the values removed and the new bounds: 0
+use Rattle.std.proofs.Common.{Result, Ok, Err}
+use Rattle.std.specs.Result.{IsErr, IsErrAnd}
+use Rattle.refusals.specs.declared.Refusal.{Refusal}
+use Rattle.refusals.specs.Numbers.{asked_number}
+use Rattle.refusals.proofs.NumberLaws.{yes-is}
+use Rattle.grids.proofs.QuestionSteps.{passed}
+use Rattle.bounds.specs.declared.prune.NotPruned.{NotPruned}
+use Rattle.bounds.specs.declared.prune.NotPruned.TheVariants.{Refused}
 use mathlib.Core.Path.{◌≡◌, refl, sym, ap, ◌∙◌}
 use mathlib.Core.List.Memᴰ
 use mathlib.Core.List.{List, [], ◌∷◌, foldr}
@@ -49,6 +58,12 @@ use Rattle.bounds.specs.Demand2.{Prunes}
 use Rattle.bounds.proofs.BoundsLaws.{bounds-wider, order-asked, ranks-within, between-fewer}
 use Rattle.bounds.proofs.PruneLaws.{prune-pass, prune-asked, pruned-refused, pruned-some, pruned-none, prunes}
 use Rattle.bounds.proofs.NarrowedLaws.{narrowed-obeyed, narrowed_low, narrowed-high, narrowed-inside, narrowed-removed}
+
+-- ---- what `?` hands on
+
+pub refused-as : (P : Result ℕ NotPruned → Type 0) (r : Result ℕ NotPruned) (x : Refusal) → IsErr r × IsErrAnd r (λ y. y ≡ Refused x) → P (Err (Refused x)) → P r
+refused-as P (Ok y) x h p = absurd h.1
+refused-as P (Err y) x h p = rw h.1 p
 
 -- ---- question 8
 
@@ -211,6 +226,10 @@ module _ (m n top : ℕ) (low high : List ℕ) where
 
     pub prune-yes : k ≡ 0 → first_no (prune_questions m n top low high) ≡ 0
     prune-yes z = prune-asked m n top low high l ∙ sym found ∙ z
+
+  pub prune-passed : {A B : Type 0} {r : Result A Refusal} {s : Result B Refusal} {x : A} {y : B} → r ≡ Ok x → asked_number r ≡ limits_no m n top →
+      s ≡ Ok y → asked_number s ≡ first_no (bounds_questions (m * n) top low high) → first_no (prune_questions m n top low high) ≡ 0
+  prune-passed a b c d = prune-yes (passed m n top a b) _ (yes-is c d) refl
 
   -- past the questions
   module _ (e : first_no (prune_questions m n top low high) ≡ 0) where

@@ -19,10 +19,10 @@ use lib.ListN.{length, set, take, drop, get_or-append, length-append}
 use lib.Seq.{get_or-set_same, get_or-set_other, get_or-take, get_or-drop, get_or-append-add, length-take-le}
 use Rattle.std.proofs.lemmas.List.{length-drop}
 use borrow.Author.Tests.{lt-ltb, le-ltb}
-use Rattle.grids.specs.Order.{rank}
+use Rattle.grids.specs.Order.{rank, lower}
 use Rattle.grids.proofs.OrderLaws.{rank-antisymm}
 use Rattle.bounds.specs.declared.lows.RowLows.{RowLows}
-use Rattle.bounds.specs.Rows.{cell_at, Values, IsSorted, AgreeTo, SaysBelow, SaysUnder, NoLater, SaysNoLater, Parted, lower, IsLows, RaisedTo, IsCap, IsHighs, RowOutcome}
+use Rattle.bounds.specs.Rows.{cell_at, Values, IsSorted, AgreeTo, SaysBelow, SaysUnder, NoLater, SaysNoLater, Parted, IsLows, RaisedTo, IsCap, IsHighs, RowOutcome}
 use Rattle.bounds.proofs.LeadsLaws.{leads-sorted, agree_same, agree_differ, agree-no-later}
 use Rattle.bounds.proofs.ThresholdLaws.{parted-leads}
 use Rattle.bounds.proofs.CapLaws.{highs-lowered, lows-raised}

@@ -13,7 +13,6 @@
 --   NoLater n x s from            ==  compared from the column `from` on, x comes no later than s
 --   SaysNoLater b n x s from      ==  b tells whether it does
 --   Parted n x s at               ==  x comes no later than s, and `at` is the first column where they differ; n if none does
---   higher a b, lower a b         ==  the one of a and b that ranks higher, lower; a if they are equal
 --   Threshold n top x y c t       ==  a value up to y's in column c lets x lead exactly if it ranks no lower than t
 --   low_for z y                    ==  the lowest value that the numbers z allow where the high is y
 --   IsLows n x s z                ==  where s is y sorted, z gives each column of y its threshold
@@ -29,7 +28,7 @@
 use Rattle.std.specs.Prelude.{◌≡◌, List, Bool, true, false, ◌↔◌, ℕ, ◌-◌, ◌≤◌, ◌<◌, length, get_or, eqb, ltb}
 use Rattle.permutations.specs.Lists.{tabulate}
 use Rattle.permutations.specs.Permutations.{IsPermutation}
-use Rattle.grids.specs.Order.{rank, ◌≼◌}
+use Rattle.grids.specs.Order.{rank, higher, ◌≼◌}
 use Rattle.bounds.specs.declared.lows.RowLows.{RowLows}
 
 abbrev pub cell_at : List ℕ → ℕ → ℕ
@@ -79,12 +78,6 @@ SaysNoLater false n x s from = NoLater n x s from → ⊥
 pub record Parted (n : ℕ) (x s : ℕ → ℕ) (at : ℕ) : Type 0 where
   pub agree : AgreeTo n x s 0 0 at
   pub before : at < n → rank (x at) < rank (s at)
-
-unfoldable pub higher : ℕ → ℕ → ℕ
-higher a b = elim (ltb (rank a) (rank b)) [ true ↦ b | false ↦ a ]
-
-unfoldable pub lower : ℕ → ℕ → ℕ
-lower a b = elim (ltb (rank b) (rank a)) [ true ↦ b | false ↦ a ]
 
 -- ---- the lows of the other row
 

@@ -6,20 +6,20 @@ ghost use Rattle.bounds.specs.Prune.{bounds_questions};
 
 use crate::order;
 use grids::questions;
-use refusals::{Asked, Refusal};
+use refusals::Refusal;
 
 // Questions 6, 7 and 8 of two bounds.
-pub fn ask_bounds(size: usize, top: usize, low: &[u8], high: &[u8]) -> Asked
+pub fn ask_bounds(size: usize, top: usize, low: &[u8], high: &[u8]) -> Result<(), Refusal>
     ensures { asked_number result ≡ first_no (bounds_questions size top low.now high.now) }
 {
     if low.len() != size || high.len() != size {
-        return Asked::No(Refusal::Length);
+        return Err(Refusal::Length);
     }
     if !questions::is_capped(low, top) || !questions::is_capped(high, top) {
-        return Asked::No(Refusal::Cell);
+        return Err(Refusal::Cell);
     }
     if !order::is_ordered(low, high) {
-        return Asked::No(Refusal::Bounds);
+        return Err(Refusal::Bounds);
     }
-    Asked::Yes
+    Ok(())
 }

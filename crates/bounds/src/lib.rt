@@ -2,10 +2,10 @@
 #![tactic(auto)]
 
 pub mod asking;
+pub mod counted;
 mod lows;
 mod order;
 pub mod prune;
-mod ranks;
 mod rows;
 mod sorting;
 mod values;

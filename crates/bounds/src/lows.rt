@@ -2,7 +2,6 @@
 ghost use Rattle.std.specs.Prelude.{◌≡◌, length};
 ghost use Rattle.bounds.specs.Rows.{cell_at, low_for, RaisedTo};
 
-use crate::ranks;
 use grids::cells;
 
 // The lowest value that a row allows, by a cell's high: the high itself below `floor`, `least` from there on, `raised` from `limit` on.
@@ -37,7 +36,7 @@ impl RowLows {
         ensures { RaisedTo (length lows.old) self (cell_at lows.old) (cell_at high.now) (cell_at lows.new) }
     {
         for (c, low) in lows.iter_mut().enumerate() {
-            *low = ranks::higher(*low, self.low_for(high[c]));
+            *low = cells::higher(*low, self.low_for(high[c]));
         }
     }
 }

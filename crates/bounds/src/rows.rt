@@ -4,7 +4,7 @@ ghost use Rattle.std.specs.Prelude.{◌≡◌, ◌≤◌, ◌<◌, false, length
 ghost use Rattle.bounds.specs.Rows.{cell_at, Values, AgreeTo, SaysBelow, SaysNoLater, SaysUnder, Parted, IsCap, IsLows, IsHighs, RowSizes, RowOutcome};
 
 use crate::lows::RowLows;
-use crate::{ranks, sorting};
+use crate::sorting;
 use grids::cells;
 
 // The lows of row 0 beside the sorted highs of another row.
@@ -91,7 +91,7 @@ impl Parting<'_> {
         let at = self.at;
         highs[..at].copy_from_slice(&self.rows.lows[..at]);
         if at < highs.len() {
-            highs[at] = ranks::lower(highs[at], self.cap());
+            highs[at] = cells::lower(highs[at], self.cap());
         }
     }
 

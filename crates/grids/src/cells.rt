@@ -6,6 +6,7 @@ ghost use Rattle.grids.specs.Grids.{cell};
 
 use permutations::columns::ColumnNumber;
 use permutations::rows::RowNumber;
+use std::cmp;
 
 // Where a value stands among the values. Every comparison of two cells goes by it.
 pub fn rank(value: u8) -> u8
@@ -14,18 +15,18 @@ pub fn rank(value: u8) -> u8
     value
 }
 
-// The one of two values that ranks higher; the first if they are equal.
+// Of two values, the one that ranks higher.
 pub fn higher(a: u8, b: u8) -> u8
     ensures { result ≡ higher a b }
 {
-    if rank(a) < rank(b) { b } else { a }
+    cmp::max_by_key(a, b, |value| rank(*value))
 }
 
-// The one of two values that ranks lower; the first if they are equal.
+// Of two values, the one that ranks lower.
 pub fn lower(a: u8, b: u8) -> u8
     ensures { result ≡ lower a b }
 {
-    if rank(b) < rank(a) { b } else { a }
+    cmp::min_by_key(a, b, |value| rank(*value))
 }
 
 // The value that ranks next above a value, where one of 0 to 15 does.

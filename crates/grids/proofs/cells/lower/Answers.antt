@@ -1,9 +1,9 @@
-use Rattle.std.proofs.Common.{◌≡◌, refl, arith}
-use Rattle.grids.proofs.HigherLaws.{lower-all}
+use mathlib.Core.Path.{◌∙◌}
+use borrow.Author.Rules.{rules}
+use Rattle.std.proofs.lemmas.List.Sorted.{answers_always}
+use Rattle.grids.specs.Order.{rank}
+use Rattle.grids.proofs.HigherLaws.{min-lower}
 use Rattle.grids.proofs.cells.lower.Goals as goal
 
-pub returns-then-rank : goal.returns-then-rank
-returns-then-rank c = let a = c.args in lower-all a.a a.b (λ z. a.b ≡ z) (λ h. refl) (λ h. absurd (omega arith))
-
-pub returns-else-rank : goal.returns-else-rank
-returns-else-rank c = let a = c.args in lower-all a.a a.b (λ z. a.a ≡ z) (λ h. absurd (omega arith)) (λ h. refl)
+pub returns : goal.returns
+returns c = c.min_by_key.ensures rank (answers_always _ _ _ (λ f a r g k. search rules)) ∙ min-lower c.args.a c.args.b

@@ -1,6 +1,7 @@
 -- `raise` meets its contract. The loop's invariant: the lows before column `c` are raised, and the others are as they were.
 use Rattle.std.proofs.Common.{◌≡◌, ℕ, ◌<◌, ◌≤◌, get_or}
-use Rattle.bounds.specs.Rows.{higher, low_for}
+use Rattle.grids.specs.Order.{higher}
+use Rattle.bounds.specs.Rows.{low_for}
 use Rattle.bounds.proofs.lows.RowLows.raise.Given as goal
 
 abbrev pub invariant-loop-c : goal.invariant-loop-c
