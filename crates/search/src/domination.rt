@@ -4,9 +4,9 @@ ghost use Rattle.search.specs.ColumnLists.{LevelWords};
 ghost use Rattle.search.specs.RowSets.{IsRowSet, HasRow};
 ghost use Rattle.search.specs.Domination.{differences, Ascend, Apart, Others, Sides, Thinned};
 
+use crate::pairs;
 use crate::pairs::Covered;
 use crate::row_sets::RowSet;
-use crate::{pairs, row_sets};
 use permutations::columns::ColumnNumber;
 use permutations::rows::RowNumber;
 
@@ -113,7 +113,7 @@ fn covered(
     if count != 2 && count != 4 {
         return Covered::Neither;
     }
-    let others = row_sets::without(row_sets::without(rest, a), b);
+    let others = rest.without(a).without(b);
     let first = pairs::mask(levels, a, b);
     let c = pairs::first_column(first);
     let second = pairs::without_first(first);
@@ -145,17 +145,11 @@ fn held_against(
 {
     let mut out = left;
     let mut todo = against;
-    while todo.0 != 0 {
-        let b = row_sets::first(todo);
-        todo = row_sets::without(todo, b);
+    while let Some(b) = todo.pop_first() {
         match covered(levels, words, after, rest, a, b) {
             Covered::Neither => {}
-            Covered::First => {
-                return row_sets::without(out, a);
-            }
-            Covered::Second => {
-                out = row_sets::without(out, b);
-            }
+            Covered::First => return out.without(a),
+            Covered::Second => out = out.without(b),
         }
     }
     out
@@ -174,14 +168,12 @@ pub fn undominated(
 {
     let mut left = rows;
     let mut todo = rows;
-    while todo.0 != 0 {
-        let a = row_sets::first(todo);
-        todo = row_sets::without(todo, a);
+    while let Some(a) = todo.pop_first() {
         left = held_against(levels, words, after, rest, left, a, todo);
-        if left.0 == rows.0 {
+        if left == rows {
             return left;
         }
-        todo = row_sets::both(todo, left);
+        todo = todo.both(left);
     }
     left
 }

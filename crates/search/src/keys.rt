@@ -20,7 +20,7 @@ pub fn digits(levels: &[u8; 128], n: usize, row: RowNumber, columns: ColumnList)
     let start = row.0 as usize * 16;
     let mut number = 0u64;
     for j in 0..n {
-        let column = columns::column_at(columns, j);
+        let column = columns.column_at(j);
         number = 16 * number + levels[start + column.0 as usize] as u64;
     }
     number

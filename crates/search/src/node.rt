@@ -8,7 +8,7 @@ ghost use Rattle.search.specs.Search.{rows_of, AtNode, Leaves, NextRows, Deeper}
 
 use crate::columns::ColumnList;
 use crate::row_sets::RowSet;
-use crate::{columns, keys, row_sets, sifting};
+use crate::{columns, keys, sifting};
 use permutations::rows::RowNumber;
 
 // The first `placed` rows of the order are placed, and `rest` are the others; `after` holds how many columns come after each. What is
@@ -67,7 +67,7 @@ fn columns_at(n: usize, placed: usize, after: [u8; 16]) -> ColumnList
     ensures { Lists n after result.0 }
 {
     if placed == 0 {
-        return columns::own();
+        return ColumnList::own();
     }
     columns::listed(n, after)
 }
@@ -121,7 +121,7 @@ fn by_sifting(
             after,
         };
     }
-    let first = row_sets::first(rows);
+    let first = rows.first();
     let further = columns::refined(levels, n, first, after);
     let columns = columns::listed(n, further);
     let key = keys::digits(levels, n, first, columns);
@@ -213,7 +213,7 @@ pub fn deeper(
     Node {
         rows,
         after: further,
-        rest: row_sets::without(node.rest, row),
+        rest: node.rest.without(row),
         placed: node.placed + 1,
         fresh,
     }

@@ -11,7 +11,8 @@ ghost use Rattle.search.specs.Orders.{LeastOrders};
 use crate::columns::ColumnList;
 use crate::found::Found;
 use crate::node::Node;
-use crate::{columns, placing, row_sets, settled, tables, values};
+use crate::row_sets::RowSet;
+use crate::{columns, placing, settled, tables, values};
 use permutations::columns::{ColumnNumber, ColumnPermutation};
 use permutations::rows::{RowNumber, RowPermutation};
 
@@ -64,7 +65,7 @@ fn columns_of(list: ColumnList, n: usize) -> ColumnPermutation
 {
     let mut at = [ColumnNumber(0); 16];
     for (j, column) in at.iter_mut().enumerate() {
-        *column = columns::column_at(list, j);
+        *column = list.column_at(j);
     }
     ColumnPermutation { at, size: n }
 }
@@ -86,7 +87,7 @@ pub fn least_orders(grid: &[u8], m: usize, n: usize) -> Orders
     let node = Node {
         rows,
         after,
-        rest: row_sets::first_rows(m),
+        rest: RowSet::first_rows(m),
         placed: 0,
         fresh: true,
     };

@@ -7,7 +7,7 @@ ghost use Rattle.search.specs.Search.{rows_of, Standing, AtNode, IsFollowed, Out
 use crate::found::Found;
 use crate::node::Node;
 use crate::row_sets::RowSet;
-use crate::{domination, found, node, row_sets, settled, symmetries};
+use crate::{domination, found, node, settled, symmetries};
 use permutations::rows::RowNumber;
 
 // Of the rows that give the least next row, those that are followed: where no symmetry is kept, none that another covers.
@@ -30,7 +30,7 @@ fn chosen(
     if kept != 0 {
         return rows;
     }
-    if row_sets::is_lone(rows) {
+    if rows.is_lone() {
         return rows;
     }
     let after = node.after;
@@ -42,10 +42,10 @@ fn is_followed(chosen: RowSet, covered: RowSet, row: RowNumber) -> bool
     requires { row.0 < 8 }
     ensures { IsFollowed chosen.0 covered.0 row.0 result }
 {
-    if !row_sets::has(chosen, row) {
+    if !chosen.has(row) {
         return false;
     }
-    !row_sets::has(covered, row)
+    !covered.has(row)
 }
 
 // Whether one row is left, and makes no difference.
@@ -102,7 +102,7 @@ pub fn place(
     let rows = chosen(
         grid, levels, words, bits, m, n, two, low, node, next.rows, now.kept,
     );
-    let mut covered = RowSet(0);
+    let mut covered = RowSet::EMPTY;
     for t in k..m {
         let row = order[t];
         if is_followed(rows, covered, row) {

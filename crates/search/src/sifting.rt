@@ -7,7 +7,6 @@ ghost use Rattle.search.specs.Sifting.{IsLevels, at_most_one, tally, LeadsTo};
 
 use crate::columns::ColumnList;
 use crate::row_sets::RowSet;
-use crate::{columns, row_sets};
 
 // In each byte: 1 where that of the word is at most v, and 0 elsewhere.
 fn at_most(word: u64, v: u64) -> u64
@@ -25,7 +24,7 @@ fn counted(words: &[u64; 16], columns: ColumnList, s: usize, e: usize, v: u64) -
 {
     let mut count = 0u64;
     for u in s..e {
-        let column = columns::column_at(columns, u);
+        let column = columns.column_at(u);
         count += at_most(words[column.0 as usize], v);
     }
     count
@@ -52,11 +51,11 @@ fn sifted_block(words: &[u64; 16], columns: ColumnList, s: usize, e: usize, rest
     let mut i = 0;
     let mut count = counted(words, columns, s, e, 0);
     while i < e - s {
-        if row_sets::is_lone(left) {
+        if left.is_lone() {
             return left;
         }
         let keep = kept(count, i as u64, left);
-        if keep.0 == 0 {
+        if keep.is_empty() {
             v += 1;
             count = counted(words, columns, s, e, v);
             continue;
@@ -83,10 +82,10 @@ pub fn sifted(
     let mut left = rest;
     let mut s = 0;
     while s < n {
-        if row_sets::is_lone(left) {
+        if left.is_lone() {
             return left;
         }
-        let column = columns::column_at(columns, s);
+        let column = columns.column_at(s);
         let e = 16 - after[column.0 as usize] as usize;
         left = sifted_block(words, columns, s, e, left);
         s = e;

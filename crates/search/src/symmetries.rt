@@ -6,7 +6,6 @@ ghost use Rattle.search.specs.RowSets.{IsRowSet};
 ghost use Rattle.search.specs.Search.{rows_of, Symmetries, Spreads, SpreadsWith};
 ghost use Rattle.search.specs.Symmetries.{Fixes, Images};
 
-use crate::row_sets;
 use crate::row_sets::RowSet;
 use permutations::rows::RowNumber;
 
@@ -54,8 +53,8 @@ fn images(symmetries: [RowNumber; 32], s: usize, m: usize, covered: RowSet) -> R
     for r in 0..m {
         let image = symmetries[s * 8 + r];
         if image.0 < 8 {
-            if row_sets::has(out, RowNumber(r as u8)) {
-                out = row_sets::with(out, image);
+            if out.has(RowNumber(r as u8)) {
+                out = out.with(image);
             }
         }
     }
@@ -104,6 +103,6 @@ pub fn covered_with(
     if kept == 0 {
         return covered;
     }
-    let marked = row_sets::with(covered, row);
+    let marked = covered.with(row);
     spread(grid, m, n, k, rows, symmetries, kept, marked)
 }

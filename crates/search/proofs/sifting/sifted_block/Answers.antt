@@ -1,4 +1,4 @@
-use Rattle.std.proofs.Common.{◌≡◌, ◌+◌, ◌-◌, ◌<◌, ◌∙◌, arith}
+use Rattle.std.proofs.Common.{◌≡◌, ◌+◌, ◌-◌, ◌<◌, ◌∙◌, arith, rules}
 use Rattle.search.specs.ColumnLists.{levels_of}
 use Rattle.search.proofs.TallyLaws.{tally-is, levels-cap}
 use Rattle.search.proofs.SiftedLaws.{going_start, going-keep, going-skip, going-low, going-lone, at-most-le}
@@ -40,37 +40,37 @@ kept-keep-requires c =
 pub overflow_add-v : goal.overflow_add-v
 overflow_add-v c = record { fits = omega (arith, c.loop-i.invariant.1) }
 
-pub counted-count-requires-then-keep-eq0 : goal.counted-count-requires-then-keep-eq0
-counted-count-requires-then-keep-eq0 c =
+pub counted-count-requires-then-is_empty : goal.counted-count-requires-then-is_empty
+counted-count-requires-then-is_empty c =
     let l = c.loop-i in
     let a = c.args in
     let k = c.kept-keep in
-    let z : k.result.0 ≡ 0 = c.if-keep-eq0.true in
+    let z : k.result.0 ≡ 0 = search rules in
     let iw : l.i < a.e - a.s = omega arith in
     let low : l.v < 15 = going-low _ _ _ _ _ _ _ _ _ iw l.invariant.3 k.ensures.has l.invariant.2 z (levels-cap a.words.now a.columns.0 a.s c.requires.2) in
     (c.requires.0, c.requires.1, omega arith, c.requires.2)
 
-pub loop-i-smaller-then-keep-eq0 : goal.loop-i-smaller-then-keep-eq0
-loop-i-smaller-then-keep-eq0 c =
+pub loop-i-smaller-then-is_empty : goal.loop-i-smaller-then-is_empty
+loop-i-smaller-then-is_empty c =
     let l = c.loop-i in
     let a = c.args in
     let k = c.kept-keep in
-    let z : k.result.0 ≡ 0 = c.if-keep-eq0.true in
+    let z : k.result.0 ≡ 0 = search rules in
     let iw : l.i < a.e - a.s = omega arith in
     let low : l.v < 15 = going-low _ _ _ _ _ _ _ _ _ iw l.invariant.3 k.ensures.has l.invariant.2 z (levels-cap a.words.now a.columns.0 a.s c.requires.2) in
     omega arith
 
-pub loop-i-preserved-then-keep-eq0 : goal.loop-i-preserved-then-keep-eq0
-loop-i-preserved-then-keep-eq0 c =
+pub loop-i-preserved-then-is_empty : goal.loop-i-preserved-then-is_empty
+loop-i-preserved-then-is_empty c =
     let l = c.loop-i in
     let a = c.args in
     let k = c.kept-keep in
-    let z : k.result.0 ≡ 0 = c.if-keep-eq0.true in
+    let z : k.result.0 ≡ 0 = search rules in
     let iw : l.i < a.e - a.s = omega arith in
     let low : l.v < 15 = going-low _ _ _ _ _ _ _ _ _ iw l.invariant.3 k.ensures.has l.invariant.2 z (levels-cap a.words.now a.columns.0 a.s c.requires.2) in (
       l.invariant.0,
       omega arith,
-      (λ x b. c.counted-count-then-keep-eq0.ensures x b ∙ tally-is (l.v + 1) a.words.now a.columns.0 x a.s (a.e - a.s)),
+      (λ x b. c.counted-count-then-is_empty.ensures x b ∙ tally-is (l.v + 1) a.words.now a.columns.0 x a.s (a.e - a.s)),
       going-skip _ _ _ _ _ _ _ _ _ iw l.invariant.3 k.ensures.has l.invariant.2 z,
     )
 
@@ -85,7 +85,7 @@ loop-i-preserved c =
       omega arith,
       l.invariant.1,
       l.invariant.2,
-      going-keep _ _ _ _ _ _ _ _ _ iw l.invariant.3 k.ensures.has l.invariant.2 k.ensures.set c.if-keep-eq0.false,
+      going-keep _ _ _ _ _ _ _ _ _ iw l.invariant.3 k.ensures.has l.invariant.2 k.ensures.set (search rules),
     )
 
 pub returns : goal.returns

@@ -1,7 +1,7 @@
 -- `without` meets its contract.
 use lib.Bits.{and_le_l}
 use Rattle.search.proofs.RowSetLaws.{without-set, without-has}
-use Rattle.search.proofs.row_sets.without.Goals as goal
+use Rattle.search.proofs.row_sets.RowSet.without.Goals as goal
 
 pub overflow_sub-result : goal.overflow_sub-result
 overflow_sub-result c = and_le_l _ _

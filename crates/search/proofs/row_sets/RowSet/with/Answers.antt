@@ -1,6 +1,6 @@
 -- `with` meets its contract.
 use Rattle.search.proofs.RowSetLaws.{with-set, with-has}
-use Rattle.search.proofs.row_sets.with.Goals as goal
+use Rattle.search.proofs.row_sets.RowSet.with.Goals as goal
 
 pub returns : goal.returns
 returns c =

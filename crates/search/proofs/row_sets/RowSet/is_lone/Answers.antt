@@ -1,7 +1,7 @@
 -- `is_lone` meets its contract.
 use Rattle.std.proofs.Common.{eqb-true}
 use Rattle.search.proofs.RowSetLaws.{lone_row}
-use Rattle.search.proofs.row_sets.is_lone.Goals as goal
+use Rattle.search.proofs.row_sets.RowSet.is_lone.Goals as goal
 
 pub returns : goal.returns
 returns c = λ e. lone_row _ c.requires.0 c.requires.1 (eqb-true _ _ e)
