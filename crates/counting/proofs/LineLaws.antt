@@ -23,7 +23,6 @@ use Rattle.layout.specs.Lines.{EntryLine}
 use Rattle.layout.proofs.LayoutLaws.{field_at}
 use Rattle.layout.proofs.LineLaws.{length-cells}
 use Rattle.lines.specs.Bytes.{stated}
-use Rattle.lines.specs.Tables.{Thirds}
 use Rattle.lines.proofs.FieldLaws.{stated-at}
 use Rattle.counting.specs.Within.{passes, all_pass, LineOutcome, BoundTables}
 use Rattle.counting.proofs.PassLaws.{all-at, at_all, passes-any, passes-within, within-passes}
@@ -48,7 +47,6 @@ module _ {size top : ℕ} {l lows spans low high : List ℕ} (line before : List
       ap₂ stated (same (3 * j + 2) (omega arith)) (ap (λ (k : ℕ). get_or before k 0) (sym e) ∙ earlier (3 * j + 1) (omega arith)) ∙ stated-cell c small j h
 
   pass-in : (r : Bool) → LineOutcome r (3 * size) line before lows spans → all_pass (3 * size) line before lows spans ≡ true → InBounds size top low high (cells_of size l)
-  unfolding Thirds
   pass-in r o e = record {
     sized = length-cells size l;
     capped = λ j h. capped_at top (cells_of size l) c.at_most j (omega (arith, length-cells size l));
@@ -63,7 +61,6 @@ module _ {size top : ℕ} {l lows spans low high : List ℕ} (line before : List
           (all-at line before lows spans (3 * size) e (3 * j + 2) (omega arith))
 
   in-pass : InBounds size top low high (cells_of size l) → all_pass (3 * size) line before lows spans ≡ true
-  unfolding Thirds
   in-pass b = at_all line before lows spans (3 * size) λ k h. go k h (dec_lt (k % 3) 1) (dec_lt (k % 3) 2)
     where
       go : (k : ℕ) → k < 3 * size → Dec (k % 3 < 1) → Dec (k % 3 < 2) → passes (get_or line k 0) (get_or before k 0) (get_or lows k 0) (get_or spans k 0) ≡ true

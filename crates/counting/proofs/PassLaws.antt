@@ -1,6 +1,6 @@
 -- Laws of bytes that pass.
 --
---   passes-not, passes-yes  ==  the ways out of the test of a byte
+--   passes-is               ==  the test of a byte, by its steps
 --   ranks-byte              ==  the rank of what is stated is a byte, since the code has it as one
 --   outcome-none, outcome-next  ==  no byte, and a byte more
 --   all-at, at_all          ==  all bytes pass exactly if each does
@@ -8,31 +8,23 @@
 --   passes-within, within-passes  ==  a rank that is a byte is within two others exactly if it is above the lower by at most their distance
 use mathlib.Core.Path.{◌≡◌, refl, sym, ap, ◌∙◌}
 use mathlib.Core.List.{List}
-use mathlib.Core.Bool.{Bool, true, false, ◌&&◌}
+use mathlib.Core.Bool.{Bool, true, ◌&&◌}
 use Prim.Native.Nat.{ℕ, zero, suc, ◌+◌, ◌-◌, ◌≤◌, ◌<◌}
 use native.Mathlib.Nat.{not-suc-le-zero}
 use native.Mathlib.Numerals.{add-one}
 use native.Mathlib.Decide.{dec_lt}
 use native.Mathlib.Omega.{arith}
+use lib.Dec.{leb}
 use lib.ListN.{get_or}
 use borrow.Author.Tests.{le-leb, leb-true}
 use Rattle.permutations.proofs.BoolLaws.{and_yes, yes_and}
 use Rattle.grids.specs.Order.{rank}
-use Rattle.bounds.proofs.PruneSteps.{order-fails, order-holds}
 use Rattle.lines.specs.Bytes.{above, stated}
 use Rattle.counting.specs.Within.{passes, all_pass, LineOutcome}
 
-pub passes-not : (within : Bool) (byte before low span v r x : ℕ) → v ≡ stated byte before → r ≡ rank v → x ≡ above r low → span < x → false ≡ (within && passes byte before low span)
+pub passes-is : (byte before low span v r x : ℕ) → v ≡ stated byte before → r ≡ rank v → x ≡ above r low → leb x span ≡ passes byte before low span
 unfolding passes
-passes-not within byte before low span v r x a b c h =
-    let e : x ≡ above (rank (stated byte before)) low = c ∙ ap (λ (y : ℕ). above y low) (b ∙ ap rank a) in
-    order-fails within (above (rank (stated byte before)) low) span (omega arith)
-
-pub passes-yes : (within : Bool) (byte before low span v r x : ℕ) → v ≡ stated byte before → r ≡ rank v → x ≡ above r low → x ≤ span → within ≡ (within && passes byte before low span)
-unfolding passes
-passes-yes within byte before low span v r x a b c h =
-    let e : x ≡ above (rank (stated byte before)) low = c ∙ ap (λ (y : ℕ). above y low) (b ∙ ap rank a) in
-    order-holds within (above (rank (stated byte before)) low) span (omega arith)
+passes-is byte before low span v r x a b c = rw (c, b, a) refl
 
 pub ranks-byte : (byte before v r : ℕ) → v ≡ stated byte before → r ≡ rank v → r < 256 → rank (stated byte before) < 256
 ranks-byte byte before v r a b h = rw (b ∙ ap rank a) at h

@@ -6,8 +6,7 @@
 --   OrderedBounds low high   ==  at most 128 lows and as many highs, each low at most its high by rank
 --   BoundTables n low high lows spans  ==  the tables of the first n bounds: at a field's last byte the rank of the low and how far that of the high is
 --                               above it, at the other bytes what every byte passes by; the highs' ranks are bytes
---   one_more found within     ==  one more than found where within is true
-use Rattle.std.specs.Prelude.{◌≡◌, List, Bool, true, false, ◌&&◌, ℕ, zero, suc, ◌+◌, ◌-◌, ◌≤◌, ◌<◌, length, get_or, leb}
+use Rattle.std.specs.Prelude.{◌≡◌, List, Bool, true, ◌&&◌, ℕ, zero, suc, ◌-◌, ◌≤◌, ◌<◌, length, get_or, leb}
 use Rattle.grids.specs.Order.{rank}
 use Rattle.lines.specs.Bytes.{above, stated}
 use Rattle.lines.specs.Tables.{Thirds}
@@ -32,6 +31,3 @@ pub record BoundTables (n : ℕ) (low high lows spans : List ℕ) : Type 0 where
   pub low-ranks : Thirds lows n 0 0 (λ k. rank (get_or low k 0))
   pub high-spans : Thirds spans n 255 255 (λ k. rank (get_or high k 0) - rank (get_or low k 0))
   pub ranked : (k : ℕ) → k < n → rank (get_or high k 0) < 256
-
-unfoldable pub one_more : ℕ → Bool → ℕ
-one_more found within = elim within [ true ↦ found + 1 | false ↦ found ]

@@ -12,11 +12,10 @@ unfolding put
 length-put table k a b c = length-set (set (set table (3 * k) a) (3 * k + 1) b) (3 * k + 2) c ∙ length-set (set table (3 * k) a) (3 * k + 1) b ∙ length-set table (3 * k) a
 
 pub thirds-none : (table : List ℕ) (a b : ℕ) (f : ℕ → ℕ) → Thirds table 0 a b f
-unfolding Thirds
 thirds-none table a b f k l = absurd (not-suc-le-zero l)
 
 pub thirds-next : (table : List ℕ) (n a b c : ℕ) (f : ℕ → ℕ) → 3 * n + 3 ≤ length table → c ≡ f n → Thirds table n a b f → Thirds (put table n a b c) (n + 1) a b f
-unfolding Thirds put
+unfolding put
 thirds-next table n a b c f room last h k l = go (dec_lt k n)
   where
     one : List ℕ
@@ -53,5 +52,4 @@ thirds-next table n a b c f room last h k l = go (dec_lt k n)
         )
 
 pub thirds-at : (table : List ℕ) (n a b : ℕ) (f : ℕ → ℕ) (k : ℕ) → Thirds table n a b f → k < n → (get_or table (3 * k) 0 ≡ a) × (get_or table (3 * k + 1) 0 ≡ b) × (get_or table (3 * k + 2) 0 ≡ f k)
-unfolding Thirds
 thirds-at table n a b f k h l = h k l

@@ -7,5 +7,5 @@ use Rattle.std.specs.Prelude.{◌≡◌, ℕ, ◌+◌, ◌*◌, ◌<◌, List, s
 unfoldable pub put : List ℕ → ℕ → ℕ → ℕ → ℕ → List ℕ
 put table k a b c = slice_set (slice_set (slice_set table (3 * k) a) (3 * k + 1) b) (3 * k + 2) c
 
-unfoldable pub Thirds : List ℕ → ℕ → ℕ → ℕ → (ℕ → ℕ) → Type 0
+abbrev pub Thirds : List ℕ → ℕ → ℕ → ℕ → (ℕ → ℕ) → Type 0
 Thirds table n a b f = (k : ℕ) → k < n → (slice_index table (3 * k) ≡ a) × (slice_index table (3 * k + 1) ≡ b) × (slice_index table (3 * k + 2) ≡ f k)

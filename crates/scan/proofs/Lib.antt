@@ -6,4 +6,3 @@ pub mod HeldLaws
 pub mod HoldingLaws
 pub mod LineLaws
 pub mod OrderLaws
-pub mod TableLaws

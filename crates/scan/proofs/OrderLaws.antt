@@ -37,7 +37,7 @@ pub same_none : (b : List ℕ) (p q : ℕ) → true ≡ same_from b p q 0
 unfolding same_from
 same_none b p q = refl
 
-pub same_next : (b : List ℕ) (p q n : ℕ) → same_from b p q (n + 1) ≡ (eqb (get_or b (p + n) 0) (get_or b (q + n) 0) && same_from b p q n)
+pub same_next : (b : List ℕ) (p q n : ℕ) → same_from b p q (n + 1) ≡ (same_from b p q n && eqb (get_or b (p + n) 0) (get_or b (q + n) 0))
 unfolding same_from
 same_next b p q n = rw add-one refl
 
@@ -45,14 +45,14 @@ same-all : (b : List ℕ) (p q n : ℕ) → same_from b p q n ≡ true → (j : 
 same-all b p q zero e j l = absurd (not-suc-le-zero l)
 same-all b p q (suc n) e j l = go (λ f h. same-all b p q n f j h) (dec_lt j n)
   where
-    both : (eqb (get_or b (p + n) 0) (get_or b (q + n) 0) ≡ true) × (same_from b p q n ≡ true)
-    both = and_yes (eqb (get_or b (p + n) 0) (get_or b (q + n) 0)) (same_from b p q n) (sym (same_next b p q n) ∙ ap (same_from b p q) (omega arith) ∙ e)
+    both : (same_from b p q n ≡ true) × (eqb (get_or b (p + n) 0) (get_or b (q + n) 0) ≡ true)
+    both = and_yes (same_from b p q n) (eqb (get_or b (p + n) 0) (get_or b (q + n) 0)) (sym (same_next b p q n) ∙ ap (same_from b p q) (omega arith) ∙ e)
 
     go : (same_from b p q n ≡ true → j < n → get_or b (p + j) 0 ≡ get_or b (q + j) 0) → Dec (j < n) → get_or b (p + j) 0 ≡ get_or b (q + j) 0
-    go r (yes h) = r both.1 h
+    go r (yes h) = r both.0 h
     go r (no h) =
         let z : j ≡ n = omega (arith, l) in
-        rw z (eqb-true (get_or b (p + n) 0) (get_or b (q + n) 0) both.0)
+        rw z (eqb-true (get_or b (p + n) 0) (get_or b (q + n) 0) both.1)
 
 pub agree-none : (b : List ℕ) (p q : ℕ) → Same b p q 0
 unfolding Same

@@ -6,7 +6,7 @@
 use mathlib.Core.Path.{◌≡◌, refl, subst}
 use mathlib.Core.Bool.{Bool, true, false, ◌&&◌}
 use mathlib.Core.Logic.{◌⊎◌, inl, inr}
-use Prim.Native.Nat.{ℕ, ◌+◌, ◌-◌, ◌≤◌, ◌<◌}
+use Prim.Native.Nat.{ℕ, ◌+◌, ◌-◌, ◌≤◌, ◌<◌, min}
 use native.Mathlib.Omega.{arith}
 use native.Mathlib.Decide.{dec_lt, ℕ_discrete}
 use borrow.Author.Tests.{le-leb, leb-true}
@@ -14,25 +14,11 @@ use lib.Dec.{eqb}
 use Rattle.permutations.proofs.BoolLaws.{and_yes, yes_and}
 use Rattle.lines.specs.Bytes.{above}
 use Rattle.scan.specs.Cells.{One, Two, CellBytes}
-use Rattle.scan.specs.Fits.{rest, smaller, fits}
+use Rattle.scan.specs.Fits.{rest, fits}
 use Rattle.scan.specs.Tables.{teen_of, span_of}
-use Rattle.scan.proofs.FitLaws.{rest-teen, rest-other, smaller-first, smaller-second, teen-low, teen-high}
+use Rattle.scan.proofs.FitLaws.{rest-teen, rest-other, teen-low, teen-high}
 
 -- ---- what fits says in numbers
-
-smaller-le : (a b : ℕ) → (smaller a b ≤ a) × (smaller a b ≤ b)
-smaller-le a b = go (dec_lt a b)
-  where
-    go : Dec (a < b) → (smaller a b ≤ a) × (smaller a b ≤ b)
-    go (yes h) = let e = smaller-first a b h in (omega (arith, e), omega (arith, e))
-    go (no h) = let e = smaller-second a b (omega arith) in (omega (arith, e), omega (arith, e))
-
-le-smaller : (x a b : ℕ) → x ≤ a → x ≤ b → x ≤ smaller a b
-le-smaller x a b p q = go (dec_lt a b)
-  where
-    go : Dec (a < b) → x ≤ smaller a b
-    go (yes h) = omega (arith, smaller-first a b h)
-    go (no h) = omega (arith, smaller-second a b (omega arith))
 
 Within : ℕ → ℕ → ℕ → ℕ → ℕ → ℕ → Type 0
 Within byte before base teen span cap = (above byte base ≡ teen) ⊎ ((above byte base ≤ span) × (above byte base ≤ above cap before))
@@ -41,15 +27,12 @@ fits-within : (byte before base teen span cap : ℕ) → fits byte before base t
 unfolding fits Within
 fits-within byte before base teen span cap e = go (ℕ_discrete (above byte base) teen)
   where
-    le : rest (above byte base) teen ≤ smaller span (above cap before)
-    le = leb-true (rest (above byte base) teen) (smaller span (above cap before)) e
-
-    both : (smaller span (above cap before) ≤ span) × (smaller span (above cap before) ≤ above cap before)
-    both = smaller-le span (above cap before)
+    le : rest (above byte base) teen ≤ min span (above cap before)
+    le = leb-true (rest (above byte base) teen) (min span (above cap before)) e
 
     go : Dec (above byte base ≡ teen) → (above byte base ≡ teen) ⊎ ((above byte base ≤ span) × (above byte base ≤ above cap before))
     go (yes q) = inl q
-    go (no q) = let r = rest-other (above byte base) teen q in inr (omega (arith, r, le, both.0), omega (arith, r, le, both.1))
+    go (no q) = let r = rest-other (above byte base) teen q in inr (omega (arith, r, le), omega (arith, r, le))
 
 rest_le : (x teen : ℕ) → rest x teen ≤ x
 unfolding rest
@@ -62,20 +45,20 @@ rest_le x teen = go (eqb x teen)
 within-fits : (byte before base teen span cap : ℕ) → Within byte before base teen span cap → fits byte before base teen span cap ≡ true
 unfolding fits Within
 within-fits byte before base teen span cap (inl q) =
-    le-leb (rest (above byte base) teen) (smaller span (above cap before)) (omega (arith, rest-teen (above byte base) teen q))
+    le-leb (rest (above byte base) teen) (min span (above cap before)) (omega (arith, rest-teen (above byte base) teen q))
 within-fits byte before base teen span cap (inr (p, q)) =
-    le-leb (rest (above byte base) teen) (smaller span (above cap before))
-    (omega (arith, rest_le (above byte base) teen, le-smaller (above byte base) span (above cap before) p q))
+    le-leb (rest (above byte base) teen) (min span (above cap before))
+    (omega (arith, rest_le (above byte base) teen))
 
 -- ---- the tables
 
 span-le : (top : ℕ) → (span_of top ≤ top) × (span_of top ≤ 9)
 unfolding span_of
-span-le top = smaller-le top 9
+span-le top = (omega arith, omega arith)
 
 le-span : (top x : ℕ) → x ≤ top → x ≤ 9 → x ≤ span_of top
 unfolding span_of
-le-span top x p q = le-smaller x top 9 p q
+le-span top x p q = omega arith
 
 -- ---- three bytes
 

@@ -24,4 +24,4 @@ Same b p q n = (j : ℕ) → j < n → get_or b (p + j) 0 ≡ get_or b (q + j) 0
 
 unfoldable pub same_from : List ℕ → ℕ → ℕ → ℕ → Bool
 same_from b p q zero = true
-same_from b p q (suc n) = eqb (get_or b (p + n) 0) (get_or b (q + n) 0) && same_from b p q n
+same_from b p q (suc n) = same_from b p q n && eqb (get_or b (p + n) 0) (get_or b (q + n) 0)

@@ -1,20 +1,16 @@
 -- What each byte of an entry's cells may be. Between functions: no answer of a call is defined here.
 --
 --   rest x teen      ==  x, but 0 where it is teen
---   smaller a b       ==  the smaller of two numbers
 --   fits ..          ==  a byte is teen above its base, or above it by no more than its span and no more than the byte before it is below cap
 --   all_fit k b before ..  ==  the first k bytes after the one at `before` do, by the tables base, teen, span
-use Rattle.std.specs.Prelude.{List, Bool, true, false, ◌&&◌, ℕ, zero, suc, ◌+◌, get_or, ltb, leb, eqb}
+use Rattle.std.specs.Prelude.{List, Bool, true, false, ◌&&◌, ℕ, zero, suc, ◌+◌, get_or, min, leb, eqb}
 use Rattle.lines.specs.Bytes.{above}
 
 unfoldable pub rest : ℕ → ℕ → ℕ
 rest x teen = elim (eqb x teen) [ true ↦ 0 | false ↦ x ]
 
-unfoldable pub smaller : ℕ → ℕ → ℕ
-smaller a b = elim (ltb a b) [ true ↦ a | false ↦ b ]
-
 unfoldable pub fits : ℕ → ℕ → ℕ → ℕ → ℕ → ℕ → Bool
-fits byte before base teen span cap = leb (rest (above byte base) teen) (smaller span (above cap before))
+fits byte before base teen span cap = leb (rest (above byte base) teen) (min span (above cap before))
 
 unfoldable pub all_fit : ℕ → List ℕ → ℕ → List ℕ → List ℕ → List ℕ → ℕ → Bool
 all_fit zero b before base teen span cap = true

@@ -8,7 +8,6 @@ ghost use Rattle.scan.specs.Lines.{Precedes};
 
 use grids::cells;
 use lines::bytes::stated;
-use lines::equality::stays_equal;
 
 // Whether 16 bytes are the same: no way out of the loop, so that they are compared at once.
 fn same_from(register: &[u8], p: usize, q: usize) -> bool
@@ -16,10 +15,8 @@ fn same_from(register: &[u8], p: usize, q: usize) -> bool
     ensures { result ≡ same_from register.now p q 16 }
 {
     let mut same = true;
-    let mut n = 0;
-    while n < 16 {
-        same = stays_equal(same, register[p + n], register[q + n]);
-        n += 1;
+    for n in 0..16 {
+        same &= register[p + n] == register[q + n];
     }
     same
 }
@@ -29,14 +26,13 @@ pub fn agreed(register: &[u8], p: usize, q: usize, width: usize) -> usize
     requires { (p + width ≤ length register.now) × (q + width ≤ length register.now) }
     ensures { (result ≤ width) × Same register.now p q result }
 {
-    let mut i = 0;
-    while i + 16 <= width {
+    for block in 0..width / 16 {
+        let i = 16 * block;
         if !same_from(register, p + i, q + i) {
             return i;
         }
-        i += 16;
     }
-    i
+    16 * (width / 16)
 }
 
 // The number of a field that is laid out.
@@ -52,14 +48,12 @@ pub fn comes_before(register: &[u8], p: usize, q: usize, from: usize, size: usiz
     requires { (size ≤ 128) × (p + 3 * size ≤ length register.now) × (q + 3 * size ≤ length register.now) × CellsLaid 15 register.now p size × CellsLaid 15 register.now q size × (from ≤ size) × Same register.now p q (3 * from) }
     ensures { (result ≡ true) ↔ Precedes size register.now p q }
 {
-    let mut k = from;
-    while k < size {
+    for k in from..size {
         let x = cell(register, p + 3 * k);
         let y = cell(register, q + 3 * k);
         if x != y {
             return cells::rank(x) < cells::rank(y);
         }
-        k += 1;
     }
     false
 }

@@ -1,11 +1,6 @@
--- `count_within` meets its contract. The loop's invariant: `found` is the count of the entries before entry `e`, whose line begins at `from`.
--- The measure is what is left of the entries.
-use Prim.Native.Nat.{◌-◌}
+-- `count_within` meets its contract. The loop's invariant: `found` is the count of the entries before entry `e`.
 use Rattle.counting.proofs.CountLaws.{CountedBefore}
 use Rattle.counting.proofs.within.count_within.Given as goal
 
 abbrev pub invariant-loop-e : goal.invariant-loop-e
-invariant-loop-e l = CountedBefore l.register l.low l.high l.found l.from l.e
-
-abbrev pub decreases-loop-e : goal.decreases-loop-e
-decreases-loop-e l = l.count - l.e
+invariant-loop-e l = CountedBefore l.register l.low l.high l.found l.e

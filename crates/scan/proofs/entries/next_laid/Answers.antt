@@ -1,7 +1,6 @@
 -- `next_laid` meets its contract.
 use mathlib.Core.Path.{refl}
 use native.Mathlib.Omega.{arith}
-use borrow.Author.Tests.{not-true, not-false}
 use Rattle.layout.proofs.LineLaws.{cells-inside}
 use Rattle.scan.proofs.CellLaws.{cells-more}
 use Rattle.scan.proofs.EntryLaws.{cells-agreed, next-not, next-decides}
@@ -10,39 +9,43 @@ use Rattle.scan.proofs.entries.next_laid.Goals as goal
 
 pub agreed-k-requires : goal.agreed-k-requires
 agreed-k-requires c =
-    let w = cells-inside c.args.size in
-    (omega (arith, c.requires.2, c.requires.3), omega (arith, c.requires.3))
+    let w = cells-inside c.args.tables.now.size in
+    (omega arith, omega arith)
 
 pub line_laid-requires : goal.line_laid-requires
 line_laid-requires c =
     let g = c.agreed-k in
     let a = c.args in
-    (c.requires.0, c.requires.1, omega (arith, c.requires.2), c.requires.3, c.requires.4, omega (arith, g.ensures.0), cells-agreed a.size a.top a.register.now a.previous a.at _ g.result c.requires.5.cells-laid g.ensures.1 g.ensures.0 refl)
-
-pub returns-then-not-line_laid : goal.returns-then-not-line_laid
-returns-then-not-line_laid c =
-    let t = c.line_laid in
-    let a = c.args in
-    next-not a.size a.top a.register.now a.previous a.at t.result t.ensures (not-true t.result c.if-not-line_laid.true-raw)
+    let t = a.tables.now in
+    (omega arith, c.requires.1, omega (arith, g.ensures.0), cells-agreed t.size t.top a.register.now a.previous a.at _ g.result c.requires.2.cells-laid g.ensures.1 g.ensures.0 refl)
 
 pub comes_before-requires : goal.comes_before-requires
 comes_before-requires c =
-    let t = c.line_laid in
+    let f = c.line_laid in
     let g = c.agreed-k in
     let a = c.args in
-    let w = cells-inside a.size in
-    let here = t.ensures.0 (not-false t.result c.if-not-line_laid.false-raw) in (
-      c.requires.0,
-      omega (arith, c.requires.2, c.requires.3),
-      omega (arith, c.requires.3),
-      cells-more a.top a.register.now a.previous a.size c.requires.1 c.requires.5.cells-laid,
-      cells-more a.top a.register.now a.at a.size c.requires.1 here.cells-laid,
+    let t = a.tables.now in
+    let w = cells-inside t.size in
+    let here = f.ensures.0 c.if-line_laid.true in (
+      t.few,
+      omega arith,
+      omega arith,
+      cells-more t.top a.register.now a.previous t.size t.low c.requires.2.cells-laid,
+      cells-more t.top a.register.now a.at t.size t.low here.cells-laid,
       omega (arith, g.ensures.0),
       agree_less a.register.now a.previous a.at g.result _ (omega arith) g.ensures.1,
     )
 
-pub returns : goal.returns
-returns c =
-    let t = c.line_laid in
+pub returns-then-line_laid : goal.returns-then-line_laid
+returns-then-line_laid c =
+    let f = c.line_laid in
     let a = c.args in
-    next-decides a.size a.top a.register.now a.previous a.at t.result t.ensures (not-false t.result c.if-not-line_laid.false-raw) c.comes_before.result c.comes_before.ensures
+    let t = a.tables.now in
+    next-decides t.size t.top a.register.now a.previous a.at f.result f.ensures c.if-line_laid.true c.comes_before.result c.comes_before.ensures
+
+pub returns-else-line_laid : goal.returns-else-line_laid
+returns-else-line_laid c =
+    let f = c.line_laid in
+    let a = c.args in
+    let t = a.tables.now in
+    rw c.if-line_laid.false (next-not t.size t.top a.register.now a.previous a.at f.result f.ensures c.if-line_laid.false)

@@ -5,54 +5,35 @@ use Rattle.scan.proofs.OrderLaws.{cells_same, cells-next, before_here, before-ne
 use Rattle.scan.proofs.order.comes_before.Goals as goal
 
 pub loop-k-init : goal.loop-k-init
-loop-k-init c = let p = c.requires in (p.5, cells_same _ _ _ _ (omega (arith, p.1, p.5)) (omega (arith, p.2, p.5)) p.6)
-
-pub overflow_mul-k : goal.overflow_mul-k
-overflow_mul-k c = omega (arith, c.requires.0)
-
-pub overflow_add-p : goal.overflow_add-p
-overflow_add-p c = omega (arith, c.requires.1)
+loop-k-init c = let p = c.requires in cells_same _ _ _ _ (omega (arith, p.1, p.5)) (omega (arith, p.2, p.5)) p.6
 
 pub cell-x-requires : goal.cell-x-requires
 cell-x-requires c =
     let p = c.requires in
     let a = c.args in
-    let l = c.loop-k in
-    let f = cells-field 15 a.register.now a.p a.size (omega arith) p.1 p.3 l.k (omega arith) in
+    let f = cells-field 15 a.register.now a.p a.size (omega arith) p.1 p.3 c.loop-k.k (omega arith) in
     (omega (arith, p.1), f.0, f.1)
-
-pub overflow_mul-k-in-loop-k : goal.overflow_mul-k-in-loop-k
-overflow_mul-k-in-loop-k c = omega (arith, c.requires.0)
-
-pub overflow_add-q : goal.overflow_add-q
-overflow_add-q c = omega (arith, c.requires.2)
 
 pub cell-y-requires : goal.cell-y-requires
 cell-y-requires c =
     let p = c.requires in
     let a = c.args in
-    let l = c.loop-k in
-    let f = cells-field 15 a.register.now a.q a.size (omega arith) p.2 p.4 l.k (omega arith) in
+    let f = cells-field 15 a.register.now a.q a.size (omega arith) p.2 p.4 c.loop-k.k (omega arith) in
     (omega (arith, p.2), f.0, f.1)
 
 pub returns-then-x-y : goal.returns-then-x-y
 returns-then-x-y c =
     let l = c.loop-k in
     let a = c.args in
-    before_here a.register.now a.p a.q a.size l.k l.invariant.1 c.cell-x.result c.cell-y.result c.rank.result c.rank-then-x-y.result
+    before_here a.register.now a.p a.q a.size l.k l.invariant c.cell-x.result c.cell-y.result c.rank.result c.rank-then-x-y.result
     (omega arith) c.cell-x.ensures c.cell-y.ensures (λ e. omega (arith, e)) c.rank.ensures c.rank-then-x-y.ensures
-
-pub overflow_add-k : goal.overflow_add-k
-overflow_add-k c = omega (arith, c.requires.0)
 
 pub loop-k-preserved : goal.loop-k-preserved
 loop-k-preserved c =
-    let l = c.loop-k in
     let a = c.args in
-    (omega arith, cells-next a.register.now a.p a.q l.k l.invariant.1 (sym c.cell-x.ensures ∙ (omega arith) ∙ c.cell-y.ensures))
+    cells-next a.register.now a.p a.q c.loop-k.k c.loop-k.invariant (sym c.cell-x.ensures ∙ (omega arith) ∙ c.cell-y.ensures)
 
 pub returns : goal.returns
 returns c =
-    let l = c.loop-k in
     let a = c.args in
-    before-never a.register.now a.p a.q a.size l.k l.invariant.1 (omega arith)
+    before-never a.register.now a.p a.q a.size c.loop-k.k c.loop-k.invariant (omega arith)

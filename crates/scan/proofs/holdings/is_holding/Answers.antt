@@ -1,7 +1,7 @@
--- `stays_held` meets its contract.
+-- `is_holding` meets its contract.
 use mathlib.Core.Path.{refl}
 use Rattle.scan.specs.Holdings.{is_holding}
-use Rattle.scan.proofs.holdings.stays_held.Goals as goal
+use Rattle.scan.proofs.holdings.is_holding.Goals as goal
 
 pub returns : goal.returns
 unfolding is_holding

@@ -1,7 +1,7 @@
--- `stays_none` meets its contract.
+-- `is_none` meets its contract.
 use mathlib.Core.Path.{refl}
 use Rattle.scan.specs.Holdings.{is_none}
-use Rattle.scan.proofs.holdings.stays_none.Goals as goal
+use Rattle.scan.proofs.holdings.is_none.Goals as goal
 
 pub returns : goal.returns
 unfolding is_none
