@@ -38,7 +38,7 @@ use Rattle.grids.proofs.ComparisonLaws.{equal-yes, equal-no}
 use Rattle.grids.proofs.GridLaws.{length-arrangement, class-passes, passes-class}
 use Rattle.grids.proofs.LeastLaws.{length-least, class-least, one-class-one-least}
 use Rattle.grids.proofs.QuestionLaws.{Numbered, first-no-stays, first-no-next, shape_then, cells-pass, size_fits}
-use Rattle.general_search.specs.declared.search.Orders.{Orders}
+use Rattle.permutations.specs.declared.orders.Orders.{Orders}
 use Rattle.canonical.specs.Represent.{represent_questions, Produces, Starting, Sizes, OrderSizes, RepresentAnswer, RepresentDone, RepresentRefused, RepresentedBy}
 use Rattle.canonical.specs.Same.{same_questions, SameAnswer, SameRefused, ComparedBy}
 use Rattle.general_search.specs.Search.{leading_rows, LeastOrders}
@@ -81,7 +81,7 @@ module _ (m n top : ℕ) (a b : List ℕ) where
 arrangement-take : (m n : ℕ) (p q g : List ℕ) → arrangement m n (take m p) (take n q) g ≡ arrangement m n p q g
 arrangement-take m n p q g = leading-is n g (take m p) (take n q) p q m (λ i j im jn. rw (get_or-take m p i 0 im, get_or-take n q j 0 jn))
 
-pub least-produces : (m n : ℕ) (g : List ℕ) (o : Orders) → LeastOrders m n g o → Produces 8 m n g (least m n g) (row_numbers o.rows) (column_numbers o.columns)
+pub least-produces : (m n : ℕ) (g : List ℕ) (o : Orders 8) → LeastOrders m n g o → Produces 8 m n g (least m n g) (row_numbers o.rows) (column_numbers o.columns)
 least-produces m n g o l = record {
   row-permutation = l.orders.rows.whole.permutation;
   column-permutation = l.orders.columns.whole.permutation;
@@ -120,7 +120,7 @@ module _ (m n : ℕ) (g p q x x' : List ℕ) (e : x ≡ arrangement m n p q g) w
   written-part : take (m * n - 0) (x ++ x') ≡ arrangement m n p q g
   written-part = part-is x x' (m * n) written-size ∙ e
 
-pub arrangements-compared : (m n : ℕ) (a b : List ℕ) (p q : Orders) (x y x' y' : List ℕ) (c : GridComparison) →
+pub arrangements-compared : (m n : ℕ) (a b : List ℕ) (p q : Orders 8) (x y x' y' : List ℕ) (c : GridComparison) →
     x ≡ leading_rows m n a p → y ≡ leading_rows m n b q → ComparesGrids (take (m * n - 0) (x ++ x')) (take (m * n - 0) (y ++ y')) c →
     ComparesGrids (leading_rows m n a p) (leading_rows m n b q) c
 arrangements-compared m n a b p q x y x' y' c e f g = rw (written-part m n a _ _ x x' e, written-part m n b _ _ y y' f) at g
@@ -164,7 +164,7 @@ unfolding ComparedBy
 same-refuses width zero t m n a b r h x = absurd (h refl)
 same-refuses width (suc k) t m n a b r h x = x
 
-module _ (m n top : ℕ) (a b : List ℕ) (p q : Orders) (fits : Limits m n top × IsGrid m n top a × IsGrid m n top b) (lp : LeastOrders m n a p) (lq : LeastOrders m n b q)
+module _ (m n top : ℕ) (a b : List ℕ) (p q : Orders 8) (fits : Limits m n top × IsGrid m n top a × IsGrid m n top b) (lp : LeastOrders m n a p) (lq : LeastOrders m n b q)
     (c : GridComparison) (found : ComparesGrids (leading_rows m n a p) (leading_rows m n b q) c) where
   agreed-is : c.agreed ≡ common_prefix_length (least m n a) (least m n b)
   agreed-is = found.agreed-is ∙ ap₂ common_prefix_length lp.gives lq.gives

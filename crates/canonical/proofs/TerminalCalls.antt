@@ -30,7 +30,7 @@ use Rattle.grids.specs.Questions.{Question, first_no, Limits, question1, questio
 use Rattle.grids.proofs.LentLaws.{grid-bytes, limits-lent}
 use Rattle.grids.proofs.QuestionLaws.{first_no-has}
 use Rattle.grids.proofs.TerminalLaws.{after-yes, other-rows, few-rows, many-rows, terminal-rows, terminal-no, terminal-pass}
-use Rattle.general_search.specs.declared.search.Orders.{Orders}
+use Rattle.permutations.specs.declared.orders.Orders.{Orders}
 use Rattle.canonical.specs.Represent.{Produces, RepresentAnswer, represent_questions, terminal_represent_questions, TerminalRepresented}
 use Rattle.canonical.specs.Same.{SameAnswer, same_questions, terminal_same_questions, TerminalCompared, class_number, class_agreed, terminal_same_number, terminal_same_agreed}
 use Rattle.canonical.specs.Programs.{RepresentProgram, MeetsRepresent, SameProgram, MeetsSame, MeetsTerminalRepresent, MeetsTerminalSame, RepresentAlike, SameAlike}
@@ -137,6 +137,6 @@ produces-narrower width w m n a b rows columns h k p = record {
     e : take m (take w rows) ≡ take m rows
     e = take-take m w rows h
 
-pub terminal-produces : (m n : ℕ) (g : List ℕ) (o : Orders) (r : TerminalRowPermutation) → m ≤ 5 → LeastOrders m n g o →
+pub terminal-produces : (m n : ℕ) (g : List ℕ) (o : Orders 8) (r : TerminalRowPermutation) → m ≤ 5 → LeastOrders m n g o →
     Lists (take 5 (row_numbers o.rows)) o.rows.size r → Produces 5 m n g (least m n g) (terminal_row_numbers r) (column_numbers o.columns)
 terminal-produces m n g o r h l e = rw e.numbers (produces-narrower 8 5 m n g (least m n g) (row_numbers o.rows) (column_numbers o.columns) h (omega arith) (least-produces m n g o l))

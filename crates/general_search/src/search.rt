@@ -6,23 +6,17 @@ ghost use Rattle.grids.specs.Comparisons.{compared};
 ghost use Rattle.general_search.specs.Search.{row_at, lesser_orders, EqualRows, Repeats, Searching, Candidate, Bounded, InCommon, Settled, Searched, BranchOutcome, Followed, FollowOutcome, LeastOrders};
 
 use crate::blocks;
-use grids::comparisons::Comparison;
 use grids::{cells, comparisons};
 use permutations::columns::{ColumnNumber, ColumnPermutation};
+use permutations::orders::Orders;
 use permutations::rows::{RowNumber, RowPermutation};
-
-// A row order and a column order: the arrangement of a grid by them.
-#[derive(Clone, Copy)]
-pub struct Orders {
-    pub rows: RowPermutation,
-    pub columns: ColumnPermutation,
-}
+use std::cmp::Ordering;
 
 // The best, and what is known of the candidates: those before position `from`, and those with 1 in `above`, come after it. Where
 // `made` says so, the best is the candidate at `from`.
 #[derive(Clone, Copy)]
 pub struct Bound {
-    pub best: Orders,
+    pub best: Orders<8>,
     pub from: usize,
     pub above: [u8; 8],
     pub made: bool,
@@ -32,7 +26,7 @@ pub struct Bound {
 // branch equals the best one, whose row order begins with the same `back` rows.
 #[derive(Clone, Copy)]
 pub struct Found {
-    pub best: Orders,
+    pub best: Orders<8>,
     pub back: usize,
 }
 
@@ -58,10 +52,10 @@ fn repeated(grid: &[u8], n: usize, rows: RowPermutation, k: usize, t: usize) -> 
     requires { n ≤ 16 }
     ensures { Repeats n grid.now (row_numbers rows) k t result }
 {
-    let row = rows.row(t);
+    let row = rows.number(t);
     let mut s = k;
     while s < t {
-        if equal_rows(grid, n, rows.row(s), row) {
+        if equal_rows(grid, n, rows.number(s), row) {
             return true;
         }
         s += 1;
@@ -77,18 +71,18 @@ pub fn candidate(
     n: usize,
     k: usize,
     t: usize,
-    placed: Orders,
+    placed: Orders<8>,
     breaks: [u8; 16],
-    best: Orders,
+    best: Orders<8>,
     made: bool,
-) -> Orders
+) -> Orders<8>
     requires { Searching m n grid.now k placed breaks best × (k ≤ t) × (t < m) × (made ≡ true → Candidate m n grid.now k t placed breaks best) }
     ensures { Candidate m n grid.now k t placed breaks result }
 {
     if made {
         return best;
     }
-    let columns = blocks::sorted(grid, n, placed.rows.row(t), placed.columns, breaks);
+    let columns = blocks::sorted(grid, n, placed.rows.number(t), placed.columns, breaks);
     if k == t {
         let rows = placed.rows;
         return Orders { rows, columns };
@@ -98,20 +92,20 @@ pub fn candidate(
 }
 
 // Row k of the arrangements by two pairs of orders.
-pub fn compare_at(grid: &[u8], n: usize, k: usize, a: Orders, b: Orders) -> Comparison
+pub fn compare_at(grid: &[u8], n: usize, k: usize, a: Orders<8>, b: Orders<8>) -> Ordering
     requires { n ≤ 16 }
     ensures { result ≡ compared (row_at n grid.now k a) (row_at n grid.now k b) }
 {
-    let x = a.rows.row(k);
-    let y = b.rows.row(k);
+    let x = a.rows.number(k);
+    let y = b.rows.number(k);
     comparisons::compare_rows(grid, n, x, a.columns, y, b.columns)
 }
 
 // The candidate, if its comparison with the best found it less; else the best.
-pub fn lesser(found: Comparison, next: Orders, best: Orders) -> Orders
+pub fn lesser(found: Ordering, next: Orders<8>, best: Orders<8>) -> Orders<8>
     ensures { result ≡ lesser_orders found next best }
 {
-    if comparisons::is_less(found) {
+    if found.is_lt() {
         return next;
     }
     best
@@ -123,9 +117,9 @@ fn lowered(
     m: usize,
     n: usize,
     k: usize,
-    placed: Orders,
+    placed: Orders<8>,
     breaks: [u8; 16],
-    best: Orders,
+    best: Orders<8>,
 ) -> Bound
     requires { Searching m n grid.now k placed breaks best }
     ensures { Bounded m n grid.now k placed breaks best result }
@@ -138,9 +132,9 @@ fn lowered(
     while t < m {
         let next = candidate(grid, m, n, k, t, placed, breaks, out, false);
         let found = compare_at(grid, n, k, next, out);
-        if comparisons::is_greater(found) {
+        if found.is_gt() {
             above[t] = 1;
-        } else if comparisons::is_less(found) {
+        } else if found.is_lt() {
             out = next;
             from = t;
             made = true;
@@ -162,9 +156,9 @@ fn bounded(
     m: usize,
     n: usize,
     k: usize,
-    placed: Orders,
+    placed: Orders<8>,
     breaks: [u8; 16],
-    best: Orders,
+    best: Orders<8>,
     ahead: bool,
 ) -> Bound
     requires { Searching m n grid.now k placed breaks best }
@@ -188,7 +182,7 @@ fn bounded(
     }
     let mut i = 0;
     while i <= k {
-        if best.rows.row(i).0 != placed.rows.row(i).0 {
+        if best.rows.number(i).0 != placed.rows.number(i).0 {
             return Bound {
                 best,
                 from: k,
@@ -207,7 +201,7 @@ fn common(a: RowPermutation, b: RowPermutation, count: usize) -> usize
 {
     let mut i = 0;
     while i < count {
-        if a.row(i).0 != b.row(i).0 {
+        if a.number(i).0 != b.number(i).0 {
             return i;
         }
         i += 1;
@@ -221,9 +215,9 @@ fn last(
     m: usize,
     n: usize,
     k: usize,
-    placed: Orders,
+    placed: Orders<8>,
     breaks: [u8; 16],
-    best: Orders,
+    best: Orders<8>,
     jumps: bool,
 ) -> Found
     requires { Searching m n grid.now k placed breaks best × (m ≤ k + 1) }
@@ -238,7 +232,7 @@ fn last(
     if !jumps {
         return Found { best: out, back: m };
     }
-    if !comparisons::is_equal(found) {
+    if !found.is_eq() {
         return Found { best: out, back: m };
     }
     let back = common(next.rows, out.rows, m);
@@ -253,10 +247,10 @@ fn settled(rows: RowPermutation, k: usize, t: usize, found: Found) -> bool
     if k < found.back {
         return true;
     }
-    let row = found.best.rows.row(k);
+    let row = found.best.rows.number(k);
     let mut s = k;
     while s < t {
-        if rows.row(s).0 == row.0 {
+        if rows.number(s).0 == row.0 {
             return true;
         }
         s += 1;
@@ -274,10 +268,10 @@ fn follow(
     n: usize,
     k: usize,
     t: usize,
-    placed: Orders,
-    next: Orders,
+    placed: Orders<8>,
+    next: Orders<8>,
     breaks: [u8; 16],
-    best: Orders,
+    best: Orders<8>,
     jumps: bool,
     ahead: bool,
 ) -> Found
@@ -285,7 +279,7 @@ fn follow(
     ensures { FollowOutcome m n grid.now k t placed best jumps result }
 {
     let found = compare_at(grid, n, k, next, best);
-    if comparisons::is_greater(found) {
+    if found.is_gt() {
         return Found { best, back: m };
     }
     let out = lesser(found, next, best);
@@ -323,7 +317,7 @@ pub fn place(
     m: usize,
     n: usize,
     k: usize,
-    placed: Orders,
+    placed: Orders<8>,
     breaks: [u8; 16],
     low: Bound,
     jumps: bool,
@@ -359,7 +353,7 @@ pub fn place(
 }
 
 // The orders of the least arrangement.
-pub fn least_orders(grid: &[u8], m: usize, n: usize) -> Orders
+pub fn least_orders(grid: &[u8], m: usize, n: usize) -> Orders<8>
     requires { (m ≤ 8) × (n ≤ 16) × (length grid.now ≡ m * n) }
     ensures { LeastOrders m n grid.now result }
 {

@@ -7,9 +7,10 @@ ghost use Rattle.general_search.specs.Counts.{weight, counts, CountsRows, FirstG
 ghost use Rattle.general_search.specs.Search.{Searching, Bounded, LeastOrders};
 
 use crate::search;
-use crate::search::{Bound, Orders};
+use crate::search::Bound;
 use grids::{cells, comparisons};
 use permutations::columns::{ColumnNumber, ColumnPermutation};
+use permutations::orders::Orders;
 use permutations::rows::{RowNumber, RowPermutation};
 
 // What a cell adds to the counts of its row: a power of 16 by its rank, and nothing from rank 15 on.
@@ -45,7 +46,7 @@ fn all_counts(grid: &[u8], m: usize, n: usize, rows: RowPermutation) -> [u64; 5]
     let mut out = [0; 5];
     let mut t = 0;
     while t < m {
-        out[t] = counts(grid, n, rows.row(t));
+        out[t] = counts(grid, n, rows.number(t));
         t += 1;
     }
     out
@@ -69,7 +70,7 @@ fn first_greatest(all: [u64; 5], m: usize) -> usize
 
 // Whether it pays to look ahead: not with four rows or fewer, nor where all rows have the same counts, unless some of them equal the
 // first and others do not.
-fn looks_ahead(grid: &[u8], m: usize, n: usize, start: Orders, all: [u64; 5]) -> bool
+fn looks_ahead(grid: &[u8], m: usize, n: usize, start: Orders<8>, all: [u64; 5]) -> bool
     requires { n ≤ 16 }
 {
     if m <= 4 {
@@ -91,7 +92,7 @@ fn looks_ahead(grid: &[u8], m: usize, n: usize, start: Orders, all: [u64; 5]) ->
             RowNumber(t as u8),
             columns,
         );
-        if comparisons::is_equal(found) {
+        if found.is_eq() {
             equal = true;
         } else {
             differs = true;
@@ -124,7 +125,7 @@ fn first_bound(
     grid: &[u8],
     m: usize,
     n: usize,
-    start: Orders,
+    start: Orders<8>,
     breaks: [u8; 16],
     all: [u64; 5],
 ) -> Bound
@@ -140,12 +141,12 @@ fn first_bound(
         best,
         from: first,
         above,
-        made: comparisons::is_less(found),
+        made: found.is_lt(),
     }
 }
 
 // The orders of the least arrangement.
-pub fn least_orders(grid: &[u8], m: usize, n: usize) -> Orders
+pub fn least_orders(grid: &[u8], m: usize, n: usize) -> Orders<8>
     requires { (m ≤ 5) × (n ≤ 16) × (length grid.now ≡ m * n) }
     ensures { LeastOrders m n grid.now result }
 {

@@ -17,7 +17,7 @@ use native.Mathlib.Decide.{ℕ_discrete, dec_lt}
 use native.Mathlib.Omega.{arith}
 use lib.ListN.{length, get_or, set, length-set, get_or-eq_default}
 use lib.Seq.{get_or-set_same, get_or-set_other}
-use Rattle.permutations.specs.declared.rows.RowPermutation.{RowPermutation}
+use Rattle.permutations.specs.Rows.{RowPermutation}
 use Rattle.permutations.specs.Lists.{tabulate}
 use Rattle.permutations.specs.Rows.{row_numbers, IsRowPermutation}
 use Rattle.permutations.proofs.ListLaws.{length-tabulate, at-tabulate}

@@ -16,7 +16,7 @@
 --   Unmarked a b         ==  b is 0 at each position that a marks
 use Rattle.std.specs.Prelude.{◌≡◌, List, ◌⊎◌, ℕ, ◌+◌, ◌-◌, ◌*◌, ◌^◌, ◌≤◌, ◌<◌, length, get_or}
 use Rattle.std.specs.Int.Bits.{bit_and}
-use Rattle.permutations.specs.declared.rows.RowPermutation.{RowPermutation}
+use Rattle.permutations.specs.Rows.{RowPermutation}
 use Rattle.permutations.specs.Rows.{row_numbers, IsRowPermutation}
 use Rattle.two_values.specs.Search.{Tables, PlacesBy}
 use Rattle.two_values.specs.Words.{RowWords, LowWords}

@@ -12,7 +12,7 @@ use permutations::rows::RowPermutation;
 fn number(rows: RowPermutation, i: usize) -> usize
     ensures { result ≡ get_or (row_numbers rows) i 0 }
 {
-    rows.row(i).0 as usize
+    rows.number(i).0 as usize
 }
 
 // Of the rows at positions s and t, the position of one that the other is over: 8 where there is none, or where not both are marked.

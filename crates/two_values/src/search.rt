@@ -32,9 +32,9 @@ fn lowest(keys: [u16; 8], rows: RowPermutation, m: usize, k: usize) -> u16
     requires { k < m }
     ensures { Lowest m k (row_numbers rows) keys result }
 {
-    let mut least = number_at(keys, rows.row(k).0 as usize);
+    let mut least = number_at(keys, rows.number(k).0 as usize);
     for t in k + 1..m {
-        let key = number_at(keys, rows.row(t).0 as usize);
+        let key = number_at(keys, rows.number(t).0 as usize);
         least = least.min(key);
     }
     least
@@ -45,7 +45,7 @@ fn common(a: RowPermutation, b: RowPermutation, count: usize) -> usize
     ensures { CommonRows (row_numbers a) (row_numbers b) count result }
 {
     for i in 0..count {
-        if a.row(i).0 != b.row(i).0 {
+        if a.number(i).0 != b.number(i).0 {
             return i;
         }
     }
@@ -183,7 +183,7 @@ pub fn place(
     let mut new = is_lower(fresh, known, least);
     let mut covered = [0u8; 8];
     for t in k..m {
-        let row = rows.row(t);
+        let row = rows.number(t);
         let key = number_at(keys, row.0 as usize);
         if is_followed(key, least, dropped, covered, t, row) {
             let next = rows.swapped(k, t);

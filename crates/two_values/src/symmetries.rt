@@ -22,8 +22,8 @@ pub fn with_symmetry(
 {
     let mut out = symmetries;
     for i in 0..m {
-        let from = first.row(i);
-        let to = second.row(i);
+        let from = first.number(i);
+        let to = second.number(i);
         out[kept * 8 + from.0 as usize] = to.0;
     }
     out
@@ -42,7 +42,7 @@ fn fixes(symmetries: [u8; 32], s: usize, rows: RowPermutation, k: usize) -> bool
     ensures { Fixes symmetries s (row_numbers rows) k result }
 {
     for i in 0..k {
-        let row = rows.row(i);
+        let row = rows.number(i);
         if symmetries[s * 8 + row.0 as usize] != row.0 {
             return false;
         }

@@ -15,10 +15,10 @@ use Rattle.general_search.proofs.search.+follow_place.Goals.{place-then-above-t-
 pub follow-compare_at-found-requires : goal.follow-compare_at-found-requires
 follow-compare_at-found-requires t c = c.requires.0.columns-fit
 
-pub follow-returns-then-is_greater : goal.follow-returns-then-is_greater
-follow-returns-then-is_greater t c =
+pub follow-returns-then-is_gt : goal.follow-returns-then-is_gt
+follow-returns-then-is_gt t c =
     let p = c.requires in
-    follow-cut _ _ _ _ _ _ _ _ _ _ p.0 p.1 p.2 p.3 p.4 c.compare_at-found.ensures _ _ _ c.is_greater.ensures c.if-is_greater.true refl refl
+    follow-cut _ _ _ _ _ _ _ _ _ _ p.0 p.1 p.2 p.3 p.4 c.compare_at-found.ensures _ _ _ c.is_gt.ensures c.if-is_gt.true refl refl
 
 pub follow-split-further-requires : goal.follow-split-further-requires
 follow-split-further-requires t c = let p = c.requires in (p.0.columns-fit, omega (arith, p.1, p.2, p.0.rows_fit), p.4.orders.columns)
@@ -32,7 +32,7 @@ follow-overflow_add-k-then-m-k t c = let p = c.requires in omega (arith, p.1, p.
 pub follow-last-ended-requires : goal.follow-last-ended-requires
 follow-last-ended-requires t c =
     let p = c.requires in
-    (further _ _ _ _ _ _ _ _ _ _ p.0 p.1 p.2 p.3 p.4 c.compare_at-found.ensures _ c.lesser-out.ensures _ c.is_greater.ensures c.if-is_greater.false _ c.split-further.ensures, omega (arith, c.if-m-k.true))
+    (further _ _ _ _ _ _ _ _ _ _ p.0 p.1 p.2 p.3 p.4 c.compare_at-found.ensures _ c.lesser-out.ensures _ c.is_gt.ensures c.if-is_gt.false _ c.split-further.ensures, omega (arith, c.if-m-k.true))
 
 pub follow-returns-then-m-k : goal.follow-returns-then-m-k
 follow-returns-then-m-k t c =
@@ -45,7 +45,7 @@ follow-overflow_add-k-2 t c = let p = c.requires in omega (arith, p.1, p.2, p.0.
 pub follow-bounded-low-requires : goal.follow-bounded-low-requires
 follow-bounded-low-requires t c =
     let p = c.requires in
-    further _ _ _ _ _ _ _ _ _ _ p.0 p.1 p.2 p.3 p.4 c.compare_at-found.ensures _ c.lesser-out.ensures _ c.is_greater.ensures c.if-is_greater.false _ c.split-further.ensures
+    further _ _ _ _ _ _ _ _ _ _ p.0 p.1 p.2 p.3 p.4 c.compare_at-found.ensures _ c.lesser-out.ensures _ c.is_gt.ensures c.if-is_gt.false _ c.split-further.ensures
 
 pub follow-overflow_add-k-3 : goal.follow-overflow_add-k-3
 follow-overflow_add-k-3 t c = let p = c.requires in omega (arith, p.1, p.2, p.0.rows_fit)
@@ -54,7 +54,7 @@ pub follow-place-deeper-requires : goal.follow-place-deeper-requires
 follow-place-deeper-requires t c =
     let p = c.requires in (
       omega (arith, p.1, p.2),
-      bound-placed _ _ _ _ _ _ _ _ (further _ _ _ _ _ _ _ _ _ _ p.0 p.1 p.2 p.3 p.4 c.compare_at-found.ensures _ c.lesser-out.ensures _ c.is_greater.ensures c.if-is_greater.false _ c.split-further.ensures) c.bounded-low.ensures,
+      bound-placed _ _ _ _ _ _ _ _ (further _ _ _ _ _ _ _ _ _ _ p.0 p.1 p.2 p.3 p.4 c.compare_at-found.ensures _ c.lesser-out.ensures _ c.is_gt.ensures c.if-is_gt.false _ c.split-further.ensures) c.bounded-low.ensures,
     )
 
 pub follow-returns-then-deeper-k : goal.follow-returns-then-deeper-k
@@ -77,7 +77,7 @@ pub follow-place-again-requires : goal.follow-place-again-requires
 unfolding tabulate
 follow-place-again-requires t c =
     let p = c.requires in
-    let f = further _ _ _ _ _ _ _ _ _ _ p.0 p.1 p.2 p.3 p.4 c.compare_at-found.ensures _ c.lesser-out.ensures _ c.is_greater.ensures c.if-is_greater.false _ c.split-further.ensures in
+    let f = further _ _ _ _ _ _ _ _ _ _ p.0 p.1 p.2 p.3 p.4 c.compare_at-found.ensures _ c.lesser-out.ensures _ c.is_gt.ensures c.if-is_gt.false _ c.split-further.ensures in
     let i = (outcome-better _ _ _ _ _ _ _ _ _ c.bounded-low.ensures.improves c.place-deeper.ensures).improves in (
       omega (arith, p.1, p.2),
       (searching-better _ _ _ _ _ _ _ _ f i, bound-none _ _ _ _ _ _ _ _ refl refl (λ s h. none-marked s) refl i.orders),

@@ -15,9 +15,9 @@ pub returns-then-not-ahead : goal.returns-then-not-ahead
 unfolding tabulate
 returns-then-not-ahead c = bound-none _ _ _ _ _ _ _ _ refl refl (λ s h. none-marked s) refl c.requires.best-orders
 
-pub returns-then-row : goal.returns-then-row
+pub returns-then-number : goal.returns-then-number
 unfolding tabulate
-returns-then-row c = bound-none _ _ _ _ _ _ _ _ refl refl (λ s h. none-marked s) refl c.requires.best-orders
+returns-then-number c = bound-none _ _ _ _ _ _ _ _ refl refl (λ s h. none-marked s) refl c.requires.best-orders
 
 pub overflow_add-i : goal.overflow_add-i
 overflow_add-i c = let s = c.requires in omega (arith, s.placed-fits, s.rows_fit, c.loop-i-test.true)

@@ -16,9 +16,9 @@ pub returns-then-k-t : goal.returns-then-k-t
 returns-then-k-t c =
     let pre = c.requires in
     candidate-of _ _ _ _ _ _ _ _ _ pre.0 pre.1 pre.2 (record { numbers = sym (swapped_same _ _ _ c.if-k-t.true); size = refl }) _
-    c.row.ensures c.sorted-columns.ensures
+    c.number.ensures c.sorted-columns.ensures
 
 pub returns : goal.returns
 returns c =
     let pre = c.requires in
-    candidate-of _ _ _ _ _ _ _ _ _ pre.0 pre.1 pre.2 c.swapped-rows.ensures _ c.row.ensures c.sorted-columns.ensures
+    candidate-of _ _ _ _ _ _ _ _ _ pre.0 pre.1 pre.2 c.swapped-rows.ensures _ c.number.ensures c.sorted-columns.ensures

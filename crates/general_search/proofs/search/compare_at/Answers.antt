@@ -2,4 +2,4 @@
 use Rattle.general_search.proofs.search.compare_at.Goals as goal
 
 pub returns : goal.returns
-returns c = rw (← c.row-x.ensures, ← c.row-y.ensures) c.compare_rows.ensures
+returns c = rw (← c.number-x.ensures, ← c.number-y.ensures) c.compare_rows.ensures

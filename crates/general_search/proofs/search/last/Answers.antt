@@ -33,8 +33,8 @@ returns-then-not-jumps c =
     let s = placed-last _ _ _ _ _ _ _ _ _ (omega (arith, pre.0.placed-fits, pre.1, one)) pre.0 next i l in
     (s, outcome-searched _ _ _ _ _ _ _ _ pre.0.placed-fits s)
 
-pub returns-then-not-is_equal : goal.returns-then-not-is_equal
-returns-then-not-is_equal c =
+pub returns-then-not-is_eq : goal.returns-then-not-is_eq
+returns-then-not-is_eq c =
     let pre = c.requires in
     let next = c.candidate-next.ensures in
     let found = c.compare_at-found.ensures in
@@ -55,5 +55,5 @@ returns c =
     let i = lesser-improves _ _ _ _ _ _ _ _ _ _ _ pre.0 next (omega (arith, pre.0.placed-fits, one)) found which in
     let l = lesser-lower _ _ _ _ _ _ _ _ _ _ _ pre.0 next (omega (arith, pre.0.placed-fits, one)) found which in
     let s = placed-last _ _ _ _ _ _ _ _ _ (omega (arith, pre.0.placed-fits, pre.1, one)) pre.0 next i l in
-    let e = lesser-equal _ _ _ _ _ _ _ _ _ _ _ pre.0 next (omega (arith, pre.0.placed-fits, one)) found which (equal-not-greater c.compare_at-found.result _ c.is_equal.ensures c.if-not-is_equal.false) in
+    let e = lesser-equal _ _ _ _ _ _ _ _ _ _ _ pre.0 next (omega (arith, pre.0.placed-fits, one)) found which (equal-not-greater c.compare_at-found.result _ c.is_eq.ensures c.if-not-is_eq.false) in
     (s, outcome-alike _ _ _ _ _ _ _ _ _ _ (omega (arith, pre.0.placed-fits, pre.1, one)) c.if-not-jumps.false pre.0 next s e c.common-back.ensures)

@@ -21,4 +21,4 @@ pub returns : goal.returns
 returns c =
     let pre = c.requires in
     let g = c.first_greatest-first.ensures in
-    first-bound _ _ _ _ _ _ _ _ pre.0 c.candidate-next.ensures g.within _ pre.3 g _ c.compare_at-found.ensures _ c.lesser-best.ensures refl c.marked-above.ensures c.is_less.ensures
+    first-bound _ _ _ _ _ _ _ _ pre.0 c.candidate-next.ensures g.within _ pre.3 g _ c.compare_at-found.ensures _ c.lesser-best.ensures refl c.marked-above.ensures c.is_lt.ensures

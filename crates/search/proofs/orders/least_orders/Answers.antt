@@ -27,7 +27,6 @@ pub first_rows-requires : goal.first_rows-requires
 first_rows-requires c = c.requires.0
 
 pub begun-found-requires : goal.begun-found-requires
-unfolding row_numbers
 begun-found-requires c =
     let p = c.requires in
     let e = c.identity-identity.ensures.numbers in
@@ -52,7 +51,6 @@ listed-list-requires c =
     (n16, places-after _ _ _ _ _ n16 c.begun-found.ensures.known.places)
 
 pub returns : goal.returns
-unfolding row_numbers
 returns c =
     let p = c.requires in
     let o = c.begun-found.ensures in

@@ -52,35 +52,35 @@ loop-t-init t c =
 pub is_followed-requires : goal.is_followed-requires
 is_followed-requires t c =
     let h = c.loop-t.invariant.2 in
-    (omega (arith, h.stands.tables.rows_fit), standing-row _ _ _ _ _ _ _ _ _ _ _ h.stands _ c.loop-t-test.true _ c.row-row.ensures)
+    (omega (arith, h.stands.tables.rows_fit), standing-row _ _ _ _ _ _ _ _ _ _ _ h.stands _ c.loop-t-test.true _ c.number-row.ensures)
 
 pub refined-further-requires : goal.refined-further-requires
 refined-further-requires t c =
     let h = c.loop-t.invariant.2 in
-    (h.stands.tables.by_rows.bits, standing-row _ _ _ _ _ _ _ _ _ _ _ h.stands _ c.loop-t-test.true _ c.row-row.ensures, standing-small _ _ _ _ _ _ _ _ _ _ _ h.stands)
+    (h.stands.tables.by_rows.bits, standing-row _ _ _ _ _ _ _ _ _ _ _ h.stands _ c.loop-t-test.true _ c.number-row.ensures, standing-small _ _ _ _ _ _ _ _ _ _ _ h.stands)
 
 pub place-now-requires : goal.place-now-requires
 place-now-requires t c =
     let h = c.loop-t.invariant.2 in (
       omega (arith, c.decreases, h.within),
-      turn-stands _ _ _ _ _ _ _ _ _ _ _ _ _ _ _ _ _ _ c.loop-t-test.true h _ c.row-row.ensures _ c.number_at-key.ensures _ c.is_followed.ensures c.if-is_followed.true _ c.swapped-next.ensures _ c.refined-further.ensures,
+      turn-stands _ _ _ _ _ _ _ _ _ _ _ _ _ _ _ _ _ _ c.loop-t-test.true h _ c.number-row.ensures _ c.number_at-key.ensures _ c.is_followed.ensures c.if-is_followed.true _ c.swapped-next.ensures _ c.refined-further.ensures,
     )
 
 pub returns-then-now-k : goal.returns-then-now-k
 returns-then-now-k t c =
-    turn-back _ _ _ _ _ _ _ _ _ _ _ _ _ _ _ _ _ _ c.loop-t-test.true c.loop-t.invariant.2 _ c.row-row.ensures _ c.number_at-key.ensures _ c.is_followed.ensures c.if-is_followed.true _ c.swapped-next.ensures _
+    turn-back _ _ _ _ _ _ _ _ _ _ _ _ _ _ _ _ _ _ c.loop-t-test.true c.loop-t.invariant.2 _ c.number-row.ensures _ c.number_at-key.ensures _ c.is_followed.ensures c.if-is_followed.true _ c.swapped-next.ensures _
     c.place-now.ensures c.if-now-k.true _ c.rekeyed-now.ensures.best
 
 pub covered_with-more-requires : goal.covered_with-more-requires
 covered_with-more-requires t c =
     let h = c.loop-t.invariant.2 in
-    (h.stands.tables.rows_fit, h.within, h.stands.rows, c.place-now.ensures.symmetries, standing-row _ _ _ _ _ _ _ _ _ _ _ h.stands _ c.loop-t-test.true _ c.row-row.ensures)
+    (h.stands.tables.rows_fit, h.within, h.stands.rows, c.place-now.ensures.symmetries, standing-row _ _ _ _ _ _ _ _ _ _ _ h.stands _ c.loop-t-test.true _ c.number-row.ensures)
 
 pub loop-t-preserved : goal.loop-t-preserved
 loop-t-preserved t c =
     let l = c.loop-t in
     let tm = c.loop-t-test.true in
-    let row = c.row-row.ensures in
+    let row = c.number-row.ensures in
     let key = c.number_at-key.ensures in
     let test = c.is_followed.ensures in
     let h = l.invariant.2 in
