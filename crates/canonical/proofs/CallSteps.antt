@@ -5,26 +5,28 @@
 --   represent-no, second-next  ==  same's first no: that of represent's questions of both slices, else that of question 7 of the second
 --   least-produces           ==  the orders of the least arrangement produce it
 --   represent-refuses, represent-gives  ==  represent's answers: where a question gets a no, and past the questions
---   sizes-starting           ==  the sizes of the orders, with a number that is not 0
---   written-within           ==  an arrangement at the beginning of an array is within it
---   arrangements-compared    ==  two arrangements, each at the beginning of an array, are compared
+--   represent-refused-by, same-refused-by  ==  the same of the results that the code hands on
+--   produces-narrower, narrowed-produces, narrowed-sized  ==  orders that produce a grid do so in fewer positions, if the rows fit
 --   FollowedByInverse width n p q r, followed_of  ==  r is p followed by the inverse of q; as the code makes it
 --   agreed-small             ==  the number of cells that agree is at most 128
+--   Carried, carried-back    ==  a's orders followed by the inverses of b's, as the code makes them
 --   same-refuses, same_differs, same_gives  ==  same's answers: where a question gets a no, and for grids in two classes and in one
+use Rattle.std.proofs.Common.{Result, Ok, Err}
+use Rattle.std.specs.Result.{IsErr, IsErrAnd}
 use mathlib.Core.Path.{◌≡◌, refl, sym, ap, ap₂, ◌∙◌}
 use mathlib.Core.List.{List, [], ◌∷◌, ◌++◌}
 use mathlib.Core.Bool.{Bool, true, false}
-use Prim.Native.Nat.{ℕ, zero, suc, ◌*◌, ◌-◌, ◌≤◌}
+use Prim.Native.Nat.{ℕ, zero, suc, ◌*◌, ◌≤◌}
 use native.Mathlib.Omega.{arith}
 use lib.ListN.{length, take}
-use lib.Seq.{get_or-take}
+use lib.Seq.{get_or-take, take-take}
 use Rattle.permutations.specs.Lists.{every}
 use Rattle.permutations.specs.Permutations.{composed, inverse}
 use Rattle.permutations.specs.Padded.{padded, IsPadded, is_sound, composed_padded, inverse_padded}
 use Rattle.permutations.specs.Rows.{row_numbers}
 use Rattle.permutations.specs.Columns.{column_numbers}
-use Rattle.permutations.proofs.ListLaws.{part-within, part-is}
-use Rattle.permutations.proofs.PaddedLaws.{is_sound-yes, is_sound-inverse, composed_padded-is, take-composed_padded, composed_padded-permutation, take-inverse_padded}
+use Rattle.permutations.specs.Numbered.{Lists}
+use Rattle.permutations.proofs.PaddedLaws.{take-padded, is_sound-yes, is_sound-inverse, composed_padded-is, take-composed_padded, composed_padded-permutation, take-inverse_padded}
 use Rattle.grids.specs.declared.comparisons.GridComparison.{GridComparison}
 use Rattle.grids.specs.CommonPrefix.{common_prefix_length}
 use Rattle.grids.specs.Grids.{IsGrid, capped, arrangement, one_class}
@@ -39,7 +41,11 @@ use Rattle.grids.proofs.GridLaws.{length-arrangement, class-passes, passes-class
 use Rattle.grids.proofs.LeastLaws.{length-least, class-least, one-class-one-least}
 use Rattle.grids.proofs.QuestionLaws.{Numbered, first-no-stays, first-no-next, shape_then, cells-pass, size_fits}
 use Rattle.permutations.specs.declared.orders.Orders.{Orders}
-use Rattle.canonical.specs.Represent.{represent_questions, Produces, Starting, Sizes, OrderSizes, RepresentAnswer, RepresentDone, RepresentRefused, RepresentedBy}
+use Rattle.refusals.specs.declared.Refusal.{Refusal}
+use Rattle.refusals.specs.Numbers.{refusal_number}
+use Rattle.canonical.specs.declared.answers.Match.{Match}
+use Rattle.canonical.specs.Answers.{represented, matched, IsSized}
+use Rattle.canonical.specs.Represent.{represent_questions, Produces, Starting, RepresentAnswer, RepresentDone, RepresentRefused, RepresentedBy}
 use Rattle.canonical.specs.Same.{same_questions, SameAnswer, SameRefused, ComparedBy}
 use Rattle.general_search.specs.Search.{leading_rows, LeastOrders}
 use Rattle.branches.proofs.LeadingRows.{leading-is}
@@ -99,31 +105,35 @@ pub represent-gives : (width k m n : ℕ) (g out : List ℕ) (r : RepresentAnswe
 unfolding RepresentedBy
 represent-gives width k m n g out r e x = rw e x
 
--- ---- the sizes of the orders returned
+pub represent-refused-by : (N k m n : ℕ) (g out : List ℕ) (r : Result (Orders N) Refusal) (x : Refusal) → IsErr r × IsErrAnd r (λ y. y ≡ x) → refusal_number x ≡ k → (k ≡ 0 → ⊥) →
+    RepresentedBy N k m n g out (represented r out)
+represent-refused-by N k m n g out (Ok o) x h e z = absurd h.1
+represent-refused-by N k m n g out (Err y) x h e z =
+    represent-refuses N k m n g out (represented {N = N} (Err y) out) z
+    (record { number_is = ap refusal_number h.1 ∙ e; unchanged = refl; starting = record { row-identity = refl; column-identity = refl } })
 
-pub sizes-starting : (width k m n rows columns : ℕ) → (k ≡ 0 → ⊥) → Sizes width 16 rows columns → OrderSizes width k m n rows columns
-unfolding OrderSizes
-sizes-starting width zero m n rows columns h x = absurd (h refl)
-sizes-starting width (suc k) m n rows columns h x = x
+-- in fewer positions, if the rows fit
+pub produces-narrower : (width w m n : ℕ) (a b rows columns : List ℕ) → m ≤ w → w ≤ width → Produces width m n a b rows columns → Produces w m n a b (take w rows) columns
+produces-narrower width w m n a b rows columns h k p = record {
+  row-permutation = rw e p.row-permutation;
+  column-permutation = p.column-permutation;
+  gives = rw e p.gives;
+  row-rest = ap (take w) p.row-rest ∙ take-padded w width m (take m rows) k ∙ ap (padded w m) (sym e);
+  column-rest = p.column-rest;
+}
+  where
+    e : take m (take w rows) ≡ take m rows
+    e = take-take m w rows h
 
--- ---- two arrangements compared
+module _ {N m n : ℕ} {g : List ℕ} (o : Orders 8) (r : Orders N) (few : m ≤ N) (narrow : N ≤ 8) (l : LeastOrders m n g o)
+    (rows : Lists (take N o.rows.at) o.rows.size r.rows) (columns : Lists o.columns.at o.columns.size r.columns) where
+  pub narrowed-produces : Produces N m n g (least m n g) r.rows.at r.columns.at
+  narrowed-produces =
+      rw (rows.numbers, columns.numbers)
+      (produces-narrower 8 N m n g (least m n g) o.rows.at o.columns.at few narrow (least-produces m n g o l))
 
--- an arrangement x that is written at the beginning of an array, before the rest x'
-module _ (m n : ℕ) (g p q x x' : List ℕ) (e : x ≡ arrangement m n p q g) where
-  written-size : length x ≡ m * n
-  written-size = ap length e ∙ length-arrangement m n p q g
-
-  pub written-within : m * n ≤ length (x ++ x')
-  written-within = part-within x x' (m * n) written-size
-
-  -- the part from 0 to m * n
-  written-part : take (m * n - 0) (x ++ x') ≡ arrangement m n p q g
-  written-part = part-is x x' (m * n) written-size ∙ e
-
-pub arrangements-compared : (m n : ℕ) (a b : List ℕ) (p q : Orders 8) (x y x' y' : List ℕ) (c : GridComparison) →
-    x ≡ leading_rows m n a p → y ≡ leading_rows m n b q → ComparesGrids (take (m * n - 0) (x ++ x')) (take (m * n - 0) (y ++ y')) c →
-    ComparesGrids (leading_rows m n a p) (leading_rows m n b q) c
-arrangements-compared m n a b p q x y x' y' c e f g = rw (written-part m n a _ _ x x' e, written-part m n b _ _ y y' f) at g
+  pub narrowed-sized : IsSized m n r
+  narrowed-sized = record { row-size = rows.size ∙ l.orders.rows.size; column-size = columns.size ∙ l.orders.columns.size }
 
 -- ---- same
 
@@ -163,6 +173,13 @@ pub same-refuses : (width k : ℕ) (t : Bool) (m n : ℕ) (a b : List ℕ) (r : 
 unfolding ComparedBy
 same-refuses width zero t m n a b r h x = absurd (h refl)
 same-refuses width (suc k) t m n a b r h x = x
+
+pub same-refused-by : (N k : ℕ) (t : Bool) (m n : ℕ) (a b : List ℕ) (r : Result (Match N) Refusal) (x : Refusal) → IsErr r × IsErrAnd r (λ y. y ≡ x) → refusal_number x ≡ k → (k ≡ 0 → ⊥) →
+    ComparedBy N k t m n a b (matched r)
+same-refused-by N k t m n a b (Ok o) x h e z = absurd h.1
+same-refused-by N k t m n a b (Err y) x h e z =
+    same-refuses N k t m n a b (matched {N = N} (Err y)) z
+    (record { number_is = ap refusal_number h.1 ∙ e; agreed-is = refl; starting = record { row-identity = refl; column-identity = refl } })
 
 module _ (m n top : ℕ) (a b : List ℕ) (p q : Orders 8) (fits : Limits m n top × IsGrid m n top a × IsGrid m n top b) (lp : LeastOrders m n a p) (lq : LeastOrders m n b q)
     (c : GridComparison) (found : ComparesGrids (leading_rows m n a p) (leading_rows m n b q) c) where

@@ -7,37 +7,24 @@
 --   terminal-represent-14, terminal-same-14        ==  and no other rows are
 --   terminal-represent-least            ==  demand 2's sentence on represent, of every program that meets the contract of a terminal's
 --   terminal-represent-answers, terminal-same-answers  ==  on all arguments there is an answer
---   produces-narrower, terminal-produces  ==  orders that produce a grid do so in fewer positions, if the rows fit
-use mathlib.Core.Path.{◌≡◌, refl, sym, ap, ◌∙◌}
+use mathlib.Core.Path.{◌≡◌, refl, ◌∙◌}
 use mathlib.Core.List.{List}
 use mathlib.Core.Bool.{true}
 use mathlib.Core.Logic.{◌↔◌}
 use Prim.Native.Nat.{ℕ, ◌*◌, ◌≤◌, ◌<◌}
 use native.Mathlib.Decide.{dec_le}
 use native.Mathlib.Omega.{arith}
-use lib.ListN.{length, take}
-use lib.Seq.{take-take}
-use Rattle.permutations.specs.Padded.{padded}
-use Rattle.permutations.specs.Rows.{TerminalRowPermutation}
-use Rattle.permutations.specs.Rows.{row_numbers}
-use Rattle.permutations.specs.Rows.{terminal_row_numbers}
-use Rattle.permutations.specs.Numbered.{Lists}
-use Rattle.permutations.specs.Columns.{column_numbers}
-use Rattle.permutations.proofs.PaddedLaws.{take-padded}
+use lib.ListN.{length}
 use Rattle.grids.specs.Grids.{IsGrid}
-use Rattle.grids.specs.Least.{least}
 use Rattle.grids.specs.Questions.{Question, first_no, Limits, question1, question2, question3, question6, question7, question14, after_first}
 use Rattle.grids.proofs.LentLaws.{grid-bytes, limits-lent}
 use Rattle.grids.proofs.QuestionLaws.{first_no-has}
 use Rattle.grids.proofs.TerminalLaws.{after-yes, other-rows, few-rows, many-rows, terminal-rows, terminal-no, terminal-pass}
-use Rattle.permutations.specs.declared.orders.Orders.{Orders}
-use Rattle.canonical.specs.Represent.{Produces, RepresentAnswer, represent_questions, terminal_represent_questions, TerminalRepresented}
+use Rattle.canonical.specs.Represent.{RepresentAnswer, represent_questions, terminal_represent_questions, TerminalRepresented}
 use Rattle.canonical.specs.Same.{SameAnswer, same_questions, terminal_same_questions, TerminalCompared, class_number, class_agreed, terminal_same_number, terminal_same_agreed}
 use Rattle.canonical.specs.Programs.{RepresentProgram, MeetsRepresent, SameProgram, MeetsSame, MeetsTerminalRepresent, MeetsTerminalSame, RepresentAlike, SameAlike}
 use Rattle.canonical.specs.Demand2.{TerminalRepresentLeast}
-use Rattle.general_search.specs.Search.{LeastOrders}
 use Rattle.canonical.proofs.CallLaws.{represent-pass, same-pass, represented-done, represented-least, represented-alike, compared-alike, represented-by, compared-by}
-use Rattle.canonical.proofs.CallSteps.{least-produces}
 
 -- questions with numbers below 14, and question 14 among them
 only-14 : (m : ℕ) (l : List Question) → first_no l < 14 → first_no (after_first (question14 m) l) ≡ 14 → (6 ≤ m) × (m ≤ 8)
@@ -122,21 +109,3 @@ module _ (m n top : ℕ) (a b : List ℕ) where
 pub same_alike : (f t : SameProgram) → MeetsSame f → MeetsTerminalSame t → SameAlike f t
 unfolding MeetsSame MeetsTerminalSame SameAlike
 same_alike f t x y m n top a b o h = compared-alike 5 8 _ _ m n a b _ _ (rw (terminal-same-asked m n top a b (few-rows m h)) at (y m n top a b o)) (x m n top a b o)
-
--- ---- orders in fewer positions
-
-pub produces-narrower : (width w m n : ℕ) (a b rows columns : List ℕ) → m ≤ w → w ≤ width → Produces width m n a b rows columns → Produces w m n a b (take w rows) columns
-produces-narrower width w m n a b rows columns h k p = record {
-  row-permutation = rw e p.row-permutation;
-  column-permutation = p.column-permutation;
-  gives = rw e p.gives;
-  row-rest = ap (take w) p.row-rest ∙ take-padded w width m (take m rows) k ∙ ap (padded w m) (sym e);
-  column-rest = p.column-rest;
-}
-  where
-    e : take m (take w rows) ≡ take m rows
-    e = take-take m w rows h
-
-pub terminal-produces : (m n : ℕ) (g : List ℕ) (o : Orders 8) (r : TerminalRowPermutation) → m ≤ 5 → LeastOrders m n g o →
-    Lists (take 5 (row_numbers o.rows)) o.rows.size r → Produces 5 m n g (least m n g) (terminal_row_numbers r) (column_numbers o.columns)
-terminal-produces m n g o r h l e = rw e.numbers (produces-narrower 8 5 m n g (least m n g) (row_numbers o.rows) (column_numbers o.columns) h (omega arith) (least-produces m n g o l))

@@ -1,38 +1,37 @@
--- What represent and same return where they produce nothing. Between functions: no answer of a call is defined here.
+-- The numbers, cells that agree and positions of orders that document 01 has for what represent and same return.
 --
---   Refused number r           ==  r is the number with orders that move nothing
---   Unmatched number agreed r  ==  r is the number and the cells that agree, with orders that move nothing
---   TerminalRefused number r, TerminalUnmatched number agreed r  ==  the same at a terminal
-use Rattle.std.specs.Prelude.{◌≡◌, ℕ}
-use Rattle.refusals.specs.Numbers.{asked_number}
-use Rattle.permutations.specs.Rows.{row_numbers}
-use Rattle.permutations.specs.Rows.{terminal_row_numbers}
-use Rattle.permutations.specs.Columns.{column_numbers}
-use Rattle.canonical.specs.declared.answers.Answer.{Answer}
+--   order_rows o, order_columns o  ==  the numbers in the positions of the orders; those that move nothing where there are none
+--   represented r out    ==  what represent answers: 0 and the orders, or the number of the no; out is its output slice afterwards
+--   matched r            ==  what same answers: 0 and the orders, or 103, with the cells that agree; or the number of the no
+--   IsSized m n o        ==  the orders, where there are some, are of m rows and n columns
+use Rattle.std.specs.Prelude.{List, ℕ, Option, Some, None, Result, Ok, Err}
+use Rattle.permutations.specs.Permutations.{identity}
+use Rattle.permutations.specs.declared.orders.Orders.{Orders}
+use Rattle.refusals.specs.declared.Refusal.{Refusal}
+use Rattle.refusals.specs.Numbers.{refusal_number}
 use Rattle.canonical.specs.declared.answers.Match.{Match}
-use Rattle.canonical.specs.declared.answers.TerminalAnswer.{TerminalAnswer}
-use Rattle.canonical.specs.declared.answers.TerminalMatch.{TerminalMatch}
-use Rattle.canonical.specs.Matching.{matching_number, matching_agreed}
-use Rattle.canonical.specs.Represent.{Starting, Sizes}
+use Rattle.canonical.specs.Represent.{RepresentAnswer, Sizes}
+use Rattle.canonical.specs.Same.{SameAnswer}
 
-pub record Refused (number : ℕ) (r : Answer) : Type 0 where
-  pub number_is : asked_number r.asked ≡ number
-  pub starting : Starting 8 (row_numbers r.rows) (column_numbers r.columns)
-  pub sizes : Sizes 8 16 r.rows.size r.columns.size
+abbrev pub order_rows : {N : ℕ} → Option (Orders N) → List ℕ
+order_rows (Some o) = o.rows.at
+order_rows {N} None = identity N
 
-pub record Unmatched (number agreed : ℕ) (r : Match) : Type 0 where
-  pub number_is : matching_number r.found ≡ number
-  pub agreed-is : matching_agreed r.found ≡ agreed
-  pub starting : Starting 8 (row_numbers r.rows) (column_numbers r.columns)
-  pub sizes : Sizes 8 16 r.rows.size r.columns.size
+abbrev pub order_columns : {N : ℕ} → Option (Orders N) → List ℕ
+order_columns (Some o) = o.columns.at
+order_columns None = identity 16
 
-pub record TerminalRefused (number : ℕ) (r : TerminalAnswer) : Type 0 where
-  pub number_is : asked_number r.asked ≡ number
-  pub starting : Starting 5 (terminal_row_numbers r.rows) (column_numbers r.columns)
-  pub sizes : Sizes 5 16 r.rows.size r.columns.size
+abbrev pub represented : {N : ℕ} → Result (Orders N) Refusal → List ℕ → RepresentAnswer
+represented (Ok o) out = record { number = 0; rows = o.rows.at; columns = o.columns.at; out = out }
+represented {N} (Err x) out = record { number = refusal_number x; rows = identity N; columns = identity 16; out = out }
 
-pub record TerminalUnmatched (number agreed : ℕ) (r : TerminalMatch) : Type 0 where
-  pub number_is : matching_number r.found ≡ number
-  pub agreed-is : matching_agreed r.found ≡ agreed
-  pub starting : Starting 5 (terminal_row_numbers r.rows) (column_numbers r.columns)
-  pub sizes : Sizes 5 16 r.rows.size r.columns.size
+abbrev pub class_found : {N : ℕ} → Option (Orders N) → ℕ
+class_found (Some o) = 0
+class_found None = 103
+
+abbrev pub matched : {N : ℕ} → Result (Match N) Refusal → SameAnswer
+matched (Ok f) = record { number = class_found f.orders; agreed = f.agreed; rows = order_rows f.orders; columns = order_columns f.orders }
+matched {N} (Err x) = record { number = refusal_number x; agreed = 0; rows = identity N; columns = identity 16 }
+
+abbrev pub IsSized : {N : ℕ} → ℕ → ℕ → Orders N → Type 0
+IsSized m n o = Sizes m n o.rows.size o.columns.size

@@ -3,4 +3,4 @@ pub mod Same
 pub mod Programs
 pub mod Demand2
 pub mod Answers
-pub mod Matching
+pub mod Callers

@@ -3,7 +3,6 @@
 --   Produces width m n a b rows columns  ==  the orders returned produce b from a: permutations of m rows and n columns, and each position past them holds its own number
 --   Starting width rows columns    ==  the orders returned move nothing
 --   Sizes m n rows columns         ==  rows and columns, the sizes of two orders, are m and n
---   OrderSizes width k m n rows columns  ==  they are so of the orders returned with the number k: m and n where k is 0, else width and 16, as orders have them that move nothing
 --   RepresentAnswer                ==  what represent returns, and its output slice afterwards
 --   RepresentDone width m n g r    ==  r is 0, the least arrangement, and orders that produce it
 --   RepresentRefused width k out r ==  r is the number k, the output slice as it was, and orders that move nothing
@@ -32,10 +31,6 @@ pub record Starting (width : ℕ) (rows columns : List ℕ) : Type 0 where
 pub record Sizes (m n rows columns : ℕ) : Type 0 where
   pub row-size : rows ≡ m
   pub column-size : columns ≡ n
-
-unfoldable pub OrderSizes : ℕ → ℕ → ℕ → ℕ → ℕ → ℕ → Type 0
-OrderSizes width zero m n rows columns = Sizes m n rows columns
-OrderSizes width (suc k) m n rows columns = Sizes width 16 rows columns
 
 pub record RepresentAnswer : Type 0 where
   pub number : ℕ

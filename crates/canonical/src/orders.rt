@@ -2,16 +2,16 @@
 ghost use Rattle.std.specs.Prelude.{◌≡◌, ◌*◌, ◌≤◌, length};
 ghost use Rattle.general_search.specs.Search.{LeastOrders};
 
-use general_search::search;
-use general_search::search::Orders;
+use crate::callers::Caller;
+use permutations::orders::Orders;
 use two_values::arranging;
 
-pub fn least_orders(grid: &[u8], m: usize, n: usize) -> Orders
-    requires { (m ≤ 8) × (n ≤ 16) × (length grid.now ≡ m * n) }
+pub fn least_orders<C: Caller<N>, const N: usize>(grid: &[u8], m: usize, n: usize) -> Orders<8>
+    requires { (m ≤ N) × (n ≤ 16) × (length grid.now ≡ m * n) }
     ensures { LeastOrders m n grid.now result }
 {
     if arranging::is_left(grid, n) {
-        return search::least_orders(grid, m, n);
+        return C::search(grid, m, n);
     }
     let quick = arranging::least_arrangement(grid, m, n);
     if quick.found {
@@ -19,5 +19,5 @@ pub fn least_orders(grid: &[u8], m: usize, n: usize) -> Orders
         let columns = quick.columns;
         return Orders { rows, columns };
     }
-    search::least_orders(grid, m, n)
+    C::search(grid, m, n)
 }

@@ -1,30 +1,29 @@
 // The call represent.
-ghost use Rattle.refusals.specs.Numbers.{asked_number};
-ghost use Rattle.permutations.specs.Rows.{row_numbers};
-ghost use Rattle.permutations.specs.Columns.{column_numbers};
-ghost use Rattle.canonical.specs.Represent.{Represented, OrderSizes};
+ghost use Rattle.std.specs.Prelude.{IfOk};
+ghost use Rattle.grids.specs.Questions.{first_no};
+ghost use Rattle.canonical.specs.Answers.{represented, IsSized};
+ghost use Rattle.canonical.specs.Represent.{RepresentedBy, represent_questions};
 
-use crate::answers::Answer;
-use crate::{answers, asking, orders};
+use crate::callers::Caller;
+use crate::{asking, orders};
 use grids::arrangements;
-use refusals::Asked;
+use permutations::orders::Orders;
+use refusals::Refusal;
 
-// Writes the least arrangement of the grid, and returns the orders that produce it. Where a question gets a no: its number,
-// orders that move nothing, and the output slice as it was.
-pub fn represent(m: usize, n: usize, top: usize, grid: &[u8], out: &mut [u8]) -> Answer
-    ensures answer { Represented m n top grid.now out.old (record { number = asked_number result.asked; rows = row_numbers result.rows; columns = column_numbers result.columns; out = out.new }) }
-    ensures sizes { OrderSizes 8 (asked_number result.asked) m n result.rows.size result.columns.size }
+// Writes the least arrangement of the grid, and returns the orders that produce it. Where a question gets a no, the output slice is as
+// it was.
+pub fn represent<C: Caller<N>, const N: usize>(
+    m: usize,
+    n: usize,
+    top: usize,
+    grid: &[u8],
+    out: &mut [u8],
+) -> Result<Orders<N>, Refusal>
+    ensures answer { RepresentedBy N (first_no (C.questions m (represent_questions m n top grid.now out.old))) m n grid.now out.old (represented result out.new) }
+    ensures sizes { IfOk result (IsSized m n) }
 {
-    if let Asked::No(refusal) = asking::ask_represent(m, n, top, grid, out) {
-        return answers::refused(refusal);
-    }
-    let least = orders::least_orders(grid, m, n);
-    let rows = least.rows;
-    let columns = least.columns;
-    arrangements::write_arrangement(grid, m, n, rows, columns, out);
-    Answer {
-        asked: Asked::Yes,
-        rows,
-        columns,
-    }
+    asking::ask_represent::<C, N>(m, n, top, grid, out)?;
+    let least = orders::least_orders::<C, N>(grid, m, n);
+    arrangements::write_arrangement(grid, m, n, least.rows, least.columns, out);
+    Ok(least.narrowed())
 }

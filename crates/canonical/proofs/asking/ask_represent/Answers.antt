@@ -1,23 +1,24 @@
--- `ask_represent` meets its contract: each return has passed the questions before it.
 use mathlib.Core.Path.{refl, sym, ◌∙◌}
-use borrow.Author.Tests.{not-true, not-false}
-use Rattle.refusals.proofs.NumberLaws.{no-some, no-is, yes-is}
-use Rattle.grids.proofs.QuestionLaws.{shape-refuses, cells-refuse, one-capped, first-cells-no}
+use Rattle.refusals.proofs.NumberLaws.{handed-on, no-some, yes-is}
 use Rattle.canonical.specs.Represent.{represent_questions}
-use Rattle.canonical.proofs.CallSteps.{none-refuses}
+use Rattle.canonical.proofs.CallLaws.{represent-pass}
 use Rattle.canonical.proofs.asking.ask_represent.Goals as goal
 
-pub returns-in-No : goal.returns-in-No
+pub returns-in_err-admit-clause-asked : goal.returns-in_err-admit-clause-asked
 unfolding represent_questions
-returns-in-No c = let e = c.in-No.is in sym (shape-refuses _ _ _ _ _ _ (no-is e c.ask_shape.ensures) _ (no-some e))
+returns-in_err-admit-clause-asked g c =
+    let e = c.in_err-admit in
+    handed-on _ _ c.from_residual.ensures (sym (e.ensures.asked.no _ (no-some e.was)))
 
-pub returns-then-not-is_capped : goal.returns-then-not-is_capped
-unfolding represent_questions
-returns-then-not-is_capped c =
-    let t = sym c.is_capped.ensures ∙ not-true _ c.if-not-is_capped.true-raw in
-    sym (cells-refuse _ _ _ _ _ _ (yes-is c.in_default.is c.ask_shape.ensures) refl _ _ (first-cells-no _ _ _ t))
+pub returns-in_err-admit-clause-passed : goal.returns-in_err-admit-clause-passed
+returns-in_err-admit-clause-passed g c z = absurd (no-some c.in_err-admit.was (sym (handed-on _ _ c.from_residual.ensures refl) ∙ z))
 
-pub returns : goal.returns
+pub returns-clause-asked : goal.returns-clause-asked
 unfolding represent_questions
-returns c =
-    sym (none-refuses _ _ _ _ _ _ _ (yes-is c.in_default.is c.ask_shape.ensures) refl (one-capped _ _ (sym c.is_capped.ensures ∙ not-false _ c.if-not-is_capped.false-raw)))
+returns-clause-asked g c = c.ask_grid.ensures ∙ sym (c.admit.ensures.asked.yes _ (sym (yes-is c.in_ok-admit.was refl)))
+
+pub returns-clause-passed : goal.returns-clause-passed
+returns-clause-passed g c z =
+    let y = sym c.ask_grid.ensures ∙ z in
+    let l = ((represent-pass _ _ _ _ _).0 y).0 in
+    (c.admit.ensures.few (sym (yes-is c.in_ok-admit.was refl)) l.rows-limits.1, y)

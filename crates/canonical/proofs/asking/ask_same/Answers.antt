@@ -1,24 +1,24 @@
--- `ask_same` meets its contract: a no of represent's questions is same's too; past them question 7 of the second slice is left.
 use mathlib.Core.Path.{refl, sym, ◌∙◌}
-use mathlib.Core.List.{[]}
-use borrow.Author.Tests.{not-true, not-false}
-use Rattle.refusals.proofs.NumberLaws.{no-some, no-is, yes-is}
-use Rattle.grids.specs.Questions.{first_no, question7}
-use Rattle.grids.proofs.QuestionLaws.{first_no-pass, first_no-stop, one-capped, first-cells-no}
-use Rattle.canonical.proofs.CallSteps.{represent-no, second-next}
+use Rattle.refusals.proofs.NumberLaws.{handed-on, no-some, yes-is}
+use Rattle.canonical.specs.Same.{same_questions}
+use Rattle.canonical.proofs.CallLaws.{same-pass}
 use Rattle.canonical.proofs.asking.ask_same.Goals as goal
 
-pub returns-in-No : goal.returns-in-No
-returns-in-No c = let e = c.in-No.is in sym (represent-no _ _ _ _ _ _ (no-is e c.ask_represent.ensures) (no-some e))
+pub returns-in_err-admit-clause-asked : goal.returns-in_err-admit-clause-asked
+unfolding same_questions
+returns-in_err-admit-clause-asked g c =
+    let e = c.in_err-admit in
+    handed-on _ _ c.from_residual.ensures (sym (e.ensures.asked.no _ (no-some e.was)))
 
-pub returns-then-not-is_capped : goal.returns-then-not-is_capped
-unfolding question7
-returns-then-not-is_capped c =
-    let t = sym c.is_capped.ensures ∙ not-true _ c.if-not-is_capped.true-raw in
-    sym (second-next _ _ _ _ _ _ (yes-is c.in_default.is c.ask_represent.ensures) refl ∙ first_no-stop _ [] (first-cells-no _ _ _ t))
+pub returns-in_err-admit-clause-passed : goal.returns-in_err-admit-clause-passed
+returns-in_err-admit-clause-passed g c z = absurd (no-some c.in_err-admit.was (sym (handed-on _ _ c.from_residual.ensures refl) ∙ z))
 
-pub returns : goal.returns
-unfolding first_no
-returns c =
-    let t = sym c.is_capped.ensures ∙ not-false _ c.if-not-is_capped.false-raw in
-    sym (second-next _ _ _ _ _ _ (yes-is c.in_default.is c.ask_represent.ensures) refl ∙ first_no-pass _ [] (one-capped _ _ t))
+pub returns-clause-asked : goal.returns-clause-asked
+unfolding same_questions
+returns-clause-asked g c = c.ask_grids.ensures ∙ sym (c.admit.ensures.asked.yes _ (sym (yes-is c.in_ok-admit.was refl)))
+
+pub returns-clause-passed : goal.returns-clause-passed
+returns-clause-passed g c z =
+    let y = sym c.ask_grids.ensures ∙ z in
+    let l = ((same-pass _ _ _ _ _).0 y).0 in
+    (c.admit.ensures.few (sym (yes-is c.in_ok-admit.was refl)) l.rows-limits.1, y)
