@@ -13,6 +13,9 @@ pub const CLIENTS: usize = 8;
 
 pub const MOST_HELD: usize = 999;
 
+// How many bytes the longest line has.
+pub const LONGEST: usize = WIDTH * (128 + CLIENTS) + 1;
+
 // How many bytes the line of an entry with so many cells has, the line feed included.
 pub fn line_length(size: usize) -> usize
     requires { size ≤ 128 }

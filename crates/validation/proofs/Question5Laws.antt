@@ -2,20 +2,23 @@
 --
 --   LaidBy b h                    ==  limits, length, line 1, entries and blank lines, by the numbers h
 --   laid_by                       ==  question 5 gets a yes exactly if that holds, of the numbers that the bytes state
---   passed                        ==  a part whose test says yes holds
+--   both, neither                 ==  two tests, of which the second is made where the first says yes
 --   head-decides                  ==  a comparison with line 1 decides that the bytes begin with it
---   short-no, length-no, refutes  ==  too few bytes, another length, or a part whose test says no: question 5 gets a no
+--   short-no, refutes             ==  too few bytes, or a part whose test says no: question 5 gets a no
 --   last-decides                  ==  where the other parts hold, the blank lines decide
 --   size_small                    ==  a bound of the product that the code forms
 --   entries-inside                ==  the lines of the entries are within the bytes
-use mathlib.Core.Path.{◌≡◌, sym, ◌∙◌}
+use mathlib.Core.Path.{◌≡◌, sym, subst, ◌∙◌}
 use mathlib.Core.List.{List}
-use mathlib.Core.Bool.{Bool, true, false, true≢false, not}
+use mathlib.Core.Bool.{Bool, true, false, true≢false}
 use mathlib.Core.Logic.{◌↔◌}
 use Prim.Native.Nat.{ℕ, ◌*◌, ◌≤◌, ◌<◌}
 use native.Mathlib.Omega.{arith}
+use lib.Dec.{eqb}
 use lib.ListN.{length, take}
-use borrow.Author.Tests.{not-true, not-false}
+use Rattle.std.specs.List.{starts_with}
+use Rattle.std.proofs.lemmas.Bool.Decides.{Decides-eqb}
+use Rattle.std.proofs.lemmas.Slice.Eq.{slice_eq-Decides}
 use Rattle.permutations.proofs.BoolLaws.{bool-ext, refuted}
 use Rattle.grids.proofs.QuestionLaws.{size_fits}
 use Rattle.layout.specs.Layout.{Shape, head_length, line_start, head_line, layout_length, laid_out}
@@ -34,11 +37,18 @@ pub record LaidBy (b : List ℕ) (h : Head) : Type 0 where
   pub entries : EntriesLaid (h.rows * h.columns) h.top h.count b
   pub blanks : BlanksLaid (h.rows * h.columns) h.count h.capacity b
 
-pub passed : {A : Type 0} {r : Bool} → (r ≡ true) ↔ A → not r ≡ false → A
-passed {r = r} d n = d.0 (not-false r n)
+-- two tests, the second made where the first says yes
+pub both : {A B : Type 0} {v t : Bool} → A → (t ≡ true) ↔ B → v ≡ t → (v ≡ true) ↔ (A × B)
+both a d e = (λ y. (a, d.0 (sym e ∙ y)), λ p. e ∙ d.1 p.1)
 
-pub head-decides : (s : Shape) (n : ℕ) {r : Bool} (b : List ℕ) {line : List ℕ} → line ≡ head_line s n → (r ≡ true) ↔ (take (length line) b ≡ line) → (r ≡ true) ↔ (take head_length b ≡ head_line s n)
-head-decides s n b e d = rw (e, length-head s n) at d
+pub neither : {A B : Type 0} {v : Bool} → (A → ⊥) → v ≡ false → (v ≡ true) ↔ (A × B)
+neither n e = (λ y. absurd (true≢false (sym y ∙ e)), λ p. absurd (n p.0))
+
+pub head-decides : (s : Shape) (n : ℕ) {r : Bool} (b : List ℕ) {line : List ℕ} → line ≡ head_line s n → r ≡ starts_with eqb b line → (r ≡ true) ↔ (take head_length b ≡ head_line s n)
+head-decides s n {r} b {line} e d =
+    let same = slice_eq-Decides Decides-eqb line (take (length line) b) r d in
+    let P : List ℕ → Type 0 = λ x. (r ≡ true) ↔ (take (length x) b ≡ x) in
+    rw (length-head s n) at (subst P e (λ y. sym (same.0 y), λ y. same.1 (sym y)))
 
 pub short-no : (b : List ℕ) → length b < head_length → false ≡ laid_out b
 unfolding layout_length
@@ -78,11 +88,8 @@ module _ {b : List ℕ} {h : Head} (s : States b h) where
           )
 
   -- a test of a part says no
-  pub refutes : {A : Type 0} {r : Bool} → (LaidBy b h → A) → (r ≡ true) ↔ A → not r ≡ true → false ≡ laid_out b
-  refutes {r = r} part d n = sym (refuted (laid_out b) laid_by (λ l. true≢false (sym (d.1 (part l)) ∙ not-true r n)))
-
-  pub length-no : {n : ℕ} → n ≡ line_start (h.rows * h.columns) h.capacity → (length b ≡ n → ⊥) → false ≡ laid_out b
-  length-no e other = sym (refuted (laid_out b) laid_by (λ l. other (l.sized ∙ sym e)))
+  pub refutes : {A : Type 0} {r : Bool} → (LaidBy b h → A) → (r ≡ true) ↔ A → r ≡ false → false ≡ laid_out b
+  refutes part d n = sym (refuted (laid_out b) laid_by (λ l. true≢false (sym (d.1 (part l)) ∙ n)))
 
   pub last-decides : {r : Bool} → WithinLimits h.rows h.columns h.top h.capacity h.count → length b ≡ line_start (h.rows * h.columns) h.capacity →
       take head_length b ≡ head_line (shape_of h) h.count → EntriesLaid (h.rows * h.columns) h.top h.count b → (r ≡ true) ↔ BlanksLaid (h.rows * h.columns) h.count h.capacity b → r ≡ laid_out b

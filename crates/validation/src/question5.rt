@@ -6,18 +6,18 @@ ghost use Rattle.validation.specs.Limits.{WithinLimits};
 
 use crate::blanks;
 use grids::questions;
-use lines::equality;
 use lines::head::{Head, LENGTH};
+use lines::{entries, head};
 use refusals::Asked;
 
 // Whether the numbers of line 1 are within the limits, and the count is at most the capacity.
-fn within_limits(rows: usize, columns: usize, top: usize, capacity: usize, count: usize) -> bool
-    ensures { (result ≡ true) ↔ WithinLimits rows columns top capacity count }
+fn within_limits(head: Head) -> bool
+    ensures { (result ≡ true) ↔ WithinLimits head.rows head.columns head.top head.capacity head.count }
 {
-    let Asked::Yes = questions::ask_numbers(rows, columns, top, capacity) else {
-        return false;
-    };
-    count <= capacity
+    match questions::ask_numbers(head.rows, head.columns, head.top, head.capacity) {
+        Asked::Yes => head.count <= head.capacity,
+        Asked::No(_) => false,
+    }
 }
 
 // Whether the first line is line 1 of these numbers.
@@ -25,9 +25,9 @@ fn head_laid(register: &[u8], head: Head) -> bool
     requires { head_length ≤ length register.now }
     ensures { (result ≡ true) ↔ (take head_length register.now ≡ head_line (shape_of head) head.count) }
 {
-    let mut line = [0u8; LENGTH];
-    lines::head::write_head(&mut line, head);
-    equality::begins_with(register, &line)
+    let mut line = [0; LENGTH];
+    head::write_head(&mut line, head);
+    register.starts_with(&line)
 }
 
 // Question 5: whether a slice is laid out as a register.
@@ -37,22 +37,13 @@ pub fn is_laid_out(register: &[u8]) -> bool
     if register.len() < LENGTH {
         return false;
     }
-    let head = lines::head::read_head(register);
-    let top = head.top;
-    let capacity = head.capacity;
-    let count = head.count;
-    if !within_limits(head.rows, head.columns, top, capacity, count) {
+    let head = head::read_head(register);
+    if !within_limits(head) {
         return false;
     }
     let size = head.rows * head.columns;
-    if register.len() != lines::entries::line_start(size, capacity) {
-        return false;
-    }
-    if !head_laid(register, head) {
-        return false;
-    }
-    if !scan::entries::entries_laid(register, size, top as u8, count) {
-        return false;
-    }
-    blanks::blanks_laid(register, size, count, capacity)
+    register.len() == entries::line_start(size, head.capacity)
+        && head_laid(register, head)
+        && scan::entries::entries_laid(register, size, head.top as u8, head.count)
+        && blanks::blanks_laid(register, size, head.count, head.capacity)
 }

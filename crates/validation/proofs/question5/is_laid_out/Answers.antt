@@ -1,48 +1,56 @@
 -- `is_laid_out` meets its contract.
-use mathlib.Core.Path.{◌∙◌}
-use native.Mathlib.Omega.{arith}
-use Rattle.validation.proofs.Question5Laws.{passed, short-no, length-no, refutes, last-decides, size_small, entries-inside}
+use mathlib.Core.Path.{◌≡◌, sym, ◌∙◌}
+use mathlib.Core.Bool.{true, true≢false}
+use mathlib.Core.Logic.{◌↔◌}
+use mathlib.Core.List.{List}
+use Prim.Native.Nat.{ℕ, ◌*◌}
+use borrow.Author.Tests.{ne_eqb}
+use lib.ListN.{length, take}
+use Rattle.layout.specs.Layout.{head_length, head_line}
+use Rattle.layout.specs.Lines.{EntriesLaid}
+use Rattle.lines.specs.declared.head.Head.{Head}
+use Rattle.lines.specs.Head.{shape_of}
+use Rattle.validation.specs.Limits.{WithinLimits}
+use Rattle.validation.proofs.Question5Laws.{both, neither, short-no, refutes, last-decides}
 use Rattle.validation.proofs.question5.is_laid_out.Goals as goal
+use Rattle.validation.proofs.question5.is_laid_out.Goals.{Else-not-within_limits, Joined-register-line_start, Joined-head_laid, then-register-line_start, else-register-line_start, then-head_laid, else-head_laid}
 
 pub returns-then-register-lt-LENGTH : goal.returns-then-register-lt-LENGTH
 returns-then-register-lt-LENGTH c = short-no _ c.if-register-lt-LENGTH.true
 
 pub returns-then-not-within_limits : goal.returns-then-not-within_limits
-returns-then-not-within_limits c = refutes c.read_head-head.ensures (λ l. l.limits) c.within_limits.ensures c.if-not-within_limits.true-raw
+returns-then-not-within_limits c = refutes c.read_head-head.ensures (λ l. l.limits) c.within_limits.ensures c.if-not-within_limits.true
 
-pub overflow_mul-size : goal.overflow_mul-size
-overflow_mul-size c = omega (arith, size_small (passed c.within_limits.ensures c.if-not-within_limits.false-raw))
+limits : (c : Else-not-within_limits) → let h = c.read_head-head.result in WithinLimits h.rows h.columns h.top h.capacity h.count
+limits c = c.within_limits.ensures.0 c.if-not-within_limits.false
 
-pub line_start-requires : goal.line_start-requires
-line_start-requires c =
-    let w = passed c.within_limits.ensures c.if-not-within_limits.false-raw in
-    (size_small w, w.capacity-limits.1)
+abbrev SizedLine : List ℕ → Head → ℕ → Type 0
+SizedLine b h n = (length b ≡ n) × (take head_length b ≡ head_line (shape_of h) h.count)
 
-pub returns-then-register-line_start : goal.returns-then-register-line_start
-returns-then-register-line_start c = length-no c.read_head-head.ensures c.line_start.ensures.0 c.if-register-line_start.true
+-- the length and line 1, by the first two tests
+first : (c : Joined-register-line_start) → (c.if-register-line_start.value ≡ true) ↔ SizedLine c.args.register.now c.read_head-head.result c.line_start.result
+first c =
+    elim c.if-register-line_start.branch [
+      | then-register-line_start w ↦ both w.if-register-line_start.true w.head_laid.ensures w.value-is
+      | else-register-line_start w ↦ neither w.if-register-line_start.false (w.value-is ∙ ne_eqb _ _ w.if-register-line_start.false)
+    ]
 
-pub returns-then-not-head_laid : goal.returns-then-not-head_laid
-returns-then-not-head_laid c = refutes c.read_head-head.ensures (λ l. l.line) c.head_laid.ensures c.if-not-head_laid.true-raw
+-- these and the entries, by the first three
+second : (c : Joined-head_laid) → (c.if-register-line_start.value ≡ true) ↔ SizedLine c.args.register.now c.read_head-head.result c.line_start.result →
+    let h = c.read_head-head.result in
+    (c.if-head_laid.value ≡ true) ↔ (SizedLine c.args.register.now h c.line_start.result × EntriesLaid (h.rows * h.columns) h.top h.count c.args.register.now)
+second c f =
+    elim c.if-head_laid.branch [
+      | then-head_laid w ↦ both (f.0 w.if-head_laid.true) w.entries_laid.ensures w.value-is
+      | else-head_laid w ↦ neither (λ p. true≢false (sym (f.1 p) ∙ w.if-head_laid.false)) (w.value-is ∙ w.if-head_laid.false)
+    ]
 
-pub overflow_cast-top : goal.overflow_cast-top
-overflow_cast-top c = omega (arith, (passed c.within_limits.ensures c.if-not-within_limits.false-raw).grid-limits.top-limit)
+pub returns-then-entries_laid : goal.returns-then-entries_laid
+returns-then-entries_laid c =
+    let p = (second ((goal.at.returns-then-entries_laid c).Joined-head_laid) (first ((goal.at.returns-then-entries_laid c).Joined-register-line_start))).0 c.if-entries_laid.true in
+    last-decides c.read_head-head.ensures (limits ((goal.at.returns-then-entries_laid c).Else-not-within_limits)) (p.0.0 ∙ c.line_start.ensures.0) p.0.1 p.1 c.blanks_laid.ensures
 
-pub entries_laid-requires : goal.entries_laid-requires
-entries_laid-requires c =
-    let w = passed c.within_limits.ensures c.if-not-within_limits.false-raw in
-    (size_small w, w.grid-limits.top-limit, entries-inside w _ (c.if-register-line_start.false ∙ c.line_start.ensures.0))
-
-pub returns-then-not-entries_laid : goal.returns-then-not-entries_laid
-returns-then-not-entries_laid c = refutes c.read_head-head.ensures (λ l. l.entries) c.entries_laid.ensures c.if-not-entries_laid.true-raw
-
-pub blanks_laid-requires : goal.blanks_laid-requires
-blanks_laid-requires c =
-    let w = passed c.within_limits.ensures c.if-not-within_limits.false-raw in
-    (size_small w, w.count_fits, w.capacity-limits.1, omega (arith, c.if-register-line_start.false, c.line_start.ensures.0))
-
-pub returns : goal.returns
-returns c =
-    last-decides c.read_head-head.ensures (passed c.within_limits.ensures c.if-not-within_limits.false-raw) (c.if-register-line_start.false ∙ c.line_start.ensures.0)
-    (passed c.head_laid.ensures c.if-not-head_laid.false-raw)
-    (passed c.entries_laid.ensures c.if-not-entries_laid.false-raw)
-    c.blanks_laid.ensures
+pub returns-else-entries_laid : goal.returns-else-entries_laid
+returns-else-entries_laid c =
+    c.if-entries_laid.false
+    ∙ refutes c.read_head-head.ensures (λ l. ((l.sized ∙ sym c.line_start.ensures.0, l.line), l.entries)) (second ((goal.at.returns-else-entries_laid c).Joined-head_laid) (first ((goal.at.returns-else-entries_laid c).Joined-register-line_start))) c.if-entries_laid.false
