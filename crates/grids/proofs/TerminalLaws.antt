@@ -67,7 +67,7 @@ terminal-rows m h e = go (dec_le m 5)
 -- ---- after question 1
 
 -- rows that get a no are within question 1's limits
-no_rows : (m : ℕ) → (question14 m).answer ≡ false → (6 ≤ m) × (m ≤ 8)
+pub no_rows : (m : ℕ) → (question14 m).answer ≡ false → (6 ≤ m) × (m ≤ 8)
 no_rows m e = (go6 (dec_le 6 m), go8 (dec_le m 8))
   where
     other : ((6 ≤ m) × (m ≤ 8) → ⊥) → ⊥

@@ -42,8 +42,8 @@ returns-clause-answer g c =
       | then-is_eq w ↦
           let np = w.narrowed-p.ensures in
           let nq = w.narrowed-q.ensures in
-          let x = narrowed-produces _ _ few g.met.C.Caller.narrow lp np.rows np.columns in
-          let y = narrowed-produces _ _ few g.met.C.Caller.narrow lq nq.rows nq.columns in
+          let x = narrowed-produces _ _ few g.met.C.Caller.laws.narrow lp np.rows np.columns in
+          let y = narrowed-produces _ _ few g.met.C.Caller.laws.narrow lq nq.rows nq.columns in
           let i = w.inverse.ensures in
           let r = w.composed.ensures in
           rw w.orders-is
