@@ -1,7 +1,7 @@
 -- Laws of the numbers.
 --
 --   no-some  ==  what a match tells of a no: its number is not 0
---   handed-on  ==  what `?` hands on has the number of the no
+--   handed-as, handed-on  ==  what `?` hands on is the no, and has its number
 --   no-is, yes-is  ==  what a match tells: the number that a contract speaks of
 use Rattle.std.proofs.Common.{Result, Ok, Err}
 use Rattle.std.specs.Result.{IsErr, IsErrAnd}
@@ -28,6 +28,10 @@ refusal-some Client e = omega arith
 refusal-some Holding e = omega arith
 
 -- what `?` hands on
+pub handed-as : {A : Type 0} (P : Result A Refusal → Type 0) (r : Result A Refusal) (x : Refusal) → IsErr r × IsErrAnd r (λ y. y ≡ x) → P (Err x) → P r
+handed-as P (Ok y) x h p = absurd h.1
+handed-as P (Err y) x h p = rw h.1 p
+
 pub handed-on : {A : Type 0} (r : Result A Refusal) (x : Refusal) {k : ℕ} → IsErr r × IsErrAnd r (λ y. y ≡ x) → refusal_number x ≡ k → asked_number r ≡ k
 handed-on (Ok y) x h e = absurd h.1
 handed-on (Err y) x h e = ap refusal_number h.1 ∙ e

@@ -1,53 +1,55 @@
--- Questions 5, 6, 7 and 15, and a terminal's 5, 14, 6, 7 and 15, from what the code finds to what is asked.
+-- Questions 5, 6, 7 and 15, with what a caller asks besides after 5, from what the code finds to what is asked.
 --
 --   laid-yes          ==  question 5 got a yes
 --   laid-head         ==  a register is longer than line 1
 --   head_rows, head-columns, head-top, head-capacity  ==  line 1 as the code holds it
 --   head-limits, head-size, head-valid  ==  its numbers are within the limits, and the register has them
---   grid_asks terminal b g  ==  the questions before 15
---   client-asked      ==  their first no, then question 15
---   represented-writes, writes-terminal, writes-least  ==  what a terminal's represent writes, and what represent writes
---   asked-no          ==  question 5 gets a no
---   asked-5           ==  the first no is then 5
 --   represent-asked   ==  of a register's numbers, and a slice of the right length, represent asks questions 6 and 7
---   represent-first, terminal-represent-first, least_first  ==  its first no, and that of a terminal's represent, is then the first no before 15
---   asked-yes         ==  question 5 gets a yes: what represent answers, and then question 15, is the first no, and what it writes the least grid
---   entered-by        ==  either enter: these, then the least grid
---   asked-fits, asked-valid  ==  what is known where each got a yes
+--   LeastPart, least-part  ==  where the least grid is written
+--   asked-5           ==  question 5 gets a no: the first no is 5
+--   client-asked      ==  the first no before 15, and then question 15
+--   caller-first      ==  the first no before 15 is that of represent
+--   represent-no, client-number, written-least  ==  represent is refused; it is not, and the client's question is asked; the least grid is written then
+--   asks-no           ==  what `?` hands on
+--   asked-ready, asked-fits, asked-valid  ==  what is known where each got a yes
 --   call-refused, call-least  ==  a call that asks these first, and then goes by the least grid
+use Rattle.std.proofs.Common.{Result, Ok, Err}
+use Rattle.std.specs.Result.{IsErr, IsErrAnd}
 use mathlib.Core.Path.{◌≡◌, refl, sym, ap, ap₂, ◌∙◌}
 use mathlib.Core.List.{List, [], ◌∷◌, ◌++◌}
 use mathlib.Core.Bool.{Bool, true, false, not}
 use mathlib.Core.Logic.{◌⊎◌, inl, inr}
-use Prim.Native.Nat.{ℕ, ◌-◌, ◌*◌, ◌≤◌}
+use Prim.Native.Nat.{ℕ, ◌*◌, ◌≤◌}
 use native.Mathlib.Omega.{arith}
 use lib.ListN.{length, take, drop}
-use lib.Seq.{take_at}
+use lib.Seq.{length-take-le, take_at}
+use Rattle.std.proofs.Common.{length-append, length-drop}
 use borrow.Author.Tests.{eq-eqb, not-false}
-use borrow.Rule.Slice.PartMut.{mid_of, same_len_mid}
-use Rattle.refusals.specs.declared.Asked.{Asked}
-use Rattle.refusals.specs.Numbers.{asked_number}
+use Rattle.refusals.specs.declared.Refusal.{Refusal}
+use Rattle.refusals.specs.Numbers.{refusal_number, asked_number}
+use Rattle.refusals.proofs.NumberLaws.{handed-as, no-some, no-is, yes-is}
+use Rattle.permutations.specs.declared.orders.Orders.{Orders}
 use Rattle.grids.specs.Least.{least}
-use Rattle.grids.specs.Questions.{Question, first_no, Limits, question6, question7, question14, after_first}
-use Rattle.grids.proofs.TerminalLaws.{after-yes, after-no, after_stop, terminal-no}
-use Rattle.grids.proofs.QuestionLaws.{first_no-pass, first_no-stop, limits-pass, size_fits}
+use Rattle.grids.specs.Questions.{Question, first_no, Limits, question1, question6, question7, after_first}
+use Rattle.grids.proofs.TerminalLaws.{after-yes, after-no, after_stop}
+use Rattle.grids.proofs.QuestionLaws.{first_no-pass, limits-pass, yes-range, size_fits}
 use Rattle.permutations.specs.Lists.{every}
 use Rattle.permutations.proofs.BoolLaws.{yes_or_no}
-use Rattle.permutations.proofs.ListLaws.{part_length}
-use Rattle.canonical.specs.Represent.{RepresentAnswer, RepresentedBy, represent_questions, Represented, terminal_represent_questions, TerminalRepresented}
+use Rattle.canonical.specs.Callers.{CallerLaws}
+use Rattle.canonical.specs.Answers.{represented}
+use Rattle.canonical.specs.Represent.{RepresentedBy, represent_questions}
 use Rattle.canonical.proofs.CallLaws.{represented-number, represented-done}
 use Rattle.layout.specs.Layout.{head_length, Shape, layout_length, decode_shape, decode, laid_out}
 use Rattle.layout.proofs.LineLaws.{laid-lines}
 use Rattle.lines.specs.declared.head.Head.{Head}
 use Rattle.lines.specs.Head.{States}
-use Rattle.calls.specs.Entries.{grid_questions, client_questions, least_in}
+use Rattle.calls.specs.Entries.{grid_questions, client_questions, question15, least_in}
 use Rattle.calls.specs.Calls.{Outcome, answered, question5, placed}
-use Rattle.calls.specs.Valid.{Valid, asked, terminal_asked, entered_least}
-use Rattle.calls.proofs.LeastSteps.{answered-refusal, entered-asked, terminal-entered-asked}
+use Rattle.calls.specs.Valid.{Valid}
+use Rattle.calls.proofs.LeastSteps.{answered-refusal}
 use Rattle.calls.proofs.ValidLaws.{valid-sizes}
-use Rattle.register.specs.declared.asking.Asking.{Asking}
-use Rattle.register.specs.Asked.{least_questions, WritesLeast, client_no, asked_by, entered_by, Asks}
-use Rattle.register.proofs.ClientSteps.{client-passes, client-first}
+use Rattle.register.specs.Asked.{client_no, asked_by, Ready, Asks}
+use Rattle.register.proofs.ClientSteps.{client-past, client-next, client-first}
 
 pub laid-yes : {t : Bool} (b : List ℕ) → t ≡ laid_out b → not t ≡ false → laid_out b ≡ true
 laid-yes {t} b e y = sym e ∙ not-false t y
@@ -55,44 +57,6 @@ laid-yes {t} b e y = sym e ∙ not-false t y
 pub laid-head : (b : List ℕ) → laid_out b ≡ true → head_length ≤ length b
 unfolding layout_length
 laid-head b laid = omega (arith, ((laid-lines b).0 laid).0.sized)
-
-pub asked-no : {k c : ℕ} {b g least : List ℕ} {r : Asking} → k ≡ 5 → length least ≡ 128 → asked_number r.asked ≡ 5 → Asks k c b g least r
-asked-no e l n = record {
-  number_is = n ∙ sym e;
-  kept = l;
-  valid = λ z. absurd (omega (arith, n, z));
-  client-is = λ z. absurd (omega (arith, n, z));
-  capacity-is = λ z. absurd (omega (arith, n, z));
-  least-is = λ z. absurd (omega (arith, n, z));
-}
-
--- question 5 gets a no
-pub asked-5 : (t : Bool) (b : List ℕ) (c : ℕ) (g : List ℕ) → laid_out b ≡ false → asked_by t b c g ≡ 5
-unfolding asked terminal_asked question5
-asked-5 true b c g e = after_stop _ (question5 b) (client_questions (decode b).shape c g) e
-asked-5 false b c g e = first_no-stop (question5 b) (client_questions (decode b).shape c g) e
-
--- the questions before 15
-abbrev grid_asks : Bool → List ℕ → List ℕ → List Question
-grid_asks true b g = after_first (question14 (decode b).shape.rows) (question5 b ∷ grid_questions (decode b).shape g)
-grid_asks false b g = question5 b ∷ grid_questions (decode b).shape g
-
-client-asked : (t : Bool) (b : List ℕ) (c : ℕ) (g : List ℕ) → client_no (first_no (grid_asks t b g)) c ≡ asked_by t b c g
-unfolding asked terminal_asked client_questions grid_questions after_first question5 question6 question7 question14
-client-asked true b c g = client-first (grid_asks true b g) c (omega arith, (omega arith, (omega arith, (omega arith, tt))))
-client-asked false b c g = client-first (grid_asks false b g) c (omega arith, (omega arith, (omega arith, tt)))
-
--- what represent, or a terminal's represent, writes
-represented-writes : (width k m n : ℕ) (g out : List ℕ) (r : RepresentAnswer) → RepresentedBy width k m n g out r → WritesLeast k m n g r.number r.out
-represented-writes width k m n g out r h =
-    let e = represented-number width k m n g out r h in record { number_is = e; written = λ z. (represented-done width k m n g out r (sym e ∙ z) h).written }
-
-module _ (t : Bool) (m n top : ℕ) (g out : List ℕ) (r : RepresentAnswer) where
-  pub writes-terminal : t ≡ true → TerminalRepresented m n top g out r → WritesLeast (first_no (least_questions t m n top g out)) m n g r.number r.out
-  writes-terminal e h = rw e (represented-writes 5 _ m n g out r h)
-
-  pub writes-least : t ≡ false → Represented m n top g out r → WritesLeast (first_no (least_questions t m n top g out)) m n g r.number r.out
-  writes-least e h = rw e (represented-writes 8 _ m n g out r h)
 
 pub represent-asked : (m n top : ℕ) (g out : List ℕ) → Limits m n top → length out ≡ m * n → first_no (represent_questions m n top g out) ≡ first_no (question6 (m * n) (g ∷ []) ∷ question7 top (g ∷ []) ∷ [])
 unfolding represent_questions question6 every
@@ -120,66 +84,110 @@ module _ {b : List ℕ} {h : Head} (laid : laid_out b ≡ true) (st : States b h
   pub head-valid : Valid (h.rows * h.columns) h.count b
   head-valid = record { laid = laid; sized = ap₂ ◌*◌ head_rows head-columns; counts = st.counts }
 
-  grid-asked : (g : List ℕ) → first_no (question6 (h.rows * h.columns) (g ∷ []) ∷ question7 h.top (g ∷ []) ∷ []) ≡ first_no (grid_asks false b g)
+  grid-asked : (g : List ℕ) → first_no (question6 (h.rows * h.columns) (g ∷ []) ∷ question7 h.top (g ∷ []) ∷ []) ≡ first_no (question5 b ∷ grid_questions (decode b).shape g)
   unfolding grid_questions decode question5
   grid-asked g = rw (head_rows, head-columns, head-top) (sym (first_no-pass (question5 b) (grid_questions (decode_shape b) g) laid))
 
-  represent-first : (g out : List ℕ) → length out ≡ h.rows * h.columns → first_no (represent_questions h.rows h.columns h.top g out) ≡ first_no (grid_asks false b g)
+  represent-first : (g out : List ℕ) → length out ≡ h.rows * h.columns → first_no (represent_questions h.rows h.columns h.top g out) ≡ first_no (question5 b ∷ grid_questions (decode b).shape g)
   represent-first g out l = represent-asked h.rows h.columns h.top g out head-limits l ∙ grid-asked g
 
-  terminal-represent-first : (g out : List ℕ) → length out ≡ h.rows * h.columns → first_no (terminal_represent_questions h.rows h.columns h.top g out) ≡ first_no (grid_asks true b g)
-  unfolding terminal_represent_questions represent_questions decode question14 question5
-  terminal-represent-first g out l = go (yes_or_no (question14 h.rows).answer)
-    where
-      go : ((question14 h.rows).answer ≡ true) ⊎ ((question14 h.rows).answer ≡ false) →
-          first_no (terminal_represent_questions h.rows h.columns h.top g out) ≡ first_no (grid_asks true b g)
-      go (inl e) = after-yes _ _ e ∙ represent-first g out l ∙ sym (after-yes (question14 (decode_shape b).rows) _ (rw (← head_rows) e))
-      go (inr e) = terminal-no h.rows _ e ∙ sym (after-no (question14 (decode_shape b).rows) (question5 b) _ laid (rw (← head_rows) e))
+-- the part of an array of 128 cells to which the least grid is written, and the array with what was written
+pub record LeastPart (size : ℕ) (out out' : List ℕ) : Type 0 where
+  pub sized : length (take size out) ≡ size
+  pub kept : length (out' ++ drop size out) ≡ 128
+  pub front : take size (out' ++ drop size out) ≡ out'
 
-  -- of a register's numbers, and a slice of the right length
-  least_first : (t : Bool) (g out : List ℕ) → length out ≡ h.rows * h.columns → first_no (least_questions t h.rows h.columns h.top g out) ≡ first_no (grid_asks t b g)
-  least_first true g out l = terminal-represent-first g out l
-  least_first false g out l = represent-first g out l
+pub least-part : {b : List ℕ} {h : Head} → laid_out b ≡ true → States b h → (out : List ℕ) → length out ≡ 128 → (out' : List ℕ) → length out' ≡ length (take (h.rows * h.columns) out) → LeastPart (h.rows * h.columns) out out'
+least-part {h = h} laid st out l out' e =
+    let fits = head-size laid st in
+    let sized = length-take-le (h.rows * h.columns) out (omega (arith, fits)) in
+    record {
+      sized = sized;
+      kept = omega (arith, length-append out' (drop (h.rows * h.columns) out), length-drop (h.rows * h.columns) out, fits, e ∙ sized);
+      front = take_at out' _ (h.rows * h.columns) (e ∙ sized);
+    }
 
-  pub asked-yes : (t : Bool) (c : ℕ) (g out ys : List ℕ) {number : ℕ} {k : Asked} → length out ≡ 128 → length ys ≡ length (mid_of 0 (h.rows * h.columns - 0) out) →
-      WritesLeast (first_no (least_questions t h.rows h.columns h.top g (mid_of 0 (h.rows * h.columns - 0) out))) h.rows h.columns g number ys → asked_number k ≡ client_no number c →
-      Asks (asked_by t b c g) c b g (ys ++ drop (h.rows * h.columns - 0) out) (record { asked = k; size = h.rows * h.columns; capacity = h.capacity; count = h.count })
-  unfolding decode
-  asked-yes t c g out ys {number} l e r d =
-      let z = part_length out (h.rows * h.columns) (omega (arith, l, head-size)) in
-      record {
-        number_is = d ∙ ap (λ (j : ℕ). client_no j c) (r.number_is ∙ least_first t g _ z) ∙ client-asked t b c g;
-        kept = same_len_mid 0 (h.rows * h.columns - 0) out ys e ∙ l;
-        valid = λ _. head-valid;
-        client-is = λ y. let p = client-passes number c (sym d ∙ y) in (p.1, p.2);
-        capacity-is = λ _. head-capacity;
-        least-is = λ y. take_at ys _ (h.rows * h.columns) (e ∙ z) ∙ r.written (client-passes number c (sym d ∙ y)).0 ∙ ap₂ (λ (m n : ℕ). least m n g) head_rows head-columns;
-      }
+-- what a caller asks besides
+module _ {N : ℕ} {besides : ℕ → Question} {questions : ℕ → List Question → List Question} (laws : CallerLaws N besides questions) (b : List ℕ) (c : ℕ) (g : List ℕ) where
+  abbrev before-client : List Question
+  before-client = question5 b ∷ grid_questions (decode b).shape g
 
--- either enter asks these first
-pub entered-by : (t : Bool) (b : List ℕ) (c : ℕ) (g : List ℕ) → entered_by t b c g ≡ answered (asked_by t b c g) b (entered_least b c (least_in (decode b).shape g))
-entered-by true b c g = terminal-entered-asked b c g
-entered-by false b c g = entered-asked b c g
+  -- question 5 gets a no
+  pub asked-5 : laid_out b ≡ false → 5 ≡ asked_by questions b c g
+  unfolding question5
+  asked-5 e = sym (laws.among _ _ ∙ after_stop _ (question5 b) (client_questions (decode b).shape c g) e)
+
+  client-asked : client_no (first_no (questions (decode b).shape.rows before-client)) c ≡ asked_by questions b c g
+  unfolding client_questions grid_questions after_first question5 question6 question7
+  client-asked =
+      ap (λ (k : ℕ). client_no k c) (laws.among (decode b).shape.rows before-client)
+      ∙ client-first (after_first (besides (decode b).shape.rows) before-client) c (omega arith, (omega (arith, laws.numbered (decode b).shape.rows), (omega arith, (omega arith, tt))))
+      ∙ sym (laws.among (decode b).shape.rows _)
+
+  module _ {h : Head} (laid : laid_out b ≡ true) (st : States b h) where
+    caller-first : (out : List ℕ) → length out ≡ h.rows * h.columns →
+        first_no (questions h.rows (represent_questions h.rows h.columns h.top g out)) ≡ first_no (questions (decode b).shape.rows before-client)
+    unfolding represent_questions decode question1 question5
+    caller-first out l = laws.among h.rows _ ∙ go (yes_or_no (besides h.rows).answer) ∙ sym (rw (← head_rows laid st) (laws.among h.rows _))
+      where
+        go : ((besides h.rows).answer ≡ true) ⊎ ((besides h.rows).answer ≡ false) →
+            first_no (after_first (besides h.rows) (represent_questions h.rows h.columns h.top g out)) ≡ first_no (after_first (besides h.rows) before-client)
+        go (inl e) = after-yes _ _ e ∙ represent-first laid st g out l ∙ sym (after-yes _ _ e)
+        go (inr e) = after-no _ (question1 h.rows) _ (yes-range 1 8 h.rows (laws.rows h.rows e)) e ∙ sym (after-no _ (question5 b) _ laid e)
+
+    -- r is what represent answers
+    module _ (out out' : List ℕ) (l : length out ≡ h.rows * h.columns) (r : Result (Orders N) Refusal)
+        (done : RepresentedBy N (first_no (questions h.rows (represent_questions h.rows h.columns h.top g out))) h.rows h.columns g out (represented r out')) where
+      represent-number : asked_number r ≡ first_no (questions (decode b).shape.rows before-client)
+      represent-number = go r refl
+        where
+          go : (s : Result (Orders N) Refusal) → r ≡ s → asked_number r ≡ first_no (questions (decode b).shape.rows before-client)
+          go (Ok o) e = rw e (represented-number N _ _ _ _ _ _ (rw e at done)) ∙ caller-first out l
+          go (Err x) e = rw e (represented-number N _ _ _ _ _ _ (rw e at done)) ∙ caller-first out l
+
+      pub represent-no : {x : Refusal} → r ≡ Err x → refusal_number x ≡ asked_by questions b c g
+      represent-no {x} e =
+          let k = no-is e represent-number in
+          k ∙ client-past _ c (λ z. no-some e (k ∙ z)) ∙ client-asked
+
+      module _ {o : Orders N} (e : r ≡ Ok o) where
+        past : first_no (questions (decode b).shape.rows before-client) ≡ 0
+        past = sym (yes-is e represent-number)
+
+        pub client-number : {k : ℕ} → k ≡ first_no (question15 c ∷ []) → k ≡ asked_by questions b c g
+        client-number d = d ∙ sym (client-next _ c past) ∙ client-asked
+
+        pub written-least : out' ≡ least_in (decode b).shape g
+        unfolding decode
+        written-least =
+            (represented-done N _ _ _ _ _ (represented {N = N} (Ok o) out') (caller-first out l ∙ past) (rw e at done)).written
+            ∙ ap₂ (λ (m n : ℕ). least m n g) (head_rows laid st) (head-columns laid st)
+
+pub asks-no : {k c : ℕ} {b g least : List ℕ} (r : Result Head Refusal) (x : Refusal) → IsErr r × IsErrAnd r (λ y. y ≡ x) → length least ≡ 128 → refusal_number x ≡ k → Asks k c b g least r
+asks-no {k} {c} {b} {g} {least} r x h l e = handed-as (λ r. Asks k c b g least r) r x h (record { number_is = e; kept = l; ready = tt })
 
 -- a call that asks these first, and then goes by the least grid
-module _ {j c : ℕ} {b g out : List ℕ} {r : Asking} (k : Asks j c b g out r) where
-  whole : r.size - 0 ≡ r.size
-  whole = omega arith
+module _ {j c : ℕ} {b g out : List ℕ} {r : Result Head Refusal} (k : Asks j c b g out r) where
+  module _ {h : Head} (d : r ≡ Ok h) where
+    pub asked-ready : Ready c b g out h
+    asked-ready = rw d at k.ready
 
-  pub asked-fits : asked_number r.asked ≡ 0 → r.size ≤ length out
-  asked-fits z = omega (arith, k.kept, (valid-sizes (k.valid z)).cells_fit)
+    pub asked-fits : h.rows * h.columns ≤ length out
+    asked-fits = omega (arith, k.kept, (valid-sizes asked-ready.valid).cells_fit)
 
-  pub asked-valid : asked_number r.asked ≡ 0 → Valid (length (take (r.size - 0) out)) r.count b
-  asked-valid z = rw (part_length out r.size (asked-fits z)) (k.valid z)
+    pub asked-valid : Valid (length (take (h.rows * h.columns) out)) h.count b
+    asked-valid = rw (length-take-le (h.rows * h.columns) out asked-fits) asked-ready.valid
 
   module _ (f : List ℕ → Outcome) {x : Outcome} (e : x ≡ answered j b (f (least_in (decode b).shape g))) where
-    pub call-refused : (asked_number r.asked ≡ 0 → ⊥) → {number place : ℕ} → number ≡ asked_number r.asked → place ≡ 0 → placed number place b ≡ x
-    call-refused n {number} {place} p q =
-        ap₂ (λ (i j : ℕ). placed i j b) (p ∙ k.number_is) q ∙ sym (e ∙ answered-refusal j b _ (λ z. n (k.number_is ∙ z)))
+    pub call-refused : {y : Refusal} → r ≡ Err y → placed (refusal_number y) 0 b ≡ x
+    call-refused {y} d =
+        let n = no-is d k.number_is in
+        ap (λ (i : ℕ). placed i 0 b) n ∙ sym (e ∙ answered-refusal j b _ (λ z. no-some d (n ∙ z)))
 
-    pub call-least : asked_number r.asked ≡ 0 → {o : Outcome} → o ≡ f (take (r.size - 0) out) → o ≡ x
+    pub call-least : {h : Head} → r ≡ Ok h → {o : Outcome} → o ≡ f (take (h.rows * h.columns) out) → o ≡ x
     unfolding answered
-    call-least z d = d ∙ ap f (ap (λ (i : ℕ). take i out) whole ∙ k.least-is z) ∙ sym (e ∙ ap (λ (i : ℕ). answered i b (f (least_in (decode b).shape g))) (sym k.number_is ∙ z) ∙ yes)
+    call-least d q =
+        q ∙ ap f (asked-ready d).least-is ∙ sym (e ∙ ap (λ (i : ℕ). answered i b (f (least_in (decode b).shape g))) (sym (yes-is d k.number_is)) ∙ yes)
       where
         yes : answered 0 b (f (least_in (decode b).shape g)) ≡ f (least_in (decode b).shape g)
         yes = refl

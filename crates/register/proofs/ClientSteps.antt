@@ -27,7 +27,7 @@ module _ (k c : ℕ) where
       go (suc j) h = refl
 
   module _ (z : k ≡ 0) where
-    client-next : client_no k c ≡ first_no (question15 c ∷ [])
+    pub client-next : client_no k c ≡ first_no (question15 c ∷ [])
     unfolding client_no
     client-next = rw z refl
 
@@ -39,10 +39,17 @@ module _ (k c : ℕ) where
     unfolding question15 first_no
     client-yes h = sym (client-next ∙ first_no-pass (question15 c) [] (yes-range 1 clients c h))
 
+client_no_zero : (c : ℕ) → client_no 0 c ≡ first_no (question15 c ∷ [])
+unfolding client_no
+client_no_zero c = refl
+
 pub client-passes : (k c : ℕ) → client_no k c ≡ 0 → (k ≡ 0) × (1 ≤ c) × (c ≤ clients)
 unfolding client_no question15
 client-passes zero c e = let r = range-yes 1 clients c ((first-no-zero (question15 c ∷ []) (omega arith, tt)).0 e).0 in (refl, r.0, r.1)
 client-passes (suc k) c e = absurd (omega (arith, e))
+
+pub client-is : (c : ℕ) → 0 ≡ first_no (question15 c ∷ []) → (1 ≤ c) × (c ≤ clients)
+client-is c e = let p = client-passes 0 c (client_no_zero c ∙ sym e) in (p.1, p.2)
 
 pub client-first : (l : List Question) (c : ℕ) → Numbered l → client_no (first_no l) c ≡ first_no (l ++ (question15 c ∷ []))
 client-first l c h = go (ℕ_discrete (first_no l) 0)

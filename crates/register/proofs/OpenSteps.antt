@@ -8,8 +8,7 @@
 --   opened-no                 ==  the way out with a no
 --   opened-passes, opened-yes ==  what is known where every question gets a yes, and the way out then
 --   limits-size, head-fits    ==  a grid within the limits has at most 128 cells; line 1 fits the slice
---   Filling s w start e b     ==  line 1 and e blank lines are written, and the next one begins at start
---   filling-head, filling-room, filling-next, filling-all  ==  the loop's start, room for a line, one turn, and its end
+--   head-written, room, blank-written, blanks-written  ==  the loop's start, room for a line, one turn, and its end
 use mathlib.Core.Path.{◌≡◌, refl, sym, ap, ◌∙◌}
 use mathlib.Core.List.{List, [], ◌∷◌, ◌++◌}
 use mathlib.Core.Bool.{and-true}
@@ -24,8 +23,8 @@ use Rattle.grids.specs.Asked.{numbers_no}
 use Rattle.grids.specs.Questions.{Question, first_no, question6}
 use Rattle.grids.proofs.QuestionLaws.{first_no-pass, first_no-stop, first-no-stays, first-no-next, size_fits}
 use Rattle.layout.specs.Layout.{Shape, grid_size, head_length, line_length, line_start, head_line, blank_line, layout, layout_length, InLimits}
-use Rattle.layout.proofs.LineLaws.{start-zero, next_start, line-short}
-use Rattle.layout.proofs.MoveLaws.{Opened, opened-head-part, opened-next, opened-all}
+use Rattle.layout.proofs.LineLaws.{line-short}
+use Rattle.layout.proofs.MoveLaws.{Opened, opened-head, opened-next, opened-all}
 use Rattle.calls.specs.Calls.{answered, open_questions, opened, placed}
 use Rattle.calls.specs.Valid.{open_no}
 use Rattle.calls.proofs.AskedLaws.{number_questions, number-numbered, numbers-pass, open-pass}
@@ -88,31 +87,20 @@ pub head-fits : (s : Shape) (b : List ℕ) → length b ≡ layout_length s → 
 unfolding layout_length
 head-fits s b e = omega (arith, e)
 
--- line 1 and e blank lines are written, and the next one begins at start
-pub record Filling (s : Shape) (w start e : ℕ) (b : List ℕ) : Type 0 where
-  pub width_is : w ≡ line_length (grid_size s)
-  pub place : start ≡ line_start (grid_size s) e
-  pub passed : e ≤ s.capacity
-  pub written : Opened s e b
+pub head-written : (s : Shape) (b ys : List ℕ) → length b ≡ layout_length s → ys ≡ head_line s 0 → Opened s 0 (ys ++ drop head_length b)
+head-written s b ys e d = rw d (opened-head b e)
 
-pub filling-head : (s : Shape) {w : ℕ} (b ys : List ℕ) → w ≡ line_length (grid_size s) → length b ≡ layout_length s → ys ≡ head_line s 0 → Filling s w head_length 0 (put_mid 0 head_length b ys)
-filling-head s b ys q l e = record { width_is = q; place = sym (start-zero (grid_size s)); passed = omega arith; written = opened-head-part b l e refl }
-
-module _ {s : Shape} {w start e : ℕ} {b : List ℕ} (i : InLimits s) (f : Filling s w start e b) (h : e < s.capacity) where
-  pub filling-room : Room b start 0 w
+-- what is left behind e lines
+module _ {s : Shape} {e : ℕ} {b : List ℕ} (i : InLimits s) (f : Opened s e b) (h : e < s.capacity) {start : ℕ} (p : start ≡ line_start (grid_size s) e) where
+  pub room : Room b start 0 (line_length (grid_size s))
   unfolding layout_length
-  filling-room =
+  room =
       let c = limits-size s i in
       let z : 0 ≡ 0 * line_length (grid_size s) = omega arith in
-      rw (f.place, f.width_is, z) (lines_fit b e 0 s.capacity (grid_size s) (omega arith) f.written.sized i.capacity-limits.1 (line-short (grid_size s) c))
+      rw (p, z) (lines_fit b e 0 s.capacity (grid_size s) (omega arith) f.sized i.capacity-limits.1 (line-short (grid_size s) c))
 
-  pub filling-next : (ys : List ℕ) → ys ≡ blank_line (grid_size s) ++ drop (line_length (grid_size s)) (mid_of start (length b - start) b) → Filling s w (start + w) (e + 1) (put_mid start (length b - start) b ys)
-  filling-next ys d = record {
-    width_is = f.width_is;
-    place = omega (arith, f.place, f.width_is, next_start (grid_size s) e);
-    passed = omega arith;
-    written = rw (put-tail b start filling-room.start-inside ys, d, tail-part b start filling-room.start-inside, f.place) (opened-next f.written h);
-  }
+  pub blank-written : (ys : List ℕ) → ys ≡ blank_line (grid_size s) ++ drop (line_length (grid_size s)) (mid_of start (length b - start) b) → Opened s (e + 1) (put_mid start (length b - start) b ys)
+  blank-written ys d = rw (put-tail b start room.start-inside ys, d, tail-part b start room.start-inside, p) (opened-next f h)
 
-pub filling-all : {s : Shape} {w start e : ℕ} {b : List ℕ} → Filling s w start e b → s.capacity ≤ e → b ≡ layout (record { shape = s; entries = [] })
-filling-all {s} {w} {start} {e} {b} f h = let q : e ≡ s.capacity = omega (arith, f.passed) in opened-all (rw q at f.written)
+pub blanks-written : {s : Shape} {e : ℕ} {b : List ℕ} → Opened s e b → e ≡ s.capacity → b ≡ layout (record { shape = s; entries = [] })
+blanks-written {b = b} f q = opened-all (rw q at f)

@@ -1,46 +1,23 @@
--- Document 01's number, and its place or count, for each answer.
+-- Document 01's number and place for each answer of enter and strike. The number of open and strike is that of the first no, or 0; the place of open is 0.
 --
---   opening_number r  ==  that of open, whose place is 0
 --   entering_number r, entering_place r  ==  those of enter
---   striking_number r, striking_place r  ==  those of strike
---   counting_number r, counting_count r  ==  those of count
-use Rattle.std.specs.Prelude.{ℕ}
+--   striking_place r  ==  the place of strike
+use Rattle.std.specs.Prelude.{ℕ, Result, Ok, Err}
+use Rattle.refusals.specs.declared.Refusal.{Refusal}
 use Rattle.refusals.specs.Numbers.{refusal_number}
-use Rattle.register.specs.declared.answers.Opening.{Opening}
-use Rattle.register.specs.declared.answers.Opening.TheVariants.{Opened}
-use Rattle.register.specs.declared.answers.Entering.{Entering}
-use Rattle.register.specs.declared.answers.Entering.TheVariants.{New, Held}
-use Rattle.register.specs.declared.answers.Striking.{Striking}
-use Rattle.register.specs.declared.answers.Striking.TheVariants.{Struck}
-use Rattle.register.specs.declared.answers.Counting.{Counting}
-use Rattle.register.specs.declared.answers.Counting.TheVariants.{Entries}
+use Rattle.register.specs.declared.answers.Entered.{Entered}
+use Rattle.register.specs.declared.answers.Entered.TheVariants.{New, Held}
 
-abbrev pub opening_number : Opening → ℕ
-opening_number Opened = 0
-opening_number (Opening.Refused x) = refusal_number x
+abbrev pub entering_number : Result Entered Refusal → ℕ
+entering_number (Ok (New place)) = 0
+entering_number (Ok (Held place)) = 101
+entering_number (Err x) = refusal_number x
 
-abbrev pub entering_number : Entering → ℕ
-entering_number (New place) = 0
-entering_number (Held place) = 101
-entering_number (Entering.Refused x) = refusal_number x
+abbrev pub entering_place : Result Entered Refusal → ℕ
+entering_place (Ok (New place)) = place
+entering_place (Ok (Held place)) = place
+entering_place (Err x) = 0
 
-abbrev pub entering_place : Entering → ℕ
-entering_place (New place) = place
-entering_place (Held place) = place
-entering_place (Entering.Refused x) = 0
-
-abbrev pub striking_number : Striking → ℕ
-striking_number (Struck place) = 0
-striking_number (Striking.Refused x) = refusal_number x
-
-abbrev pub striking_place : Striking → ℕ
-striking_place (Struck place) = place
-striking_place (Striking.Refused x) = 0
-
-abbrev pub counting_number : Counting → ℕ
-counting_number (Entries count) = 0
-counting_number (Counting.Refused x) = refusal_number x
-
-abbrev pub counting_count : Counting → ℕ
-counting_count (Entries count) = count
-counting_count (Counting.Refused x) = 0
+abbrev pub striking_place : Result ℕ Refusal → ℕ
+striking_place (Ok place) = place
+striking_place (Err x) = 0

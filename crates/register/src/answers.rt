@@ -1,103 +1,72 @@
-// What open, count, enter, strike and a terminal's enter return.
+// What open, enter and strike answer, and how C sees it.
 ghost use Rattle.std.specs.Prelude.{◌≡◌};
-ghost use Rattle.register.specs.Answers.{opening_number, entering_number, entering_place, striking_number, striking_place, counting_number, counting_count};
+ghost use Rattle.refusals.specs.Numbers.{refusal_number, asked_number};
+ghost use Rattle.register.specs.Answers.{entering_number, entering_place, striking_place};
 
-use bounds::prune::Counted;
 use refusals::Refusal;
 
 // The number and the place.
 #[repr(C)]
-#[derive(Clone, Copy)]
+#[derive(Clone, Copy, Debug, PartialEq, Eq)]
 pub struct Placed {
     pub number: u32,
     pub place: u32,
 }
 
-// What open answers.
-#[derive(Clone, Copy)]
-pub enum Opening {
-    Opened,
-    Refused(Refusal),
+// What enter does: the place of an entry that is new, or of one that was held.
+#[derive(Clone, Copy, Debug, PartialEq, Eq)]
+pub enum Entered {
+    New(u32),
+    Held(u32),
 }
 
-impl Opening {
-    pub fn placed(self) -> Placed
-        ensures { (result.number ≡ opening_number self) × (result.place ≡ 0) }
-    {
-        match self {
-            Opening::Opened => Placed {
-                number: 0,
-                place: 0,
-            },
-            Opening::Refused(refusal) => Placed {
-                number: refusal.number(),
-                place: 0,
-            },
+impl From<Refusal> for Placed {
+    ghost from_gives = { λ refusal placed. (placed.number ≡ refusal_number refusal) × (placed.place ≡ 0) };
+
+    fn from(refusal: Refusal) -> Placed {
+        Placed {
+            number: refusal.into(),
+            place: 0,
         }
     }
 }
 
-// What enter answers: the place of an entry that is new, or of one that was held.
-#[derive(Clone, Copy)]
-pub enum Entering {
-    New(u32),
-    Held(u32),
-    Refused(Refusal),
-}
+// What open answers.
+impl From<Result<(), Refusal>> for Placed {
+    ghost from_gives = { λ opened placed. (placed.number ≡ asked_number opened) × (placed.place ≡ 0) };
 
-impl Entering {
-    pub fn placed(self) -> Placed
-        ensures { (result.number ≡ entering_number self) × (result.place ≡ entering_place self) }
-    {
-        match self {
-            Entering::New(place) => Placed { number: 0, place },
-            Entering::Held(place) => Placed { number: 101, place },
-            Entering::Refused(refusal) => Placed {
-                number: refusal.number(),
+    fn from(opened: Result<(), Refusal>) -> Placed {
+        match opened {
+            Ok(()) => Placed {
+                number: 0,
                 place: 0,
             },
+            Err(refusal) => refusal.into(),
+        }
+    }
+}
+
+// What enter answers.
+impl From<Result<Entered, Refusal>> for Placed {
+    ghost from_gives = { λ entered placed. (placed.number ≡ entering_number entered) × (placed.place ≡ entering_place entered) };
+
+    fn from(entered: Result<Entered, Refusal>) -> Placed {
+        match entered {
+            Ok(Entered::New(place)) => Placed { number: 0, place },
+            Ok(Entered::Held(place)) => Placed { number: 101, place },
+            Err(refusal) => refusal.into(),
         }
     }
 }
 
 // What strike answers: the place that the entry had.
-#[derive(Clone, Copy)]
-pub enum Striking {
-    Struck(u32),
-    Refused(Refusal),
-}
+impl From<Result<u32, Refusal>> for Placed {
+    ghost from_gives = { λ struck placed. (placed.number ≡ asked_number struck) × (placed.place ≡ striking_place struck) };
 
-impl Striking {
-    pub fn placed(self) -> Placed
-        ensures { (result.number ≡ striking_number self) × (result.place ≡ striking_place self) }
-    {
-        match self {
-            Striking::Struck(place) => Placed { number: 0, place },
-            Striking::Refused(refusal) => Placed {
-                number: refusal.number(),
-                place: 0,
-            },
-        }
-    }
-}
-
-// What count answers.
-#[derive(Clone, Copy)]
-pub enum Counting {
-    Entries(u32),
-    Refused(Refusal),
-}
-
-impl Counting {
-    pub fn counted(self) -> Counted
-        ensures { (result.number ≡ counting_number self) × (result.count ≡ counting_count self) }
-    {
-        match self {
-            Counting::Entries(count) => Counted { number: 0, count },
-            Counting::Refused(refusal) => Counted {
-                number: refusal.number(),
-                count: 0,
-            },
+    fn from(struck: Result<u32, Refusal>) -> Placed {
+        match struck {
+            Ok(place) => Placed { number: 0, place },
+            Err(refusal) => refusal.into(),
         }
     }
 }

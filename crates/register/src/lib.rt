@@ -9,4 +9,3 @@ mod held;
 pub mod opening;
 mod places;
 pub mod striking;
-pub mod terminal_entering;

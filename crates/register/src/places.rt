@@ -8,8 +8,8 @@ ghost use Rattle.calls.specs.Valid.{Valid};
 ghost use Rattle.register.specs.Spans.{Halved};
 
 use grids::comparisons;
-use std::cmp::Ordering;
 use lines::entries;
+use std::cmp::Ordering;
 
 // What comparing the grid of a line's entry with a grid finds.
 fn compare_entry(register: &[u8], e: usize, count: usize, grid: &[u8]) -> Ordering

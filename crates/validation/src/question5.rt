@@ -8,15 +8,14 @@ use crate::blanks;
 use grids::questions;
 use lines::head::{Head, LENGTH};
 use lines::{entries, head};
-use refusals::Asked;
 
 // Whether the numbers of line 1 are within the limits, and the count is at most the capacity.
 fn within_limits(head: Head) -> bool
     ensures { (result ≡ true) ↔ WithinLimits head.rows head.columns head.top head.capacity head.count }
 {
     match questions::ask_numbers(head.rows, head.columns, head.top, head.capacity) {
-        Asked::Yes => head.count <= head.capacity,
-        Asked::No(_) => false,
+        Ok(()) => head.count <= head.capacity,
+        Err(_) => false,
     }
 }
 

@@ -3,7 +3,10 @@ use mathlib.Core.Path.{◌≡◌, refl, sym, ◌∙◌}
 use mathlib.Core.Bool.{true}
 use native.Mathlib.Omega.{arith}
 use borrow.Author.Tests.{not-true}
-use Rattle.refusals.proofs.NumberLaws.{no-some, no-is, yes-is}
+use Rattle.refusals.proofs.NumberLaws.{handed-as, no-some, yes-is}
+use Rattle.refusals.specs.Numbers.{asked_number}
+use Rattle.bounds.specs.Pruning.{counting_count}
+use Rattle.calls.specs.Calls.{placed, counted}
 use Rattle.layout.specs.Layout.{laid_out}
 use Rattle.calls.proofs.CountSteps.{count-unlaid, count_no, count-made}
 use Rattle.register.proofs.AskSteps.{laid-yes, laid-head, head-size, head-valid}
@@ -27,18 +30,20 @@ read_head-head-requires c = laid-head _ (laid ((goal.at.read_head-head-requires 
 pub overflow_mul-head : goal.overflow_mul-head
 overflow_mul-head c = omega (arith, head-size (laid ((goal.at.overflow_mul-head c).Else-not-is_laid_out)) c.read_head-head.ensures)
 
-pub returns-in-No : goal.returns-in-No
-returns-in-No c =
-    let e = c.in-No.is in
-    count_no _ _ _ (laid ((goal.at.returns-in-No c).Else-not-is_laid_out)) c.read_head-head.ensures.shape (no-is e c.ask_bounds.ensures) (no-some e)
+pub returns-in_err-ask_bounds : goal.returns-in_err-ask_bounds
+returns-in_err-ask_bounds c =
+    let e = c.in_err-ask_bounds in
+    let a = c.args in
+    handed-as (λ r. placed (asked_number r) (counting_count r) a.register.now ≡ counted a.register.now a.low.now a.high.now) _ _ c.from_residual.ensures
+    (count_no _ _ _ (laid ((goal.at.returns-in_err-ask_bounds c).Else-not-is_laid_out)) c.read_head-head.ensures.shape e.ensures (no-some e.was))
 
 pub count_within-requires : goal.count_within-requires
 count_within-requires c =
-    count-ready (laid ((goal.at.count_within-requires c).Else-not-is_laid_out)) c.read_head-head.ensures _ _ (yes-is c.in_default.is c.ask_bounds.ensures) refl
+    count-ready (laid ((goal.at.count_within-requires c).Else-not-is_laid_out)) c.read_head-head.ensures _ _ (yes-is c.in_ok-ask_bounds.was c.ask_bounds.ensures) refl
 
 pub overflow_cast-result : goal.overflow_cast-result
 overflow_cast-result c = omega (arith, count_small (head-valid (laid ((goal.at.overflow_cast-result c).Else-not-is_laid_out)) c.read_head-head.ensures) _ c.count_within.ensures)
 
 pub returns : goal.returns
 returns c =
-    count-made _ _ _ (laid ((goal.at.returns c).Else-not-is_laid_out)) c.read_head-head.ensures.shape (yes-is c.in_default.is c.ask_bounds.ensures) refl c.count_within.ensures
+    count-made _ _ _ (laid ((goal.at.returns c).Else-not-is_laid_out)) c.read_head-head.ensures.shape (yes-is c.in_ok-ask_bounds.was c.ask_bounds.ensures) refl c.count_within.ensures

@@ -1,32 +1,38 @@
--- `strike` meets its contract: a refusal of what is asked first, or what striking the least grid gives.
-use mathlib.Core.Path.{◌≡◌, refl, sym}
+-- A refusal of what is asked first, or what striking the least grid gives.
+use Rattle.std.proofs.Common.{◌≡◌, sym, arith}
+use lib.Seq.{length-take-le}
 use Rattle.refusals.specs.Numbers.{asked_number}
-use Rattle.refusals.proofs.NumberLaws.{no-some, no-is, yes-is}
-use Rattle.calls.specs.Valid.{struck_least}
+use Rattle.refusals.proofs.NumberLaws.{handed-as}
+use Rattle.calls.specs.Calls.{placed, struck}
+use Rattle.calls.specs.Valid.{asked, struck_least}
 use Rattle.calls.proofs.LeastSteps.{struck-asked}
-use Rattle.register.proofs.AskSteps.{asked-fits, asked-valid, call-refused, call-least}
+use Rattle.register.specs.Answers.{striking_place}
+use Rattle.register.proofs.AskSteps.{asked-ready, asked-fits, asked-valid, call-refused, call-least}
 use Rattle.register.proofs.striking.strike.Goals as goal
-use Rattle.register.proofs.striking.strike.Goals.{In_default}
 
-pub returns-in-No : goal.returns-in-No
-returns-in-No c =
-    let e = c.in-No.is in
+pub returns-in_err-head : goal.returns-in_err-head
+unfolding asked
+returns-in_err-head c =
     let a = c.args in
-    call-refused c.ask-asking.ensures (struck_least a.register.now a.client) (struck-asked a.register.now a.client a.grid.now) (λ z. no-some e (no-is e z)) (no-is e refl) refl
+    handed-as (λ r. placed (asked_number r) (striking_place r) a.register.now ≡ struck a.register.now a.client a.grid.now) _ _ c.from_residual.ensures
+    (call-refused c.ask.ensures (struck_least a.register.now a.client) (struck-asked a.register.now a.client a.grid.now) c.in_err-head.was)
 
-passed : (c : In_default) → asked_number c.ask-asking.result.asked ≡ 0
-passed c = sym (yes-is c.in_default.is refl)
+pub overflow_mul-size : goal.overflow_mul-size
+overflow_mul-size c = omega (arith, asked-fits c.ask.ensures c.in_ok-head.was, c.ask.ensures.kept)
+
+pub slice_bounds-least-end : goal.slice_bounds-least-end
+slice_bounds-least-end c = asked-fits c.ask.ensures c.in_ok-head.was
 
 pub slice_bounds-strike_least-end : goal.slice_bounds-strike_least-end
-slice_bounds-strike_least-end c = asked-fits c.ask-asking.ensures (passed ((goal.at.slice_bounds-strike_least-end c).In_default))
+slice_bounds-strike_least-end c = sym (length-take-le _ _ (asked-fits c.ask.ensures c.in_ok-head.was))
 
 pub strike_least-requires : goal.strike_least-requires
 strike_least-requires c =
-    let k = c.ask-asking in
-    let z = passed ((goal.at.strike_least-requires c).In_default) in
-    (asked-valid k.ensures z, (k.ensures.client-is z).0, (k.ensures.client-is z).1)
+    let k = asked-ready c.ask.ensures c.in_ok-head.was in
+    (asked-valid c.ask.ensures c.in_ok-head.was, k.client-is.0, k.client-is.1)
 
 pub returns : goal.returns
+unfolding asked
 returns c =
     let a = c.args in
-    call-least c.ask-asking.ensures (struck_least a.register.now a.client) (struck-asked a.register.now a.client a.grid.now) (passed ((goal.at.returns c).In_default)) c.strike_least.ensures
+    call-least c.ask.ensures (struck_least a.register.now a.client) (struck-asked a.register.now a.client a.grid.now) c.in_ok-head.was c.strike_least.ensures
