@@ -10,12 +10,12 @@ unfoldable pub word : ℕ → (ℕ → ℕ) → ℕ
 word zero f = 0
 word (suc n) f = 2 * word n f + f n
 
-unfoldable pub Small : List ℕ → Type 0
+abbrev pub Small : List ℕ → Type 0
 Small u = (r : ℕ) → r < 8 → get_or u r 0 < 65536
 
 pub record RowWords (x u : List ℕ) : Type 0 where
   pub holds : (r : ℕ) → r < 8 → get_or u r 0 ≡ word 16 (λ c. get_or x (c * 8 + r) 0)
   pub small : Small u
 
-unfoldable pub LowWords : List ℕ → List ℕ → Type 0
+abbrev pub LowWords : List ℕ → List ℕ → Type 0
 LowWords y v = (c : ℕ) → c < 16 → get_or v c 0 ≡ word 8 (λ r. get_or y (r * 16 + c) 0)

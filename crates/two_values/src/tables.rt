@@ -1,31 +1,42 @@
-// The cells of a grid with two values, as 0 and 1.
+// A grid with two values, and its cells as 0 and 1.
 ghost use Rattle.std.specs.Prelude.{◌≡◌, ◌*◌, ◌≤◌, length};
-ghost use Rattle.two_values.specs.Tables.{ByColumns, ByRows};
+ghost use Rattle.two_values.specs.TwoValues.{TwoValued};
+ghost use Rattle.two_values.specs.Tables.{Tables};
 
-// 1 for each cell with the higher value, column after column.
-pub fn by_columns(grid: &[u8], m: usize, n: usize, low: u8) -> [u16; 128]
-    requires { (m ≤ 8) × (n ≤ 16) × (length grid.now ≡ m * n) }
-    ensures { ByColumns m n grid.now low result }
-{
-    let mut out = [0u16; 128];
-    for i in 0..m {
-        for j in 0..n {
-            out[j * 8 + i] = (grid[i * n + j] != low) as u16;
-        }
-    }
-    out
+// The cells of m rows and n columns, of which `low` is the lower value. `columns` has 1 for each cell with the higher value, column after
+// column; `rows` has 0 for each of them and 1 elsewhere, row after row.
+#[derive(Drop)]
+pub struct TwoValuedGrid<'a> {
+    pub cells: &'a [u8],
+    pub m: usize,
+    pub n: usize,
+    pub low: u8,
+    pub columns: [u16; 128],
+    pub rows: [u8; 128],
+    pub ghost tables: { Tables m n cells.now low columns rows },
 }
 
-// 0 for each cell with the higher value and 1 elsewhere, row after row.
-pub fn by_rows(grid: &[u8], m: usize, n: usize, low: u8) -> [u8; 128]
-    requires { (m ≤ 8) × (n ≤ 16) × (length grid.now ≡ m * n) }
-    ensures { ByRows m n grid.now low result }
-{
-    let mut out = [1u8; 128];
-    for i in 0..m {
-        for j in 0..n {
-            out[i * 16 + j] = (grid[i * n + j] == low) as u8;
+impl<'a> TwoValuedGrid<'a> {
+    pub fn new(cells: &'a [u8], m: usize, n: usize, low: u8) -> TwoValuedGrid<'a>
+        requires { (m ≤ 8) × (n ≤ 16) × (length cells.now ≡ m * n) × TwoValued cells.now low }
+        ensures { (result.cells.now ≡ cells.now) × (result.m ≡ m) × (result.n ≡ n) × (result.low ≡ low) }
+    {
+        let mut columns = [0u16; 128];
+        let mut rows = [1u8; 128];
+        for i in 0..m {
+            for j in 0..n {
+                let is_low = cells[i * n + j] == low;
+                columns[j * 8 + i] = !is_low as u16;
+                rows[i * 16 + j] = is_low as u8;
+            }
+        }
+        TwoValuedGrid {
+            cells,
+            m,
+            n,
+            low,
+            columns,
+            rows,
         }
     }
-    out
 }

@@ -13,14 +13,12 @@ pub loop-c-init : goal.loop-c-init
 loop-c-init c = (omega arith, c.loop-r.invariant.1)
 
 pub overflow_mul-out : goal.overflow_mul-out
-unfolding Bits
 overflow_mul-out c =
     let bits = c.requires in
     let l = c.loop-c in
     omega (arith, worded-small l.invariant.1 7 (omega arith) (λ e t. bits (e * 16 + t)) l.c (omega arith) (omega arith))
 
 pub overflow_add-out-in-loop-c : goal.overflow_add-out-in-loop-c
-unfolding Bits
 overflow_add-out-in-loop-c c =
     let bits = c.requires in
     let l = c.loop-c in
@@ -33,5 +31,4 @@ pub loop-r-preserved : goal.loop-r-preserved
 loop-r-preserved c = (omega arith, worded-turn c.loop-c.invariant.1 (omega arith))
 
 pub returns : goal.returns
-unfolding LowWords
 returns c = let l = c.loop-r in let e : l.r ≡ 8 = omega arith in λ t h. (rw e at l.invariant.1).todo t (omega arith) h

@@ -13,20 +13,17 @@ pub loop-r-init : goal.loop-r-init
 loop-r-init c = (omega arith, c.loop-c.invariant.1)
 
 pub overflow_mul-out : goal.overflow_mul-out
-unfolding Bits
 overflow_mul-out c =
     let bits = c.requires in
     let l = c.loop-r in
     omega (arith, worded-small l.invariant.1 15 (omega arith) (λ e t. bits (e * 8 + t)) l.r (omega arith) (omega arith))
 
 pub overflow_cast-out : goal.overflow_cast-out
-unfolding Bits
 overflow_cast-out c =
     let bits = c.requires in
     record { fits = omega (arith, bits (c.loop-c.c * 8 + c.loop-r.r)) }
 
 pub overflow_add-out-in-loop-r : goal.overflow_add-out-in-loop-r
-unfolding Bits
 overflow_add-out-in-loop-r c =
     let bits = c.requires in
     let l = c.loop-r in
@@ -39,7 +36,6 @@ pub loop-c-preserved : goal.loop-c-preserved
 loop-c-preserved c = (omega arith, worded-turn c.loop-r.invariant.1 (omega arith))
 
 pub returns : goal.returns
-unfolding Bits Small
 returns c =
     let l = c.loop-c in
     let bits = c.requires in
