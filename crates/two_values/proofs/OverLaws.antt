@@ -22,9 +22,8 @@ use Rattle.grids.proofs.OrderLaws.{≼-antisymm, ≼-dec}
 use Rattle.branches.specs.Branches.{Dominates}
 use Rattle.branches.proofs.DominatedRows.{covers-dominated}
 use Rattle.two_values.specs.TwoValues.{places_after, column_order}
-use Rattle.two_values.specs.Tables.{Bits}
 use Rattle.two_values.specs.Search.{Next}
-use Rattle.two_values.specs.Words.{word, LowWords}
+use Rattle.two_values.specs.Words.{word}
 use Rattle.two_values.specs.Domination.{entry, Alone, Crossed, ByOne, ByTwo, Over, equal, by_one, by_two, Prepared}
 use Rattle.two_values.proofs.BitLaws.{cells-equal, cells-higher, cells-no-higher}
 use Rattle.two_values.proofs.WordLaws.{word-injective, word-exchanged, word-alone}

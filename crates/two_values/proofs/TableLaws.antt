@@ -24,7 +24,7 @@ use borrow.Author.Tests.{lt-ltb, le-ltb}
 use mir.Val.{bool_byte}
 use Rattle.grids.specs.Grids.{cell}
 use Rattle.two_values.specs.TwoValues.{bit}
-use Rattle.two_values.specs.Tables.{high, Bits, ByColumns, ByRows}
+use Rattle.two_values.specs.Tables.{high, ByColumns, ByRows}
 
 -- ---- places
 

@@ -14,7 +14,7 @@ pub struct Contest<'a> {
     pub grid: &'a TwoValuedGrid<'a>,
     pub node: &'a Node,
     pub words: [u32; 8],
-    pub lows: [u8; 16],
+    pub lows: [u32; 16],
     pub ghost prepared: { Prepared grid.now.m grid.now.n grid.now.cells.now grid.now.low grid.now.columns grid.now.rows node.now.k node.now.rows node.now.after words lows },
 }
 
@@ -23,8 +23,8 @@ impl<'a> Contest<'a> {
         requires { IsRowPermutation grid.now.m node.now.rows × (node.now.k < grid.now.m) × PlacesBy node.now.k grid.now.n grid.now.cells.now (row_numbers node.now.rows) node.now.after }
         ensures { (result.grid.now ≡ grid.now) × (result.node.now ≡ node.now) }
     {
-        let words = words::by_row(&grid.columns);
-        let lows = words::by_column(&grid.rows);
+        let words = words::words::<16, 8>(&grid.columns);
+        let lows = words::words::<8, 16>(&grid.rows);
         Contest {
             grid,
             node,

@@ -42,7 +42,7 @@ impl Contest<'_> {
         let first = self.lows[c];
         let second = self.lows[d];
         let both = first & second;
-        self.node.after[c] == self.node.after[d] && both as u32 + digit(7, b) == first as u32
+        self.node.after[c] == self.node.after[d] && both + digit(7, b) == first
     }
 
     // Whether row a has the higher value in column c and the lower in d, and row b the other way round.

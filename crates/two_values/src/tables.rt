@@ -11,7 +11,7 @@ pub struct TwoValuedGrid<'a> {
     pub m: usize,
     pub n: usize,
     pub low: u8,
-    pub columns: [u16; 128],
+    pub columns: [u8; 128],
     pub rows: [u8; 128],
     pub ghost tables: { Tables m n cells.now low columns rows },
 }
@@ -21,12 +21,12 @@ impl<'a> TwoValuedGrid<'a> {
         requires { (m ≤ 8) × (n ≤ 16) × (length cells.now ≡ m * n) × TwoValued cells.now low }
         ensures { (result.cells.now ≡ cells.now) × (result.m ≡ m) × (result.n ≡ n) × (result.low ≡ low) }
     {
-        let mut columns = [0u16; 128];
+        let mut columns = [0u8; 128];
         let mut rows = [1u8; 128];
         for i in 0..m {
             for j in 0..n {
                 let is_low = cells[i * n + j] == low;
-                columns[j * 8 + i] = !is_low as u16;
+                columns[j * 8 + i] = !is_low as u8;
                 rows[i * 16 + j] = is_low as u8;
             }
         }
