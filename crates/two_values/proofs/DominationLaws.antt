@@ -4,8 +4,8 @@
 --   row_below          ==  a position's row number is below 8
 --   drops-none, drops-twice  ==  marks that stay, and marks dropped twice
 --   drops-one          ==  a mark dropped where a marked row is as good
---   chosen-all         ==  all rows with the least key may be chosen
---   chosen-marks       ==  of the marked rows those that are left are chosen
+--   left-all           ==  all positions may be left
+--   left-marks         ==  of the marked rows those that stay so are left
 --   none-marked        ==  at first no position is marked
 --   marks-none, marks-next  ==  the rows with the least key are marked: none, and with a row more
 use mathlib.Core.Path.{◌≡◌, sym, ◌∙◌}
@@ -22,7 +22,7 @@ use Rattle.std.proofs.Common.{eq-eqb}
 use Rattle.permutations.specs.declared.rows.RowPermutation.{RowPermutation}
 use Rattle.permutations.specs.Rows.{row_numbers, IsRowPermutation}
 use Rattle.permutations.proofs.SwapLaws.{at-whole}
-use Rattle.two_values.specs.Search.{Next, Drops, Chosen}
+use Rattle.two_values.specs.Search.{Next, Drops, Left}
 use Rattle.two_values.specs.Domination.{MarksLeast}
 
 pub never : {P : Type 0} → false ≡ true → P
@@ -70,17 +70,15 @@ module _ (m n : ℕ) (g : List ℕ) (k : ℕ) (p : List ℕ) where
       as-good u ku um was (yes f) = (s, ks, sm, get_or-set_other a t s false false ne ∙ marked, rw f next)
       as-good u ku um was (no nf) = (u, ku, um, get_or-set_other a t u false false nf ∙ was, next-same u)
 
-  pub chosen-all : (keys : List ℕ) (least : ℕ) (a : List Bool) → MarksLeast k m p keys least a → Chosen m n g k p keys least a
-  chosen-all keys least a x = record {
-    size = x.size;
-    only-least = x.only-least;
-    as-good = λ t kt tm h. (t, kt, tm, record { has-least = h; stays = x.every-least t kt tm h }, next-same t);
+  pub left-all : (keys : List ℕ) (least : ℕ) → m ≤ 8 → Left m n g k p keys least (replicate 8 true)
+  left-all keys least m8 = record {
+    size = length-replicate 8 true;
+    as-good = λ t kt tm h. (t, kt, tm, record { has-least = h; stays = get_or-replicate 8 t true false (omega arith) }, next-same t);
   }
 
-  pub chosen-marks : (keys : List ℕ) (least : ℕ) (a b : List Bool) → MarksLeast k m p keys least a → Drops m n g k p a b → Chosen m n g k p keys least b
-  chosen-marks keys least a b x y = record {
+  pub left-marks : (keys : List ℕ) (least : ℕ) (a b : List Bool) → MarksLeast k m p keys least a → Drops m n g k p a b → Left m n g k p keys least b
+  left-marks keys least a b x y = record {
     size = y.size;
-    only-least = λ t marked. x.only-least t (y.fewer t marked);
     as-good = λ t kt tm e.
         let u = y.as-good t kt tm (x.every-least t kt tm e) in
         (u.0, u.1, u.2, record { has-least = x.only-least u.0 (y.fewer u.0 u.3); stays = u.3 }, u.4);

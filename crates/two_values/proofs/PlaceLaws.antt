@@ -38,7 +38,7 @@ use Rattle.branches.proofs.LeadingRows.{leading-is}
 use Rattle.two_values.specs.declared.search.Found.{Found}
 use Rattle.two_values.specs.TwoValues.{places_after, key, column_order, sorted_rows}
 use Rattle.two_values.specs.Tables.{Below16, PowersFit, Refined, RowKeys}
-use Rattle.two_values.specs.Search.{Next, Marked, Chosen, Symmetries, CoveredRows, Spreads, Known, Follows, Lowest, Cuts, Lowers, Rekeyed, Standing, Alike, Outcome}
+use Rattle.two_values.specs.Search.{Next, Marked, Left, Symmetries, CoveredRows, Spreads, Known, Follows, Lowest, Cuts, Lowers, Rekeyed, Standing, Alike, Outcome}
 use Rattle.two_values.proofs.SortedRows.{order-permutation, sorted-decides, sorted-covered}
 use Rattle.two_values.proofs.RefinedLaws.{places-agree, places-are, refined-places}
 use Rattle.two_values.proofs.KeyLaws.{row-keys-are}
@@ -492,7 +492,7 @@ module _ (m n : ℕ) (g : List ℕ) (low : ℕ) (x y : List ℕ) (k : ℕ) (P : 
                 go true w = absurd (true≢false (sym nz' ∙ h.uncovered w (get_or p u 0)))
                 go false w = still w u ((h.started w).rows u ku um nz')
 
-  pub followed-all : (keys : List ℕ) → RowKeys x a keys → (picked : List Bool) (least t : ℕ) (new : Bool) (now : Found) (covered : List Bool) → m ≤ t → Lowest m k p keys least → Chosen m n g k p keys least picked →
+  pub followed-all : (keys : List ℕ) → RowKeys x a keys → (picked : List Bool) (least t : ℕ) (new : Bool) (now : Found) (covered : List Bool) → m ≤ t → Lowest m k p keys least → Left m n g k p keys least picked →
       Following m n g low k p fresh before keys picked least t new now covered → Outcome m n g low k p fresh before now
   unfolding Next
   followed-all keys rk picked least t new now covered mt low-is chosen h = go new refl
@@ -537,25 +537,23 @@ standing-row m n g low x y k P a fresh f s t tm row e = let w = at-whole 8 m (ro
 
 -- ---- the loop of `place`
 
-pub record Turn (m n : ℕ) (g : List ℕ) (low : ℕ) (x y : List ℕ) (k : ℕ) (P : RowPermutation) (a : List ℕ) (fresh : Bool) (least : ℕ) (picked : List Bool) (start : Found) (t : ℕ) (new : Bool) (now : Found)
+pub record Turn (m n : ℕ) (g : List ℕ) (low : ℕ) (x y : List ℕ) (k : ℕ) (P : RowPermutation) (a : List ℕ) (fresh : Bool) (keys : List ℕ) (least : ℕ) (picked : List Bool) (start : Found) (t : ℕ) (new : Bool) (now : Found)
     (covered : List Bool) : Type 0 where
   pub before : Found
-  pub keys : List ℕ
   pub stands : Standing m n g low x y k P a fresh before
   pub within : k < m
   pub row-keys : RowKeys x a keys
   pub lowest : Lowest m k (row_numbers P) keys least
-  pub chosen : Chosen m n g k (row_numbers P) keys least picked
+  pub chosen : Left m n g k (row_numbers P) keys least picked
   pub same-best : before.best ≡ start.best
   pub following : Following m n g low k (row_numbers P) fresh before keys picked least t new now covered
 
-module _ (m n : ℕ) (g : List ℕ) (low : ℕ) (x y : List ℕ) (k : ℕ) (P : RowPermutation) (a : List ℕ) (fresh : Bool) (least : ℕ) (picked : List Bool) where
-  pub turn-first : (keys : List ℕ) (before start : Found) (known : ℕ) (b new : Bool) (covered : List Bool) → Standing m n g low x y k P a fresh before → k < m → RowKeys x a keys → Lowest m k (row_numbers P) keys least →
-      Chosen m n g k (row_numbers P) keys least picked → known ≡ get_or before.keys k 0 → Cuts fresh known least b → b ≡ false → Lowers fresh known least new → Rekeyed m k least before start → length covered ≡ 8 →
-      ((r : ℕ) → get_or covered r false ≡ false) → Turn m n g low x y k P a fresh least picked start k new start covered
-  turn-first keys before start known b new covered s km rk l c e cuts y lowers rk' size zero = record {
+module _ (m n : ℕ) (g : List ℕ) (low : ℕ) (x y : List ℕ) (k : ℕ) (P : RowPermutation) (a : List ℕ) (fresh : Bool) (keys : List ℕ) (least : ℕ) (picked : List Bool) where
+  pub turn-first : (before start : Found) (known : ℕ) (b new : Bool) (covered : List Bool) → Standing m n g low x y k P a fresh before → k < m → RowKeys x a keys → Lowest m k (row_numbers P) keys least →
+      Left m n g k (row_numbers P) keys least picked → known ≡ get_or before.keys k 0 → Cuts fresh known least b → b ≡ false → Lowers fresh known least new → Rekeyed m k least before start → length covered ≡ 8 →
+      ((r : ℕ) → get_or covered r false ≡ false) → Turn m n g low x y k P a fresh keys least picked start k new start covered
+  turn-first before start known b new covered s km rk l c e cuts y lowers rk' size zero = record {
     before = before;
-    keys = keys;
     stands = s;
     within = km;
     row-keys = rk;
@@ -565,13 +563,12 @@ module _ (m n : ℕ) (g : List ℕ) (low : ℕ) (x y : List ℕ) (k : ℕ) (P : 
     following = following-first m n g low x _ k P a fresh before s km keys rk picked least known b new start covered e cuts y lowers rk' size zero;
   }
 
-  module _ (start : Found) (t : ℕ) (new : Bool) (now : Found) (covered : List Bool) (tm : t < m) (h : Turn m n g low x y k P a fresh least picked start t new now covered) where
+  module _ (start : Found) (t : ℕ) (new : Bool) (now : Found) (covered : List Bool) (tm : t < m) (h : Turn m n g low x y k P a fresh keys least picked start t new now covered) where
     -- the next turn, from what holds before it
-    turned : (t' : ℕ) (new' : Bool) (now' : Found) (covered' : List Bool) → Following m n g low k (row_numbers P) fresh h.before h.keys picked least t' new' now' covered' →
-        Turn m n g low x y k P a fresh least picked start t' new' now' covered'
+    turned : (t' : ℕ) (new' : Bool) (now' : Found) (covered' : List Bool) → Following m n g low k (row_numbers P) fresh h.before keys picked least t' new' now' covered' →
+        Turn m n g low x y k P a fresh keys least picked start t' new' now' covered'
     turned t' new' now' covered' f = record {
       before = h.before;
-      keys = h.keys;
       stands = h.stands;
       within = h.within;
       row-keys = h.row-keys;
@@ -581,34 +578,34 @@ module _ (m n : ℕ) (g : List ℕ) (low : ℕ) (x y : List ℕ) (k : ℕ) (P : 
       following = f;
     }
 
-    pub turn-skip : (row : ℕ) → row ≡ get_or (row_numbers P) t 0 → (get_or picked t false ≡ true → get_or covered row false ≡ true) → Turn m n g low x y k P a fresh least picked start (t + 1) new now covered
+    pub turn-skip : (row : ℕ) → row ≡ get_or (row_numbers P) t 0 → (Marked (row_numbers P) keys least picked t → get_or covered row false ≡ true) → Turn m n g low x y k P a fresh keys least picked start (t + 1) new now covered
     turn-skip row e passed =
         turned (t + 1) new now covered
-        (following-skip m n g low x y k P a fresh h.before h.stands h.within h.keys picked least t new now covered tm h.following (λ w. rw (← e) (passed w.stays)))
+        (following-skip m n g low x y k P a fresh h.before h.stands h.within keys picked least t new now covered tm h.following (λ w. rw (← e) (passed w)))
 
-    module _ (row : ℕ) (e : row ≡ get_or (row_numbers P) t 0) (is-picked : get_or picked t false ≡ true) (Q : RowPermutation) (lists : ListsRows (swapped (row_numbers P) k t) P.size Q) where
-      marked : Marked (row_numbers P) h.keys least picked t
-      marked = record { has-least = h.chosen.only-least t is-picked; stays = is-picked }
+    module _ (row : ℕ) (e : row ≡ get_or (row_numbers P) t 0) (has-least : get_or keys row 0 ≡ least) (is-picked : get_or picked t false ≡ true) (Q : RowPermutation) (lists : ListsRows (swapped (row_numbers P) k t) P.size Q) where
+      marked : Marked (row_numbers P) keys least picked t
+      marked = record { has-least = rw (← e) has-least; stays = is-picked }
 
       pub turn-stands : (c : List ℕ) → Refined y row a c → Standing m n g low x y (k + 1) Q c new now
       turn-stands c r =
           rw add-one
-          (followed-stands m n g low x y k P a fresh h.before h.stands h.within h.keys picked least t new now covered tm h.following h.row-keys marked Q lists row e c r)
+          (followed-stands m n g low x y k P a fresh h.before h.stands h.within keys picked least t new now covered tm h.following h.row-keys marked Q lists row e c r)
 
       pub turn-back : (out : Found) → Outcome m n g low (k + 1) (row_numbers Q) new now out → out.back < k → (old : Found) → start.best ≡ old.best → Outcome m n g low k (row_numbers P) fresh old out
       turn-back out o l old same =
           outcome-for m n g low k (row_numbers P) fresh h.before old out (h.same-best ∙ same)
-          (followed-back m n g low x y k P a fresh h.before h.stands h.within h.keys picked least t new now covered tm h.following h.row-keys marked Q lists out o l)
+          (followed-back m n g low x y k P a fresh h.before h.stands h.within keys picked least t new now covered tm h.following h.row-keys marked Q lists out o l)
 
       pub turn-next : (out : Found) → Outcome m n g low (k + 1) (row_numbers Q) new now out → (out.back < k → ⊥) → (covered' : List Bool) → Spreads m n g k (row_numbers P) (set covered row true) covered' →
-          Turn m n g low x y k P a fresh least picked start (t + 1) false out covered'
+          Turn m n g low x y k P a fresh keys least picked start (t + 1) false out covered'
       turn-next out o l covered' spread =
           turned (t + 1) false out covered'
-          (following-next m n g low x y k P a fresh h.before h.stands h.within h.keys picked least t new now covered tm h.following h.row-keys marked Q lists out o row e covered' spread
+          (following-next m n g low x y k P a fresh h.before h.stands h.within keys picked least t new now covered tm h.following h.row-keys marked Q lists out o row e covered' spread
           (omega arith))
 
-  pub turn-all : (start : Found) (t : ℕ) (new : Bool) (now : Found) (covered : List Bool) → m ≤ t → Turn m n g low x y k P a fresh least picked start t new now covered → (old : Found) → start.best ≡ old.best →
+  pub turn-all : (start : Found) (t : ℕ) (new : Bool) (now : Found) (covered : List Bool) → m ≤ t → Turn m n g low x y k P a fresh keys least picked start t new now covered → (old : Found) → start.best ≡ old.best →
       Outcome m n g low k (row_numbers P) fresh old now
   turn-all start t new now covered mt h old same =
       outcome-for m n g low k (row_numbers P) fresh h.before old now (h.same-best ∙ same)
-      (followed-all m n g low x y k P a fresh h.before h.stands h.within h.keys h.row-keys picked least t new now covered mt h.lowest h.chosen h.following)
+      (followed-all m n g low x y k P a fresh h.before h.stands h.within keys h.row-keys picked least t new now covered mt h.lowest h.chosen h.following)

@@ -5,8 +5,8 @@
 --   PlacesBy k n g p a   ==  a holds how many columns come after each, by the first k rows of the order p
 --   Next m n g k p s t   ==  what covers placing the row at position s of p next, after the first k rows, covers placing the row at t
 --   Drops m n g k p a b  ==  b marks positions of p that a marks, and for each that a marks one whose branch is as good
---   Marked p keys least b t  ==  the row at position t of p has the least number, and b chooses the position
---   Chosen m n g k p keys least b  ==  b chooses only positions whose rows have the least number, and for each such position of p from k on one whose branch is as good
+--   Marked p keys least b t  ==  the row at position t of p has the least number, and b leaves the position
+--   Left m n g k p keys least b  ==  for each position of p from k on with the least number there is one that b leaves, whose branch is as good
 --   IsSymmetry m n g f   ==  the map f of row numbers carries a row order to another with the same arrangement
 --   Symmetries m n g l count  ==  l holds `count` of them, eight numbers each
 --   CoveredRows m n g k p r l  ==  of the rows that l marks, each branch with one of them placed next is covered by r
@@ -48,9 +48,8 @@ pub record Marked (p keys : List ℕ) (least : ℕ) (b : List Bool) (t : ℕ) : 
   pub has-least : get_or keys (get_or p t 0) 0 ≡ least
   pub stays : get_or b t false ≡ true
 
-pub record Chosen (m n : ℕ) (g : List ℕ) (k : ℕ) (p keys : List ℕ) (least : ℕ) (b : List Bool) : Type 0 where
+pub record Left (m n : ℕ) (g : List ℕ) (k : ℕ) (p keys : List ℕ) (least : ℕ) (b : List Bool) : Type 0 where
   pub size : length b ≡ 8
-  pub only-least : (t : ℕ) → get_or b t false ≡ true → get_or keys (get_or p t 0) 0 ≡ least
   pub as-good : (t : ℕ) → k ≤ t → t < m → get_or keys (get_or p t 0) 0 ≡ least → (s : ℕ) × (k ≤ s) × (s < m) × Marked p keys least b s × Next m n g k p s t
 
 pub record IsSymmetry (m n : ℕ) (g : List ℕ) (f : ℕ → ℕ) : Type 0 where

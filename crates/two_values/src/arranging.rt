@@ -58,7 +58,7 @@ fn searched(grid: &TwoValuedGrid) -> Arranged
         symmetries: [0; 32],
         kept: 0,
     };
-    let found = search::place(grid, root, start);
+    let found = search::place(grid, &root, start);
     Arranged {
         rows: found.best,
         columns: columns::sorted(found.after, grid.n),

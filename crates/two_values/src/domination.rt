@@ -1,7 +1,7 @@
 // Rows that need not be placed next, since another row can be that gives no later arrangement.
 ghost use Rattle.std.specs.Prelude.{◌≡◌, ◌≤◌, ◌<◌, length};
 ghost use Rattle.permutations.specs.Rows.{row_numbers, IsRowPermutation};
-ghost use Rattle.two_values.specs.Search.{PlacesBy, Drops, Chosen};
+ghost use Rattle.two_values.specs.Search.{PlacesBy, Drops, Left};
 ghost use Rattle.two_values.specs.Domination.{Loses, MarksLeast};
 
 use crate::contests::Contest;
@@ -67,21 +67,18 @@ fn marked(m: usize, k: usize, rows: RowPermutation, keys: [u16; 8], least: u16) 
     out
 }
 
-// Which of the positions from k on whose rows have the least key are chosen: for each that is not, another such row dominates it. All of
-// them are where only one row has the least key, or where symmetries are kept, which tell more.
-pub fn chosen(
-    grid: &TwoValuedGrid,
-    node: &Node,
-    keys: [u16; 8],
-    least: u16,
-    kept: usize,
-) -> [bool; 8]
+// The positions whose rows may have to be placed next: of the rows with the least key, only those that no other dominates. All are left where
+// only one row has the least key, or where symmetries are kept, which tell more.
+pub fn left(grid: &TwoValuedGrid, node: &Node, keys: [u16; 8], least: u16, kept: usize) -> [bool; 8]
     requires { IsRowPermutation grid.now.m node.now.rows × (node.now.k < grid.now.m) × PlacesBy node.now.k grid.now.n grid.now.cells.now (row_numbers node.now.rows) node.now.after }
-    ensures { Chosen grid.now.m grid.now.n grid.now.cells.now node.now.k (row_numbers node.now.rows) keys least result }
+    ensures { Left grid.now.m grid.now.n grid.now.cells.now node.now.k (row_numbers node.now.rows) keys least result }
 {
+    if kept != 0 {
+        return [true; 8];
+    }
     let marks = marked(grid.m, node.k, node.rows, keys, least);
-    if kept != 0 || marks.iter().filter(|mark| **mark).count() < 2 {
-        return marks;
+    if marks.iter().filter(|mark| **mark).count() < 2 {
+        return [true; 8];
     }
     Contest::new(grid, node).all_dropped(marks)
 }

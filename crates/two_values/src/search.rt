@@ -73,9 +73,9 @@ pub fn rekeyed(found: Found, m: usize, k: usize, least: u16) -> Found
 }
 
 // What the search finds where all rows are placed: a new best, or a symmetry of the grid.
-pub fn reached(grid: &TwoValuedGrid, node: Node, found: Found) -> Found
-    requires { Stands grid.now node found × (node.k ≡ grid.now.m) }
-    ensures { Finds grid.now node found result }
+pub fn reached(grid: &TwoValuedGrid, node: &Node, found: Found) -> Found
+    requires { Stands grid.now node.now found × (node.now.k ≡ grid.now.m) }
+    ensures { Finds grid.now node.now found result }
 {
     let after = node.after;
     if node.fresh {
@@ -108,48 +108,44 @@ pub fn reached(grid: &TwoValuedGrid, node: Node, found: Found) -> Found
 
 // The best of the branch of a node, and of what was the best before. Where an arrangement equals the best one, the two row orders show a
 // symmetry of the grid, and the search goes back to where they part.
-pub fn place(grid: &TwoValuedGrid, node: Node, found: Found) -> Found
-    requires { Stands grid.now node found }
-    ensures { Finds grid.now node found result }
+pub fn place(grid: &TwoValuedGrid, node: &Node, found: Found) -> Found
+    requires { Stands grid.now node.now found }
+    ensures { Finds grid.now node.now found result }
 {
-    let Node {
-        k,
-        rows,
-        after,
-        fresh,
-    } = node;
     let m = grid.m;
+    let k = node.k;
     if k == m {
         return reached(grid, node, found);
     }
-    let keys = columns::row_keys(&grid.columns, after);
-    if settled::tells_all(m, grid.n, k, after) {
+    let keys = columns::row_keys(&grid.columns, &node.after);
+    if settled::tells_all(m, grid.n, k, &node.after) {
         return settled::completed(grid, node, found, keys);
     }
-    let least = lowest(keys, rows, m, k);
+    let least = lowest(keys, node.rows, m, k);
     let known = found.keys[k];
-    if is_cut(fresh, known, least) {
+    if is_cut(node.fresh, known, least) {
         return rekeyed(found, m, k, known);
     }
-    let chosen = domination::chosen(grid, &node, keys, least, found.kept);
+    let left = domination::left(grid, node, keys, least, found.kept);
     let mut now = rekeyed(found, m, k, least);
-    let mut new = is_lower(fresh, known, least);
+    let mut fresh = is_lower(node.fresh, known, least);
     let mut covered = [false; 8];
     for t in k..m {
-        let row = rows.row(t);
-        if chosen[t] && !covered[row.0 as usize] {
+        let row = node.rows.row(t);
+        let at = row.0 as usize;
+        if keys[at] == least && left[t] && !covered[at] {
             let next = Node {
                 k: k + 1,
-                rows: rows.swapped(k, t),
-                after: columns::refined(&grid.rows, row, after),
-                fresh: new,
+                rows: node.rows.swapped(k, t),
+                after: columns::refined(&grid.rows, row, &node.after),
+                fresh,
             };
-            now = place(grid, next, now);
+            now = place(grid, &next, now);
             if now.back < k {
                 return now;
             }
-            new = false;
-            covered = symmetries::covered_with(grid, &node, &now, covered, row);
+            fresh = false;
+            covered = symmetries::covered_with(grid, node, &now, covered, row);
         }
     }
     now

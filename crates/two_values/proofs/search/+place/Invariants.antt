@@ -6,9 +6,9 @@ use Rattle.two_values.proofs.PlaceLaws.{Turn}
 use Rattle.two_values.proofs.search.+place.Given as goal
 
 abbrev pub decreases-place : goal.decreases-place
-decreases-place l = l.grid.now.m - l.node.k
+decreases-place l = l.grid.now.m - l.node.now.k
 
 abbrev pub invariant-loop-t : goal.invariant-loop-t
 invariant-loop-t l =
     (length l.covered ≡ 8)
-    × Turn l.grid.m l.grid.n l.grid.cells.now l.grid.low l.grid.columns l.grid.rows l.k l.rows l.after l.fresh l.least l.chosen l.initial.now l.t l.new l.now l.covered
+    × Turn l.grid.m l.grid.n l.grid.cells.now l.grid.low l.grid.columns l.grid.rows l.node.k l.node.rows l.node.after l.node.fresh l.keys l.least l.left l.initial.now l.t l.fresh l.now l.covered
