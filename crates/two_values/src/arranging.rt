@@ -50,7 +50,7 @@ fn searched(grid: &TwoValuedGrid) -> Arranged
         after,
         fresh: true,
     };
-    let start = Found {
+    let mut found = Found {
         best: rows,
         after,
         keys: [0; 8],
@@ -58,7 +58,7 @@ fn searched(grid: &TwoValuedGrid) -> Arranged
         symmetries: [0; 32],
         kept: 0,
     };
-    let found = search::place(grid, &root, start);
+    search::place(grid, &root, &mut found);
     Arranged {
         rows: found.best,
         columns: columns::sorted(found.after, grid.n),

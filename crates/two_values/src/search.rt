@@ -23,6 +23,17 @@ pub struct Found {
     pub kept: usize,
 }
 
+impl Found {
+    // Notes the number of row k.
+    pub fn rekey(&mut self, m: usize, k: usize, least: u16)
+        requires { k < 8 }
+        ensures { Rekeyed m k least self.old self.new }
+    {
+        self.keys[k] = least;
+        self.back = m;
+    }
+}
+
 // The least number of the rows from position k on.
 fn lowest(keys: [u16; 8], rows: RowPermutation, m: usize, k: usize) -> u16
     requires { IsRowPermutation m rows × (m ≤ 8) × (k < m) }
@@ -61,73 +72,51 @@ pub fn is_lower(fresh: bool, known: u16, least: u16) -> bool
     fresh || least < known
 }
 
-// What was found, with the number of row k.
-pub fn rekeyed(found: Found, m: usize, k: usize, least: u16) -> Found
-    requires { k < 8 }
-    ensures { Rekeyed m k least found result }
-{
-    let mut out = found;
-    out.keys[k] = least;
-    out.back = m;
-    out
-}
-
 // What the search finds where all rows are placed: a new best, or a symmetry of the grid.
-pub fn reached(grid: &TwoValuedGrid, node: &Node, found: Found) -> Found
-    requires { Stands grid.now node.now found × (node.now.k ≡ grid.now.m) }
-    ensures { Finds grid.now node.now found result }
+pub fn reached(grid: &TwoValuedGrid, node: &Node, found: &mut Found)
+    requires { Stands grid.now node.now found.old × (node.now.k ≡ grid.now.m) }
+    ensures { Finds grid.now node.now found.old found.new }
 {
-    let after = node.after;
     if node.fresh {
-        return Found {
-            best: node.rows,
-            after,
-            back: grid.m,
-            ..found
-        };
+        let after = node.after;
+        found.best = node.rows;
+        found.after = after;
+        found.back = grid.m;
+        return;
     }
-    let back = common(node.rows, found.best, grid.m);
+    found.back = common(node.rows, found.best, grid.m);
     if found.kept < 4 {
-        let symmetries = symmetries::with_symmetry(
-            grid,
-            found.symmetries,
-            found.kept,
-            found.best,
-            node.rows,
-        );
-        Found {
-            back,
-            symmetries,
-            kept: found.kept + 1,
-            ..found
-        }
-    } else {
-        Found { back, ..found }
+        let more = symmetries::with_symmetry(grid, found, node.rows);
+        found.symmetries = more;
+        found.kept += 1;
     }
 }
 
 // The best of the branch of a node, and of what was the best before. Where an arrangement equals the best one, the two row orders show a
 // symmetry of the grid, and the search goes back to where they part.
-pub fn place(grid: &TwoValuedGrid, node: &Node, found: Found) -> Found
-    requires { Stands grid.now node.now found }
-    ensures { Finds grid.now node.now found result }
+pub fn place(grid: &TwoValuedGrid, node: &Node, found: &mut Found)
+    requires { Stands grid.now node.now found.old }
+    ensures { Finds grid.now node.now found.old found.new }
 {
     let m = grid.m;
     let k = node.k;
     if k == m {
-        return reached(grid, node, found);
+        reached(grid, node, found);
+        return;
     }
     let keys = columns::row_keys(&grid.columns, &node.after);
     if settled::tells_all(m, grid.n, k, &node.after) {
-        return settled::completed(grid, node, found, keys);
+        settled::completed(grid, node, keys, found);
+        return;
     }
     let least = lowest(keys, node.rows, m, k);
     let known = found.keys[k];
     if is_cut(node.fresh, known, least) {
-        return rekeyed(found, m, k, known);
+        found.rekey(m, k, known);
+        return;
     }
     let left = domination::left(grid, node, keys, least, found.kept);
-    let mut now = rekeyed(found, m, k, least);
+    found.rekey(m, k, least);
     let mut fresh = is_lower(node.fresh, known, least);
     let mut covered = [false; 8];
     for t in k..m {
@@ -140,13 +129,12 @@ pub fn place(grid: &TwoValuedGrid, node: &Node, found: Found) -> Found
                 after: columns::refined(&grid.rows, row, &node.after),
                 fresh,
             };
-            now = place(grid, &next, now);
-            if now.back < k {
-                return now;
+            place(grid, &next, found);
+            if found.back < k {
+                return;
             }
             fresh = false;
-            covered = symmetries::covered_with(grid, node, &now, covered, row);
+            covered = symmetries::covered_with(grid, node, found, covered, row);
         }
     }
-    now
 }

@@ -10,22 +10,16 @@ use crate::search::Found;
 use crate::tables::TwoValuedGrid;
 use permutations::rows::{RowNumber, RowPermutation};
 
-// The symmetries with one more: that which carries the first row order to the second.
-pub fn with_symmetry(
-    grid: &TwoValuedGrid,
-    symmetries: [u8; 32],
-    kept: usize,
-    first: RowPermutation,
-    second: RowPermutation,
-) -> [u8; 32]
-    requires { (kept < 4) × Symmetries grid.now.m grid.now.n grid.now.cells.now symmetries kept × IsRowPermutation grid.now.m first × IsRowPermutation grid.now.m second × (sorted_rows grid.now.m grid.now.n grid.now.cells.now (row_numbers first) ≡ sorted_rows grid.now.m grid.now.n grid.now.cells.now (row_numbers second)) }
-    ensures { Symmetries grid.now.m grid.now.n grid.now.cells.now result (kept + 1) }
+// The symmetries found with one more: that which carries the best row order to another.
+pub fn with_symmetry(grid: &TwoValuedGrid, found: &Found, other: RowPermutation) -> [u8; 32]
+    requires { (found.now.kept < 4) × Symmetries grid.now.m grid.now.n grid.now.cells.now found.now.symmetries found.now.kept × IsRowPermutation grid.now.m found.now.best × IsRowPermutation grid.now.m other × (sorted_rows grid.now.m grid.now.n grid.now.cells.now (row_numbers found.now.best) ≡ sorted_rows grid.now.m grid.now.n grid.now.cells.now (row_numbers other)) }
+    ensures { Symmetries grid.now.m grid.now.n grid.now.cells.now result (found.now.kept + 1) }
 {
-    let mut out = symmetries;
+    let mut out = found.symmetries;
     for i in 0..grid.m {
-        let from = first.row(i);
-        let to = second.row(i);
-        out[kept * 8 + from.0 as usize] = to.0;
+        let from = found.best.row(i);
+        let to = other.row(i);
+        out[found.kept * 8 + from.0 as usize] = to.0;
     }
     out
 }

@@ -5,7 +5,7 @@ use Rattle.two_values.proofs.DominationLaws.{none-marked}
 use Rattle.two_values.proofs.PlaceLaws.{standing-small, standing-fits, standing-row, cut, turn-first, turn-skip, turn-stands, turn-back, turn-next, turn-all}
 use Rattle.two_values.proofs.PlaceSums.{sum-distinct}
 use Rattle.two_values.proofs.search.+place.Goals as goal
-use Rattle.two_values.proofs.search.+place.Goals.{then-keys-at+then-left-t+then-not-covered-at+else-now-k, else-keys-at, else-keys-at-via-then-keys-at+then-left-t+else-not-covered-at, else-keys-at-via-then-keys-at+else-left-t, else-keys-at-via-else-keys-at}
+use Rattle.two_values.proofs.search.+place.Goals.{then-keys-at+then-left-t+then-not-covered-at+else-found-k, else-keys-at, else-keys-at-via-then-keys-at+then-left-t+else-not-covered-at, else-keys-at-via-then-keys-at+else-left-t, else-keys-at-via-else-keys-at}
 
 pub row_keys-keys-requires : goal.row_keys-keys-requires
 row_keys-keys-requires t c = let s = c.requires in (s.tables.by-columns.bits, standing-small _ _ _ _ _ _ _ _ _ _ _ s, standing-fits _ _ _ _ _ _ _ _ _ _ _ s)
@@ -22,14 +22,14 @@ pub returns-then-is_cut : goal.returns-then-is_cut
 returns-then-is_cut t c =
     let s = c.requires in
     cut _ _ _ _ _ _ _ _ _ _ _ s (omega (arith, s.placed-fits, c.if-k-m.false)) _ c.row_keys-keys.ensures _ _ _ _ c.lowest-least.ensures refl
-    c.is_cut.ensures c.if-is_cut.true c.rekeyed.ensures
+    c.is_cut.ensures c.if-is_cut.true c.rekey.ensures
 
 pub loop-t-init : goal.loop-t-init
 loop-t-init t c =
     let s = c.requires in (
       refl,
       turn-first _ _ _ _ _ _ _ _ _ _ _ _ _ _ _ _ _ _ _ s (omega (arith, s.placed-fits, c.if-k-m.false)) c.row_keys-keys.ensures c.lowest-least.ensures c.left-left.ensures
-          refl c.is_cut.ensures c.if-is_cut.false c.is_lower-fresh.ensures c.rekeyed-now.ensures refl none-marked,
+          refl c.is_cut.ensures c.if-is_cut.false c.is_lower-fresh.ensures c.rekey-2.ensures refl none-marked,
     )
 
 pub refined-requires : goal.refined-requires
@@ -37,20 +37,20 @@ refined-requires t c =
     let h = c.loop-t.invariant.1 in
     (h.stands.tables.by_rows.bits, standing-row _ _ _ _ _ _ _ _ _ _ _ h.stands _ c.loop-t-test.true _ c.row-row.ensures, standing-small _ _ _ _ _ _ _ _ _ _ _ h.stands)
 
-pub place-now-requires : goal.place-now-requires
-place-now-requires t c =
+pub place-requires : goal.place-requires
+place-requires t c =
     let h = c.loop-t.invariant.1 in
     (omega (arith, c.decreases, h.within), turn-stands _ _ _ _ _ _ _ _ _ _ _ _ _ _ _ _ _ _ c.loop-t-test.true h _ c.row-row.ensures c.if-keys-at.true c.if-left-t.true _ c.swapped.ensures _ c.refined.ensures)
 
-pub returns-then-now-k : goal.returns-then-now-k
-returns-then-now-k t c =
+pub returns-then-found-k : goal.returns-then-found-k
+returns-then-found-k t c =
     turn-back _ _ _ _ _ _ _ _ _ _ _ _ _ _ _ _ _ _ c.loop-t-test.true c.loop-t.invariant.1 _ c.row-row.ensures c.if-keys-at.true c.if-left-t.true _ c.swapped.ensures _
-    c.place-now.ensures c.if-now-k.true _ c.rekeyed-now.ensures.best
+    c.place.ensures c.if-found-k.true _ c.rekey-2.ensures.best
 
 pub covered_with-covered-requires : goal.covered_with-covered-requires
 covered_with-covered-requires t c =
     let h = c.loop-t.invariant.1 in
-    (h.within, h.stands.rows, c.place-now.ensures.symmetries, standing-row _ _ _ _ _ _ _ _ _ _ _ h.stands _ c.loop-t-test.true _ c.row-row.ensures)
+    (h.within, h.stands.rows, c.place.ensures.symmetries, standing-row _ _ _ _ _ _ _ _ _ _ _ h.stands _ c.loop-t-test.true _ c.row-row.ensures)
 
 pub loop-t-preserved : goal.loop-t-preserved
 loop-t-preserved t c =
@@ -59,13 +59,13 @@ loop-t-preserved t c =
     let row = c.row-row.ensures in
     let h = l.invariant.1 in
     elim c.if-keys-at.branch [
-      | then-keys-at+then-left-t+then-not-covered-at+else-now-k w ↦ (
+      | then-keys-at+then-left-t+then-not-covered-at+else-found-k w ↦ (
         rw w.covered-is w.covered_with-covered.ensures.size,
-        rw (w.now-is, w.fresh-is, w.covered-is) (turn-next _ _ _ _ _ _ _ _ _ _ _ _ _ _ _ _ _ _ tm h _ row w.if-keys-at.true w.if-left-t.true _ w.swapped.ensures _ w.place-now.ensures (λ z. omega (arith, w.if-now-k.false)) _ w.covered_with-covered.ensures),
+        rw (w.found-is, w.fresh-is, w.covered-is) (turn-next _ _ _ _ _ _ _ _ _ _ _ _ _ _ _ _ _ _ tm h _ row w.if-keys-at.true w.if-left-t.true _ w.swapped.ensures _ w.place.ensures (λ z. omega (arith, w.if-found-k.false)) _ w.covered_with-covered.ensures),
       )
       | else-keys-at w ↦ (
         rw w.covered-is l.invariant.0,
-        rw (w.now-is, w.fresh-is, w.covered-is) (turn-skip _ _ _ _ _ _ _ _ _ _ _ _ _ _ _ _ _ _ tm h _ row (elim w.else-keys-at.branch [
+        rw (w.found-is, w.fresh-is, w.covered-is) (turn-skip _ _ _ _ _ _ _ _ _ _ _ _ _ _ _ _ _ _ tm h _ row (elim w.else-keys-at.branch [
           | else-keys-at-via-then-keys-at+then-left-t+else-not-covered-at v ↦ λ z. v.if-not-covered-at.false
           | else-keys-at-via-then-keys-at+else-left-t v ↦ λ z. absurd (true≢false (sym z.stays ∙ v.if-left-t.false))
           | else-keys-at-via-else-keys-at v ↦ λ z. absurd (v.if-keys-at.false (rw row z.has-least))
@@ -76,4 +76,4 @@ loop-t-preserved t c =
 pub returns : goal.returns
 returns t c =
     let l = c.loop-t in
-    turn-all _ _ _ _ _ _ _ _ _ _ _ _ _ _ l.t _ _ _ c.loop-t-test.false l.invariant.1 _ c.rekeyed-now.ensures.best
+    turn-all _ _ _ _ _ _ _ _ _ _ _ _ _ _ l.t _ _ _ c.loop-t-test.false l.invariant.1 _ c.rekey-2.ensures.best

@@ -11,4 +11,4 @@ decreases-place l = l.grid.now.m - l.node.now.k
 abbrev pub invariant-loop-t : goal.invariant-loop-t
 invariant-loop-t l =
     (length l.covered ≡ 8)
-    × Turn l.grid.m l.grid.n l.grid.cells.now l.grid.low l.grid.columns l.grid.rows l.node.k l.node.rows l.node.after l.node.fresh l.keys l.least l.left l.initial.now l.t l.fresh l.now l.covered
+    × Turn l.grid.m l.grid.n l.grid.cells.now l.grid.low l.grid.columns l.grid.rows l.node.k l.node.rows l.node.after l.node.fresh l.keys l.least l.left l.initial.found l.t l.fresh l.found l.covered

@@ -8,8 +8,8 @@ returns-then-node c =
     let e = c.requires.1 in
     rw e (reached-new _ _ _ _ _ _ _ _ _ _ (rw e at c.requires.0) c.if-node.true _ refl refl refl refl refl refl)
 
-pub with_symmetry-symmetries-requires : goal.with_symmetry-symmetries-requires
-with_symmetry-symmetries-requires c =
+pub with_symmetry-more-requires : goal.with_symmetry-more-requires
+with_symmetry-more-requires c =
     let s = rw c.requires.1 at c.requires.0 in
     let f = s.follows c.if-node.false in
     (c.if-found-lt4.true, s.symmetries, f.known.rows, s.rows, f.leading)
@@ -17,10 +17,10 @@ with_symmetry-symmetries-requires c =
 pub returns-then-found-lt4 : goal.returns-then-found-lt4
 returns-then-found-lt4 c =
     let e = c.requires.1 in
-    rw e (reached-copy _ _ _ _ _ _ _ _ _ _ (rw e at c.requires.0) c.if-node.false _ refl refl refl c.common-back.ensures c.with_symmetry-symmetries.ensures)
+    rw e (reached-copy _ _ _ _ _ _ _ _ _ _ (rw e at c.requires.0) c.if-node.false _ refl refl refl c.common-found.ensures c.with_symmetry-more.ensures)
 
 pub returns-else-found-lt4 : goal.returns-else-found-lt4
 returns-else-found-lt4 c =
     let e = c.requires.1 in
     let s = rw e at c.requires.0 in
-    rw e (reached-copy _ _ _ _ _ _ _ _ _ _ s c.if-node.false _ refl refl refl c.common-back.ensures s.symmetries)
+    rw e (reached-copy _ _ _ _ _ _ _ _ _ _ s c.if-node.false _ refl refl refl c.common-found.ensures s.symmetries)

@@ -6,8 +6,8 @@ use Rattle.two_values.proofs.symmetries.with_symmetry.Goals as goal
 pub loop-i-init : goal.loop-i-init
 loop-i-init c = carrying-none _ _ _ _ (omega arith)
 
-pub bounds-out-kept : goal.bounds-out-kept
-bounds-out-kept c =
+pub bounds-out-found : goal.bounds-out-found
+bounds-out-found c =
     let z = c.requires in
     omega (arith, row_below _ _ _ _ z.2 c.args.grid.now.tables.rows_fit (omega arith) c.row-from.ensures)
 
