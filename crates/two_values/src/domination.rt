@@ -67,18 +67,28 @@ fn marked(m: usize, k: usize, rows: RowPermutation, keys: [u16; 8], least: u16) 
     out
 }
 
+// How many positions from k on have a row with the least key.
+fn count_least(m: usize, k: usize, rows: RowPermutation, keys: [u16; 8], least: u16) -> usize
+    requires { IsRowPermutation m rows × (m ≤ 8) }
+{
+    let mut count = 0;
+    for t in k..m {
+        if keys[rows.row(t).0 as usize] == least {
+            count += 1;
+        }
+    }
+    count
+}
+
 // The positions whose rows may have to be placed next: of the rows with the least key, only those that no other dominates. All are left where
 // only one row has the least key, or where symmetries are kept, which tell more.
 pub fn left(grid: &TwoValuedGrid, node: &Node, keys: [u16; 8], least: u16, kept: usize) -> [bool; 8]
     requires { IsRowPermutation grid.now.m node.now.rows × (node.now.k < grid.now.m) × PlacesBy node.now.k grid.now.n grid.now.cells.now (row_numbers node.now.rows) node.now.after }
     ensures { Left grid.now.m grid.now.n grid.now.cells.now node.now.k (row_numbers node.now.rows) keys least result }
 {
-    if kept != 0 {
+    if kept != 0 || count_least(grid.m, node.k, node.rows, keys, least) < 2 {
         return [true; 8];
     }
     let marks = marked(grid.m, node.k, node.rows, keys, least);
-    if marks.iter().filter(|mark| **mark).count() < 2 {
-        return [true; 8];
-    }
     Contest::new(grid, node).all_dropped(marks)
 }

@@ -5,8 +5,5 @@ use Rattle.two_values.proofs.domination.left.Goals as goal
 pub returns-then-kept-ne0 : goal.returns-then-kept-ne0
 returns-then-kept-ne0 c = left-all _ _ _ _ _ _ _ c.args.grid.now.tables.rows_fit
 
-pub returns-then-count-lt2 : goal.returns-then-count-lt2
-returns-then-count-lt2 c = left-all _ _ _ _ _ _ _ c.args.grid.now.tables.rows_fit
-
 pub returns : goal.returns
 returns c = left-marks _ _ _ _ _ _ _ _ _ c.marked-marks.ensures (rw (c.new.ensures.0, c.new.ensures.1) at c.all_dropped.ensures)
