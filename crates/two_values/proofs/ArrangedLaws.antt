@@ -28,8 +28,8 @@ use Rattle.grids.proofs.LeastLaws.{is-least}
 use Rattle.branches.proofs.LeadingRows.{leading-is}
 use Rattle.branches.proofs.BranchLaws.{covers-least}
 use Rattle.two_values.specs.declared.search.Found.{Found}
-use Rattle.two_values.specs.TwoValues.{TwoValued, places_after, sorted_rows}
-use Rattle.two_values.specs.Tables.{ByColumns, ByRows, SortsBy}
+use Rattle.two_values.specs.TwoValues.{places_after, sorted_rows}
+use Rattle.two_values.specs.Tables.{Tables, SortsBy}
 use Rattle.two_values.specs.Search.{PlacesBy, Standing, Outcome}
 use Rattle.two_values.specs.Arranged.{first_place, FirstPlaces}
 use Rattle.two_values.proofs.SortedRows.{sorted-any}
@@ -50,12 +50,12 @@ places-first n g p a h = record { size = h.size; holds = λ c c16. h.holds c c16
     go c (yes l) = first-inside n c l ∙ sym ((places-start n g p c).0 l)
     go c (no l) = first_past n c (omega arith) ∙ sym ((places-start n g p c).1 (omega arith))
 
-pub starting : (m n : ℕ) (g : List ℕ) (low : ℕ) (x y : List ℕ) (P : RowPermutation) (a : List ℕ) (f : Found) → m ≤ 8 → n ≤ 16 → length g ≡ m * n → TwoValued g low → ByColumns m n g low x → ByRows m n g low y →
-    Lists (identity 8) m P → FirstPlaces n a → length f.keys ≡ 8 → length f.symmetries ≡ 32 → f.kept ≡ 0 → Standing m n g low x y 0 P a true f
-starting m n g low x y P a f m8 n16 size two bx by lists first keys symmetries kept = record {
-  tables = record { rows_fit = m8; columns-fit = n16; size = size; two = two; by-columns = bx; by_rows = by };
+pub starting : (m n : ℕ) (g : List ℕ) (low : ℕ) (x y : List ℕ) (P : RowPermutation) (a : List ℕ) (f : Found) → Tables m n g low x y →
+    ListsRows (identity 8) m P → FirstPlaces n a → length f.keys ≡ 8 → length f.symmetries ≡ 32 → f.kept ≡ 0 → Standing m n g low x y 0 P a true f
+starting m n g low x y P a f tables lists first keys symmetries kept = record {
+  tables = tables;
   placed-fits = omega arith;
-  rows = record { whole = rw lists.numbers (identity-whole 8 m m8); size = lists.size };
+  rows = record { whole = rw lists.numbers (identity-whole 8 m tables.rows_fit); size = lists.size };
   places = places-first n g (row_numbers P) a first;
   keys-size = keys;
   keys = λ i h. absurd (not-suc-le-zero h);

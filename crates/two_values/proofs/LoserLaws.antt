@@ -4,6 +4,8 @@
 --   drops-loser  ==  its mark goes, and a marked row is as good
 use mathlib.Core.Path.{◌≡◌, refl}
 use mathlib.Core.List.{List}
+use mathlib.Core.Bool.{Bool, true, false}
+use Rattle.std.proofs.Common.{None, Some}
 use mathlib.Core.Logic.{◌⊎◌, inl, inr}
 use Prim.Native.Nat.{ℕ, ◌≤◌, ◌<◌}
 use native.Mathlib.Omega.{arith}
@@ -15,28 +17,31 @@ use Rattle.two_values.specs.Domination.{Over, Prepared, Loses}
 use Rattle.two_values.proofs.DominationLaws.{drops-one}
 use Rattle.two_values.proofs.OverLaws.{over-next}
 
-module _ (y u v a : List ℕ) (n : ℕ) (p : List ℕ) (first second s t : ℕ) where
-  pub loses-none : Loses y u v a n p first second s t 8
-  loses-none = record { marked = λ h. absurd (omega arith); over = λ h. absurd (omega arith) }
+module _ (y u v a : List ℕ) (n : ℕ) (p : List ℕ) (b : List Bool) (s t : ℕ) where
+  pub loses-none : Loses y u v a n p b s t None
+  loses-none = record { marked = λ j e. absurd (cc); over = λ j e. absurd (cc) }
 
-  module _ (r q : ℕ) (er : r ≡ get_or p s 0) (eq : q ≡ get_or p t 0) (marked : first ≡ 0 → ⊥) (other : second ≡ 0 → ⊥) where
-    pub loses-second : Over y u v a n r q → Loses y u v a n p first second s t t
-    loses-second over = record { marked = λ h. (marked, other); over = λ h. inl (refl, rw (← er, ← eq) over) }
+  module _ (r q : ℕ) (er : r ≡ get_or p s 0) (eq : q ≡ get_or p t 0) (marked : get_or b s false ≡ true) (other : get_or b t false ≡ true) where
+    pub loses-second : Over y u v a n r q → Loses y u v a n p b s t (Some t)
+    loses-second over = record { marked = λ j e. (marked, other); over = λ j e. inl (cc, rw (← er, ← eq) over) }
 
-    pub loses-first : Over y u v a n q r → Loses y u v a n p first second s t s
-    loses-first over = record { marked = λ h. (marked, other); over = λ h. inr (refl, rw (← er, ← eq) over) }
+    pub loses-first : Over y u v a n q r → Loses y u v a n p b s t (Some s)
+    loses-first over = record { marked = λ j e. (marked, other); over = λ j e. inr (cc, rw (← er, ← eq) over) }
 
-pub drops-loser : (m n : ℕ) (g : List ℕ) (low : ℕ) (x y : List ℕ) (k : ℕ) (p : RowPermutation) (a u v : List ℕ) → Prepared m n g low x y k p a u v → (b : List ℕ) → length b ≡ 8 → (s t i : ℕ) → k ≤ s →
-    s < t → t < m → i < 8 → Loses y u v a n (row_numbers p) (get_or b s 0) (get_or b t 0) s t i → Drops m n g k (row_numbers p) b (set b i 0)
-drops-loser m n g low x y k p a u v h b size s t i ks st tm i8 loses = go (loses.over i8)
+pub drops-loser : (m n : ℕ) (g : List ℕ) (low : ℕ) (x y : List ℕ) (k : ℕ) (p : RowPermutation) (a u v : List ℕ) → Prepared m n g low x y k p a u v → (b : List Bool) → length b ≡ 8 → (s t i : ℕ) → k ≤ s →
+    s < t → t < m → Loses y u v a n (row_numbers p) b s t (Some i) → Drops m n g k (row_numbers p) b (set b i false)
+drops-loser m n g low x y k p a u v h b size s t i ks st tm loses = go (loses.over i refl)
   where
+    m8 : m ≤ 8
+    m8 = h.tables.rows_fit
+
     go : ((i ≡ t) × Over y u v a n (get_or (row_numbers p) s 0) (get_or (row_numbers p) t 0)) ⊎ ((i ≡ s) × Over y u v a n (get_or (row_numbers p) t 0) (get_or (row_numbers p) s 0)) →
-        Drops m n g k (row_numbers p) b (set b i 0)
+        Drops m n g k (row_numbers p) b (set b i false)
     go (inl w) =
         rw w.0
-        (drops-one m n g k (row_numbers p) b s t size (omega (arith, w.0)) (λ e. absurd (omega arith)) ks (omega arith) (loses.marked i8).0
+        (drops-one m n g k (row_numbers p) b s t size (omega (arith, m8)) (λ e. absurd (omega arith)) ks (omega arith) (loses.marked i refl).0
         (over-next m n g low x y k p a u v h s t ks (omega arith) (omega arith) tm w.1))
     go (inr w) =
         rw w.0
-        (drops-one m n g k (row_numbers p) b t s size (omega (arith, w.0)) (λ e. absurd (omega arith)) (omega arith) tm (loses.marked i8).1
+        (drops-one m n g k (row_numbers p) b t s size (omega (arith, m8)) (λ e. absurd (omega arith)) (omega arith) tm (loses.marked i refl).1
         (over-next m n g low x y k p a u v h t s (omega arith) tm ks (omega arith) w.1))

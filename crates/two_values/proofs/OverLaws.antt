@@ -22,9 +22,8 @@ use Rattle.grids.proofs.OrderLaws.{≼-antisymm, ≼-dec}
 use Rattle.branches.specs.Branches.{Dominates}
 use Rattle.branches.proofs.DominatedRows.{covers-dominated}
 use Rattle.two_values.specs.TwoValues.{places_after, column_order}
-use Rattle.two_values.specs.Tables.{Bits}
 use Rattle.two_values.specs.Search.{Next}
-use Rattle.two_values.specs.Words.{word, LowWords}
+use Rattle.two_values.specs.Words.{word}
 use Rattle.two_values.specs.Domination.{entry, Alone, Crossed, ByOne, ByTwo, Over, equal, by_one, by_two, Prepared}
 use Rattle.two_values.proofs.BitLaws.{cells-equal, cells-higher, cells-no-higher}
 use Rattle.two_values.proofs.WordLaws.{word-injective, word-exchanged, word-alone}
@@ -96,7 +95,6 @@ module _ (m n : ℕ) (g : List ℕ) (low : ℕ) (x y : List ℕ) (k : ℕ) (p : 
   digit r c = get_or x (c * 8 + r) 0
 
   digit-of : (r c : ℕ) → r < m → c < 16 → digit r c + entry y r c ≡ 1
-  unfolding Bits
   digit-of r c rm c16 =
       omega
       (arith, prepared.tables.by-columns.bits (c * 8 + r), prepared.tables.by-columns.holds r c rm c16, prepared.tables.by_rows.holds r c rm c16)
@@ -110,7 +108,6 @@ module _ (m n : ℕ) (g : List ℕ) (low : ℕ) (x y : List ℕ) (k : ℕ) (p : 
   module _ (s t : ℕ) (sm : s < m) (tm : t < m) where
     -- a pair of columns
     pair : (c d : ℕ) → c < n → d < n → Alone v a (row t) c d → Crossed y (row s) (row t) c d → Pair m n g y (row_numbers p) k t c d
-    unfolding LowWords Bits
     pair c d cn dn alone crossed = record {
       untold = cells-untold k n g (row_numbers p) c d cn dn
           (sym (prepared.places.holds c (column-less c cn)) ∙ alone.untold ∙ prepared.places.holds d (column-less d dn));

@@ -39,34 +39,34 @@ use Rattle.branches.proofs.LeadingRows.{leading-is}
 use Rattle.two_values.specs.declared.search.Found.{Found}
 use Rattle.two_values.specs.TwoValues.{places_after, key, column_order, sorted_rows}
 use Rattle.two_values.specs.Tables.{Below16, PowersFit, Refined, RowKeys}
-use Rattle.two_values.specs.Search.{Next, Marked, Chosen, Symmetries, CoveredRows, Spreads, Known, Follows, Lowest, Cuts, Lowers, Rekeyed, IsFollowed, Standing, Alike, Outcome}
+use Rattle.two_values.specs.Search.{Next, Marked, Left, Symmetries, CoveredRows, Spreads, Known, Follows, Lowest, Cuts, Lowers, Rekeyed, Standing, Alike, Outcome}
 use Rattle.two_values.proofs.SortedRows.{order-permutation, sorted-decides, sorted-covered}
 use Rattle.two_values.proofs.RefinedLaws.{places-agree, places-are, refined-places}
 use Rattle.two_values.proofs.KeyLaws.{row-keys-are}
 use Rattle.two_values.proofs.PlaceSums.{powers-fit}
 use Rattle.two_values.proofs.KeyedRows.{key-agree, key-lower, key-same, same_key, rows-fewer, rows-swapped}
 
-pub record Started (m n : ℕ) (g : List ℕ) (low k : ℕ) (p : List ℕ) (fresh : Bool) (before : Found) (keys dropped : List ℕ) (least t : ℕ) (now : Found) (covered : List ℕ) : Type 0 where
+pub record Started (m n : ℕ) (g : List ℕ) (low k : ℕ) (p : List ℕ) (fresh : Bool) (before : Found) (keys : List ℕ) (picked : List Bool) (least t : ℕ) (now : Found) (covered : List Bool) : Type 0 where
   pub known : Known m n g low now
   pub leading : sorted_rows k n g (row_numbers now.best) ≡ sorted_rows k n g p
   pub least-key : key n g low k (row_numbers now.best) ≡ least
   pub lower : fresh ≡ false → sorted_rows m n g (row_numbers now.best) ≼ sorted_rows m n g (row_numbers before.best)
   pub from : ((fresh ≡ false) × (row_numbers now.best ≡ row_numbers before.best)) ⊎ Begins k p (row_numbers now.best)
-  pub tried : Begins k p (row_numbers now.best) → (s : ℕ) × (k ≤ s) × (s < t) × Marked p keys least dropped s × (get_or p s 0 ≡ get_or (row_numbers now.best) k 0)
-  pub covers : (s : ℕ) → k ≤ s → s < t → Marked p keys least dropped s → Covers m n g (suc k) (swapped p k s) (sorted_rows m n g (row_numbers now.best))
+  pub tried : Begins k p (row_numbers now.best) → (s : ℕ) × (k ≤ s) × (s < t) × Marked p keys least picked s × (get_or p s 0 ≡ get_or (row_numbers now.best) k 0)
+  pub covers : (s : ℕ) → k ≤ s → s < t → Marked p keys least picked s → Covers m n g (suc k) (swapped p k s) (sorted_rows m n g (row_numbers now.best))
   pub rows : CoveredRows m n g k p (sorted_rows m n g (row_numbers now.best)) covered
 
-pub record Following (m n : ℕ) (g : List ℕ) (low k : ℕ) (p : List ℕ) (fresh : Bool) (before : Found) (keys dropped : List ℕ) (least t : ℕ) (new : Bool) (now : Found) (covered : List ℕ) : Type 0 where
+pub record Following (m n : ℕ) (g : List ℕ) (low k : ℕ) (p : List ℕ) (fresh : Bool) (before : Found) (keys : List ℕ) (picked : List Bool) (least t : ℕ) (new : Bool) (now : Found) (covered : List Bool) : Type 0 where
   pub first : k ≤ t
   pub back : k ≤ now.back
   pub size : length covered ≡ 8
   pub keys-size : length now.keys ≡ 8
   pub placed-keys : (i : ℕ) → i < k → get_or now.keys i 0 ≡ key n g low i p
   pub next-key : get_or now.keys k 0 ≡ least
-  pub untried : new ≡ true → (s : ℕ) → k ≤ s → s < t → Marked p keys least dropped s → ⊥
-  pub uncovered : new ≡ true → (r : ℕ) → get_or covered r 0 ≡ 0
+  pub untried : new ≡ true → (s : ℕ) → k ≤ s → s < t → Marked p keys least picked s → ⊥
+  pub uncovered : new ≡ true → (r : ℕ) → get_or covered r false ≡ false
   pub lowering : new ≡ true → fresh ≡ false → least < get_or before.keys k 0
-  pub started : new ≡ false → Started m n g low k p fresh before keys dropped least t now covered
+  pub started : new ≡ false → Started m n g low k p fresh before keys picked least t now covered
   pub symmetries : Symmetries m n g now.symmetries now.kept
 
 -- whatever else changed, the best, its columns and the numbers of its rows did not
@@ -180,10 +180,10 @@ module _ (m n : ℕ) (g : List ℕ) (low : ℕ) (x y : List ℕ) (k : ℕ) (P : 
         k' : Known m n g low r
         k' = known-still m n g low before r rk'.best rk'.after (λ i. ap (λ (l : List ℕ). get_or l i 0) rk'.keys ∙ set-still before.keys k known e (rw s.keys-size (omega arith)) i) f.known
 
-    pub following-first : (dropped : List ℕ) (least known : ℕ) (b new : Bool) (now : Found) (covered : List ℕ) → known ≡ get_or before.keys k 0 → Cuts fresh known least b → b ≡ false →
-        Lowers fresh known least new → Rekeyed m k least before now → length covered ≡ 8 → ((r : ℕ) → get_or covered r 0 ≡ 0) → Following m n g low k p fresh before keys dropped least k new now covered
+    pub following-first : (picked : List Bool) (least known : ℕ) (b new : Bool) (now : Found) (covered : List Bool) → known ≡ get_or before.keys k 0 → Cuts fresh known least b → b ≡ false →
+        Lowers fresh known least new → Rekeyed m k least before now → length covered ≡ 8 → ((r : ℕ) → get_or covered r false ≡ false) → Following m n g low k p fresh before keys picked least k new now covered
     unfolding CoveredRows
-    following-first dropped least known b new now covered e c y l rk' size zero = record {
+    following-first picked least known b new now covered e c y l rk' size zero = record {
       first = omega arith;
       back = let w = rk'.back in omega arith;
       size = size;
@@ -197,7 +197,7 @@ module _ (m n : ℕ) (g : List ℕ) (low : ℕ) (x y : List ℕ) (k : ℕ) (P : 
       symmetries = rw (rk'.symmetries, rk'.kept) s.symmetries;
     }
       where
-        started : new ≡ false → Started m n g low k p fresh before keys dropped least k now covered
+        started : new ≡ false → Started m n g low k p fresh before keys picked least k now covered
         started z = record {
           known = k';
           leading = rw rk'.best f.leading;
@@ -206,7 +206,7 @@ module _ (m n : ℕ) (g : List ℕ) (low : ℕ) (x y : List ℕ) (k : ℕ) (P : 
           from = inl ((l.no z).0, ap row_numbers rk'.best);
           tried = λ w. absurd (f.apart (rw rk'.best at w));
           covers = λ t kt tk. absurd (omega arith);
-          rows = λ t kt tm nz. absurd (nz (zero (get_or p t 0)));
+          rows = λ t kt tm nz. absurd (true≢false (sym nz ∙ zero (get_or p t 0)));
         }
           where
             f : Follows m n g low k p before
@@ -219,10 +219,10 @@ module _ (m n : ℕ) (g : List ℕ) (low : ℕ) (x y : List ℕ) (k : ℕ) (P : 
             k' = known-still m n g low before now rk'.best rk'.after
                 (λ i. ap (λ (q : List ℕ). get_or q i 0) rk'.keys ∙ set-still before.keys k least same (rw s.keys-size (omega arith)) i) f.known
 
-  module _ (keys dropped : List ℕ) (least t : ℕ) (new : Bool) (now : Found) (covered : List ℕ) (tm : t < m) (h : Following m n g low k p fresh before keys dropped least t new now covered) where
-    pub following-skip : (b : Bool) → IsFollowed (get_or keys (get_or p t 0) 0) least dropped covered t (get_or p t 0) b → b ≡ false → Following m n g low k p fresh before keys dropped least (t + 1) new now covered
+  module _ (keys : List ℕ) (picked : List Bool) (least t : ℕ) (new : Bool) (now : Found) (covered : List Bool) (tm : t < m) (h : Following m n g low k p fresh before keys picked least t new now covered) where
+    pub following-skip : (Marked p keys least picked t → get_or covered (get_or p t 0) false ≡ true) → Following m n g low k p fresh before keys picked least (t + 1) new now covered
     unfolding CoveredRows
-    following-skip b f y = record {
+    following-skip passed = record {
       first = omega (arith, h.first);
       back = h.back;
       size = h.size;
@@ -245,20 +245,17 @@ module _ (m n : ℕ) (g : List ℕ) (low : ℕ) (x y : List ℕ) (k : ℕ) (P : 
       symmetries = h.symmetries;
     }
       where
-        passed : Marked p keys least dropped t → get_or covered (get_or p t 0) 0 ≡ 0 → ⊥
-        passed w = f.passed_over y w.has-least w.stays
-
-        untried : new ≡ true → (u : ℕ) → k ≤ u → u < t + 1 → Dec (u ≡ t) → Marked p keys least dropped u → ⊥
+        untried : new ≡ true → (u : ℕ) → k ≤ u → u < t + 1 → Dec (u ≡ t) → Marked p keys least picked u → ⊥
         untried z u ku ut (no e) w = h.untried z u ku (omega arith) w
-        untried z u ku ut (yes e) w = passed (rw e at w) (h.uncovered z (get_or p t 0))
+        untried z u ku ut (yes e) w = true≢false (sym (passed (rw e at w)) ∙ h.uncovered z (get_or p t 0))
 
-        covers : Started m n g low k p fresh before keys dropped least t now covered → (u : ℕ) → k ≤ u → u < t + 1 → Marked p keys least dropped u → Dec (u ≡ t) →
+        covers : Started m n g low k p fresh before keys picked least t now covered → (u : ℕ) → k ≤ u → u < t + 1 → Marked p keys least picked u → Dec (u ≡ t) →
             Covers m n g (suc k) (swapped p k u) (sorted_rows m n g (row_numbers now.best))
         covers d u ku ut nz (no e) = d.covers u ku (omega arith) nz
         covers d u ku ut nz (yes e) = rw e (d.rows t h.first tm (passed (rw e at nz)))
 
     -- the row at position t is followed: the order with it next
-    module _ (rk : RowKeys x a keys) (marked : Marked p keys least dropped t) (Q : RowPermutation) (lists : Lists (swapped p k t) P.size Q) where
+    module _ (rk : RowKeys x a keys) (marked : Marked p keys least picked t) (Q : RowPermutation) (lists : ListsRows (swapped p k t) P.size Q) where
       kt : k ≤ t
       kt = h.first
 
@@ -318,7 +315,7 @@ module _ (m n : ℕ) (g : List ℕ) (low : ℕ) (x y : List ℕ) (k : ℕ) (P : 
           keys-are i ik (yes z) = rw z (h.next-key ∙ sym q-key)
           keys-are i ik (no z) = h.placed-keys i (omega arith) ∙ sym (earlier-key i (omega arith))
 
-          follows : Started m n g low k p fresh before keys dropped least t now covered → Follows m n g low (suc k) q now
+          follows : Started m n g low k p fresh before keys picked least t now covered → Follows m n g low (suc k) q now
           follows d = record {
             known = d.known;
             leading = equal-key (row_numbers now.best) q d.known.rows.whole oq (d.leading ∙ sym q-lead) (d.least-key ∙ sym q-key);
@@ -328,7 +325,7 @@ module _ (m n : ℕ) (g : List ℕ) (low : ℕ) (x y : List ℕ) (k : ℕ) (P : 
               last : Begins (suc k) q (row_numbers now.best) → get_or (row_numbers now.best) k 0 ≡ get_or p t 0
               last w = begins-last (row_numbers now.best) w
 
-              apart : (u : ℕ) × (k ≤ u) × (u < t) × Marked p keys least dropped u × (get_or p u 0 ≡ get_or (row_numbers now.best) k 0) → get_or (row_numbers now.best) k 0 ≡ get_or p t 0 → ⊥
+              apart : (u : ℕ) × (k ≤ u) × (u < t) × Marked p keys least picked u × (get_or p u 0 ≡ get_or (row_numbers now.best) k 0) → get_or (row_numbers now.best) k 0 ≡ get_or p t 0 → ⊥
               apart z w = let e = once z.0 t (omega (arith, z.2)) tm (z.4 ∙ w) in omega (arith, z.2)
 
       -- the search of its branch found f
@@ -400,12 +397,12 @@ module _ (m n : ℕ) (g : List ℕ) (low : ℕ) (x y : List ℕ) (k : ℕ) (P : 
         }
 
         -- the best's next row was tried: those of the rows before t, or the row at t itself
-        tried : Begins k p best → (u : ℕ) × (k ≤ u) × (u < t + 1) × Marked p keys least dropped u × (get_or p u 0 ≡ get_or best k 0)
+        tried : Begins k p best → (u : ℕ) × (k ≤ u) × (u < t + 1) × Marked p keys least picked u × (get_or p u 0 ≡ get_or best k 0)
         unfolding best
         tried b = go out.from
           where
             go : ((new ≡ false) × (row_numbers f.best ≡ row_numbers now.best)) ⊎ Begins (suc k) q (row_numbers f.best) →
-                (u : ℕ) × (k ≤ u) × (u < t + 1) × Marked p keys least dropped u × (get_or p u 0 ≡ get_or (row_numbers f.best) k 0)
+                (u : ℕ) × (k ≤ u) × (u < t + 1) × Marked p keys least picked u × (get_or p u 0 ≡ get_or (row_numbers f.best) k 0)
             go (inr w) = (t, kt, omega arith, marked, sym (begins-last (row_numbers f.best) w))
             go (inl e) = let d = (h.started e.0).tried (rw e.1 at b) in (d.0, d.1, omega (arith, d.2), d.3, d.4 ∙ ap (λ (l : List ℕ). get_or l k 0) (sym e.1))
 
@@ -451,8 +448,8 @@ module _ (m n : ℕ) (g : List ℕ) (low : ℕ) (x y : List ℕ) (k : ℕ) (P : 
                         let z = d.tried (rw e.1 at begins) in
                         copied w z.0 z.1 (omega (arith, z.2)) (z.4 ∙ ap (λ (l : List ℕ). get_or l k 0) (sym e.1)) (still e.0 z.0 (d.covers z.0 z.1 z.2 z.3))
 
-        pub following-next : (row : ℕ) → row ≡ get_or p t 0 → (covered' : List ℕ) → Spreads m n g k p (set covered row 1) covered' → k ≤ f.back →
-            Following m n g low k p fresh before keys dropped least (t + 1) false f covered'
+        pub following-next : (row : ℕ) → row ≡ get_or p t 0 → (covered' : List Bool) → Spreads m n g k p (set covered row true) covered' → k ≤ f.back →
+            Following m n g low k p fresh before keys picked least (t + 1) false f covered'
         unfolding best q CoveredRows
         following-next row e covered' spread kb = record {
           first = omega arith;
@@ -477,7 +474,7 @@ module _ (m n : ℕ) (g : List ℕ) (low : ℕ) (x y : List ℕ) (k : ℕ) (P : 
           symmetries = out.symmetries;
         }
           where
-            covers : (u : ℕ) → k ≤ u → u < t + 1 → Marked p keys least dropped u → Dec (u ≡ t) → Covers m n g (suc k) (swapped p k u) (sorted_rows m n g (row_numbers f.best))
+            covers : (u : ℕ) → k ≤ u → u < t + 1 → Marked p keys least picked u → Dec (u ≡ t) → Covers m n g (suc k) (swapped p k u) (sorted_rows m n g (row_numbers f.best))
             covers u ku ut nz (yes z) = rw z (this kb)
             covers u ku ut nz (no z) = go new refl
               where
@@ -485,21 +482,21 @@ module _ (m n : ℕ) (g : List ℕ) (low : ℕ) (x y : List ℕ) (k : ℕ) (P : 
                 go true w = absurd (h.untried w u ku (omega arith) nz)
                 go false w = still w u ((h.started w).covers u ku (omega arith) nz)
 
-            rows : (u : ℕ) → k ≤ u → u < m → (get_or (set covered row 1) (get_or p u 0) 0 ≡ 0 → ⊥) → Dec (get_or p u 0 ≡ row) → Covers m n g (suc k) (swapped p k u) (sorted_rows m n g (row_numbers f.best))
+            rows : (u : ℕ) → k ≤ u → u < m → get_or (set covered row true) (get_or p u 0) false ≡ true → Dec (get_or p u 0 ≡ row) → Covers m n g (suc k) (swapped p k u) (sorted_rows m n g (row_numbers f.best))
             rows u ku um nz (yes z) = let w : u ≡ t = once u t um tm (z ∙ e) in rw w (this kb)
             rows u ku um nz (no z) = go new refl
               where
-                nz' : get_or covered (get_or p u 0) 0 ≡ 0 → ⊥
-                nz' = rw (get_or-set_other covered row (get_or p u 0) 1 0 z) at nz
+                nz' : get_or covered (get_or p u 0) false ≡ true
+                nz' = sym (get_or-set_other covered row (get_or p u 0) true false z) ∙ nz
 
                 go : (b : Bool) → new ≡ b → Covers m n g (suc k) (swapped p k u) (sorted_rows m n g (row_numbers f.best))
-                go true w = absurd (nz' (h.uncovered w (get_or p u 0)))
+                go true w = absurd (true≢false (sym nz' ∙ h.uncovered w (get_or p u 0)))
                 go false w = still w u ((h.started w).rows u ku um nz')
 
-  pub followed-all : (keys : List ℕ) → RowKeys x a keys → (dropped : List ℕ) (least t : ℕ) (new : Bool) (now : Found) (covered : List ℕ) → m ≤ t → Lowest m k p keys least → Chosen m n g k p keys least dropped →
-      Following m n g low k p fresh before keys dropped least t new now covered → Outcome m n g low k p fresh before now
+  pub followed-all : (keys : List ℕ) → RowKeys x a keys → (picked : List Bool) (least t : ℕ) (new : Bool) (now : Found) (covered : List Bool) → m ≤ t → Lowest m k p keys least → Left m n g k p keys least picked →
+      Following m n g low k p fresh before keys picked least t new now covered → Outcome m n g low k p fresh before now
   unfolding Next
-  followed-all keys rk dropped least t new now covered mt low-is chosen h = go new refl
+  followed-all keys rk picked least t new now covered mt low-is chosen h = go new refl
     where
       go : (b : Bool) → new ≡ b → Outcome m n g low k p fresh before now
       go true e =
@@ -517,7 +514,7 @@ module _ (m n : ℕ) (g : List ℕ) (low : ℕ) (x y : List ℕ) (k : ℕ) (P : 
         symmetries = h.symmetries;
       }
         where
-          d : Started m n g low k p fresh before keys dropped least t now covered
+          d : Started m n g low k p fresh before keys picked least t now covered
           d = h.started e
 
           each : (u : ℕ) → k ≤ u → u < m → Dec (get_or keys (get_or p u 0) 0 ≡ least) → Covers m n g (suc k) (swapped p k u) (sorted_rows m n g (row_numbers now.best))
@@ -541,21 +538,21 @@ standing-row m n g low x y k P a fresh f s t tm row e = let w = at-whole 8 m (ro
 
 -- ---- the loop of `place`
 
-pub record Turn (m n : ℕ) (g : List ℕ) (low : ℕ) (x y : List ℕ) (k : ℕ) (P : RowPermutation) (a : List ℕ) (fresh : Bool) (keys : List ℕ) (least : ℕ) (dropped : List ℕ) (start : Found) (t : ℕ) (new : Bool) (now : Found)
-    (covered : List ℕ) : Type 0 where
+pub record Turn (m n : ℕ) (g : List ℕ) (low : ℕ) (x y : List ℕ) (k : ℕ) (P : RowPermutation) (a : List ℕ) (fresh : Bool) (keys : List ℕ) (least : ℕ) (picked : List Bool) (start : Found) (t : ℕ) (new : Bool) (now : Found)
+    (covered : List Bool) : Type 0 where
   pub before : Found
   pub stands : Standing m n g low x y k P a fresh before
   pub within : k < m
   pub row-keys : RowKeys x a keys
   pub lowest : Lowest m k (row_numbers P) keys least
-  pub chosen : Chosen m n g k (row_numbers P) keys least dropped
+  pub chosen : Left m n g k (row_numbers P) keys least picked
   pub same-best : before.best ≡ start.best
-  pub following : Following m n g low k (row_numbers P) fresh before keys dropped least t new now covered
+  pub following : Following m n g low k (row_numbers P) fresh before keys picked least t new now covered
 
-module _ (m n : ℕ) (g : List ℕ) (low : ℕ) (x y : List ℕ) (k : ℕ) (P : RowPermutation) (a : List ℕ) (fresh : Bool) (keys : List ℕ) (least : ℕ) (dropped : List ℕ) where
-  pub turn-first : (before start : Found) (known : ℕ) (b new : Bool) (covered : List ℕ) → Standing m n g low x y k P a fresh before → k < m → RowKeys x a keys → Lowest m k (row_numbers P) keys least →
-      Chosen m n g k (row_numbers P) keys least dropped → known ≡ get_or before.keys k 0 → Cuts fresh known least b → b ≡ false → Lowers fresh known least new → Rekeyed m k least before start → length covered ≡ 8 →
-      ((r : ℕ) → get_or covered r 0 ≡ 0) → Turn m n g low x y k P a fresh keys least dropped start k new start covered
+module _ (m n : ℕ) (g : List ℕ) (low : ℕ) (x y : List ℕ) (k : ℕ) (P : RowPermutation) (a : List ℕ) (fresh : Bool) (keys : List ℕ) (least : ℕ) (picked : List Bool) where
+  pub turn-first : (before start : Found) (known : ℕ) (b new : Bool) (covered : List Bool) → Standing m n g low x y k P a fresh before → k < m → RowKeys x a keys → Lowest m k (row_numbers P) keys least →
+      Left m n g k (row_numbers P) keys least picked → known ≡ get_or before.keys k 0 → Cuts fresh known least b → b ≡ false → Lowers fresh known least new → Rekeyed m k least before start → length covered ≡ 8 →
+      ((r : ℕ) → get_or covered r false ≡ false) → Turn m n g low x y k P a fresh keys least picked start k new start covered
   turn-first before start known b new covered s km rk l c e cuts y lowers rk' size zero = record {
     before = before;
     stands = s;
@@ -564,13 +561,13 @@ module _ (m n : ℕ) (g : List ℕ) (low : ℕ) (x y : List ℕ) (k : ℕ) (P : 
     lowest = l;
     chosen = c;
     same-best = sym rk'.best;
-    following = following-first m n g low x _ k P a fresh before s km keys rk dropped least known b new start covered e cuts y lowers rk' size zero;
+    following = following-first m n g low x _ k P a fresh before s km keys rk picked least known b new start covered e cuts y lowers rk' size zero;
   }
 
-  module _ (start : Found) (t : ℕ) (new : Bool) (now : Found) (covered : List ℕ) (tm : t < m) (h : Turn m n g low x y k P a fresh keys least dropped start t new now covered) where
+  module _ (start : Found) (t : ℕ) (new : Bool) (now : Found) (covered : List Bool) (tm : t < m) (h : Turn m n g low x y k P a fresh keys least picked start t new now covered) where
     -- the next turn, from what holds before it
-    turned : (t' : ℕ) (new' : Bool) (now' : Found) (covered' : List ℕ) → Following m n g low k (row_numbers P) fresh h.before keys dropped least t' new' now' covered' →
-        Turn m n g low x y k P a fresh keys least dropped start t' new' now' covered'
+    turned : (t' : ℕ) (new' : Bool) (now' : Found) (covered' : List Bool) → Following m n g low k (row_numbers P) fresh h.before keys picked least t' new' now' covered' →
+        Turn m n g low x y k P a fresh keys least picked start t' new' now' covered'
     turned t' new' now' covered' f = record {
       before = h.before;
       stands = h.stands;
@@ -582,34 +579,34 @@ module _ (m n : ℕ) (g : List ℕ) (low : ℕ) (x y : List ℕ) (k : ℕ) (P : 
       following = f;
     }
 
-    pub turn-skip : (row : ℕ) → row ≡ get_or (row_numbers P) t 0 → (key : ℕ) → key ≡ get_or keys row 0 → (b : Bool) → IsFollowed key least dropped covered t row b → b ≡ false → Turn m n g low x y k P a fresh keys least dropped start (t + 1) new now covered
-    turn-skip row e key ek b f z =
+    pub turn-skip : (row : ℕ) → row ≡ get_or (row_numbers P) t 0 → (Marked (row_numbers P) keys least picked t → get_or covered row false ≡ true) → Turn m n g low x y k P a fresh keys least picked start (t + 1) new now covered
+    turn-skip row e passed =
         turned (t + 1) new now covered
-        (following-skip m n g low x y k P a fresh h.before h.stands h.within keys dropped least t new now covered tm h.following b (rw (ek, e) at f) z)
+        (following-skip m n g low x y k P a fresh h.before h.stands h.within keys picked least t new now covered tm h.following (λ w. rw (← e) (passed w)))
 
-    module _ (row : ℕ) (e : row ≡ get_or (row_numbers P) t 0) (key : ℕ) (ek : key ≡ get_or keys row 0) (b : Bool) (f : IsFollowed key least dropped covered t row b) (z : b ≡ true) (Q : RowPermutation) (lists : Lists (swapped (row_numbers P) k t) P.size Q) where
-      marked : Marked (row_numbers P) keys least dropped t
-      marked = record { has-least = rw (← e, ← ek) (f.has-least z); stays = f.stays z }
+    module _ (row : ℕ) (e : row ≡ get_or (row_numbers P) t 0) (has-least : get_or keys row 0 ≡ least) (is-picked : get_or picked t false ≡ true) (Q : RowPermutation) (lists : ListsRows (swapped (row_numbers P) k t) P.size Q) where
+      marked : Marked (row_numbers P) keys least picked t
+      marked = record { has-least = rw (← e) has-least; stays = is-picked }
 
       pub turn-stands : (c : List ℕ) → Refined y row a c → Standing m n g low x y (k + 1) Q c new now
       turn-stands c r =
           rw add-one
-          (followed-stands m n g low x y k P a fresh h.before h.stands h.within keys dropped least t new now covered tm h.following h.row-keys marked Q lists row e c r)
+          (followed-stands m n g low x y k P a fresh h.before h.stands h.within keys picked least t new now covered tm h.following h.row-keys marked Q lists row e c r)
 
       pub turn-back : (out : Found) → Outcome m n g low (k + 1) (row_numbers Q) new now out → out.back < k → (old : Found) → start.best ≡ old.best → Outcome m n g low k (row_numbers P) fresh old out
       turn-back out o l old same =
           outcome-for m n g low k (row_numbers P) fresh h.before old out (h.same-best ∙ same)
-          (followed-back m n g low x y k P a fresh h.before h.stands h.within keys dropped least t new now covered tm h.following h.row-keys marked Q lists out o l)
+          (followed-back m n g low x y k P a fresh h.before h.stands h.within keys picked least t new now covered tm h.following h.row-keys marked Q lists out o l)
 
-      pub turn-next : (out : Found) → Outcome m n g low (k + 1) (row_numbers Q) new now out → (out.back < k → ⊥) → (covered' : List ℕ) → Spreads m n g k (row_numbers P) (set covered row 1) covered' →
-          Turn m n g low x y k P a fresh keys least dropped start (t + 1) false out covered'
+      pub turn-next : (out : Found) → Outcome m n g low (k + 1) (row_numbers Q) new now out → (out.back < k → ⊥) → (covered' : List Bool) → Spreads m n g k (row_numbers P) (set covered row true) covered' →
+          Turn m n g low x y k P a fresh keys least picked start (t + 1) false out covered'
       turn-next out o l covered' spread =
           turned (t + 1) false out covered'
-          (following-next m n g low x y k P a fresh h.before h.stands h.within keys dropped least t new now covered tm h.following h.row-keys marked Q lists out o row e covered' spread
+          (following-next m n g low x y k P a fresh h.before h.stands h.within keys picked least t new now covered tm h.following h.row-keys marked Q lists out o row e covered' spread
           (omega arith))
 
-  pub turn-all : (start : Found) (t : ℕ) (new : Bool) (now : Found) (covered : List ℕ) → m ≤ t → Turn m n g low x y k P a fresh keys least dropped start t new now covered → (old : Found) → start.best ≡ old.best →
+  pub turn-all : (start : Found) (t : ℕ) (new : Bool) (now : Found) (covered : List Bool) → m ≤ t → Turn m n g low x y k P a fresh keys least picked start t new now covered → (old : Found) → start.best ≡ old.best →
       Outcome m n g low k (row_numbers P) fresh old now
   turn-all start t new now covered mt h old same =
       outcome-for m n g low k (row_numbers P) fresh h.before old now (h.same-best ∙ same)
-      (followed-all m n g low x y k P a fresh h.before h.stands h.within keys h.row-keys dropped least t new now covered mt h.lowest h.chosen h.following)
+      (followed-all m n g low x y k P a fresh h.before h.stands h.within keys h.row-keys picked least t new now covered mt h.lowest h.chosen h.following)

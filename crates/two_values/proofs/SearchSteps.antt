@@ -3,19 +3,14 @@
 --   lowest-one, lowest-next  ==  the least of some numbers: of one, and with a number more
 --   CommonUpTo a b count i  ==  a and b begin with i entries in common, at most count
 --   common-none, common-more, common-parts, common-all  ==  counting them: at first, one more, two that differ, and up to count
---   cut-fresh, lower-fresh  ==  nothing is cut and all is lower where the best's next row is not known
---   followed-higher, followed-dropped, followed-left  ==  whether a row is followed: one whose number is not the least, one whose position is dropped, and any other
 use mathlib.Core.Path.{◌≡◌, sym, ap, ◌∙◌}
 use mathlib.Core.List.{List}
-use mathlib.Core.Bool.{Bool, true, false, true≢false}
 use Prim.Native.Nat.{ℕ, min, ◌+◌, ◌≤◌, ◌<◌}
 use native.Mathlib.Nat.{not-suc-le-zero}
 use native.Mathlib.Decide.{ℕ_discrete, dec_lt}
 use native.Mathlib.Omega.{arith}
 use lib.ListN.{get_or}
-use lib.Dec.{eqb}
-use borrow.Author.Tests.{eqb-false}
-use Rattle.two_values.specs.Search.{Lowest, CommonRows, Cuts, Lowers, IsFollowed}
+use Rattle.two_values.specs.Search.{Lowest, CommonRows}
 
 -- ---- the least number
 
@@ -73,21 +68,3 @@ common-parts a b count i x y e f n c = record { up_to = c.up_to; same = c.same; 
 
 pub common-all : (a b : List ℕ) (count i : ℕ) → count ≤ i → CommonUpTo a b count i → CommonRows a b count count
 common-all a b count i h c = record { up_to = omega arith; same = λ j b. c.same j (omega arith); parts = λ b e. omega arith }
-
--- ---- tests
-
-pub cut-fresh : (fresh : Bool) (known least : ℕ) → fresh ≡ true → Cuts fresh known least false
-cut-fresh fresh known least e = record { yes = λ h. absurd (true≢false (sym h)); no = λ h f. absurd (true≢false (sym e ∙ f)) }
-
-pub lower-fresh : (fresh : Bool) (known least : ℕ) → fresh ≡ true → Lowers fresh known least true
-lower-fresh fresh known least e = record { yes = λ h f. absurd (true≢false (sym e ∙ f)); no = λ h. absurd (true≢false h) }
-
-module _ (key least : ℕ) (dropped covered : List ℕ) (t row : ℕ) where
-  pub followed-higher : (key ≡ least → ⊥) → IsFollowed key least dropped covered t row false
-  followed-higher n = record { has-least = λ h. absurd (true≢false (sym h)); stays = λ h. absurd (true≢false (sym h)); passed_over = λ h e z f. n e }
-
-  pub followed-dropped : (get_or dropped t 0 ≡ 0 → ⊥) → IsFollowed key least dropped covered t row false
-  followed-dropped n = record { has-least = λ h. absurd (true≢false (sym h)); stays = λ h. absurd (true≢false (sym h)); passed_over = λ h e z f. n z }
-
-  pub followed-left : key ≡ least → get_or dropped t 0 ≡ 0 → IsFollowed key least dropped covered t row (eqb (get_or covered row 0) 0)
-  followed-left e z = record { has-least = λ h. e; stays = λ h. z; passed_over = λ h f w. eqb-false _ _ h }

@@ -198,35 +198,32 @@ fixes-all l s p k i ki h = record { fixed = λ e j jk. h.fixed j (omega arith) }
 
 -- ---- the images of the marked rows
 
-pub reached-none : (m : ℕ) (l : List ℕ) (s : ℕ) (a : List ℕ) → length a ≡ 8 → Images m l s a a
+pub reached-none : (m : ℕ) (l : List ℕ) (s : ℕ) (a : List Bool) → length a ≡ 8 → Images m l s a a
 reached-none m l s a e = record { size = e; reached = λ x h. reached-marked h }
 
-pub reached-next : (m : ℕ) (l : List ℕ) (s : ℕ) (a b : List ℕ) (x v : ℕ) → x < m → (get_or b x 0 ≡ 0 → ⊥) → v ≡ get_or l (s * 8 + x) 0 →
-    Images m l s a b → Images m l s a (set b v 1)
-reached-next m l s a b x v xm ne e h = record { size = length-set b v 1 ∙ h.size; reached = λ y hy. go y hy (ℕ_discrete y v) }
+pub reached-next : (m : ℕ) (l : List ℕ) (s : ℕ) (a b : List Bool) (x v : ℕ) → x < m → get_or b x false ≡ true → v ≡ get_or l (s * 8 + x) 0 →
+    Images m l s a b → Images m l s a (set b v true)
+reached-next m l s a b x v xm ne e h = record { size = length-set b v true ∙ h.size; reached = λ y hy. go y hy (ℕ_discrete y v) }
   where
-    go : (y : ℕ) → (get_or (set b v 1) y 0 ≡ 0 → ⊥) → Dec (y ≡ v) → Reached m l s a y
+    go : (y : ℕ) → get_or (set b v true) y false ≡ true → Dec (y ≡ v) → Reached m l s a y
     go y hy (yes z) = rw (z, e) (reached-image xm (h.reached x ne))
-    go y hy (no nz) = h.reached y (λ q. hy (get_or-set_other b v y 1 0 nz ∙ q))
+    go y hy (no nz) = h.reached y (sym (get_or-set_other b v y true false nz) ∙ hy)
 
 -- ---- what covers the rows marked covers their images
 
-pub spreads-refl : (m n : ℕ) (g : List ℕ) (k : ℕ) (p a : List ℕ) → length a ≡ 8 → Spreads m n g k p a a
+pub spreads-refl : (m n : ℕ) (g : List ℕ) (k : ℕ) (p : List ℕ) (a : List Bool) → length a ≡ 8 → Spreads m n g k p a a
 spreads-refl m n g k p a e = record { size = e; covers = λ r c. c }
 
-pub spreads-marked : (m n : ℕ) (g : List ℕ) (k : ℕ) (p a : List ℕ) (x : ℕ) → x < 8 → length a ≡ 8 → Spreads m n g k p (set a x 1) a
+pub spreads-marked : (m n : ℕ) (g : List ℕ) (k : ℕ) (p : List ℕ) (a : List Bool) (x : ℕ) → x < 8 → length a ≡ 8 → Spreads m n g k p (set a x true) a
 unfolding CoveredRows
 spreads-marked m n g k p a x x8 e = record { size = e; covers = λ r c t kt tm h. c t kt tm (still (get_or p t 0) h (ℕ_discrete (get_or p t 0) x)) }
   where
-    still : (y : ℕ) → (get_or a y 0 ≡ 0 → ⊥) → Dec (y ≡ x) → get_or (set a x 1) y 0 ≡ 0 → ⊥
-    still y h (yes f) z =
-        let v : get_or (set a x 1) x 0 ≡ 1 = get_or-set_same a x 1 0 (omega arith) in
-        let w : get_or (set a x 1) x 0 ≡ 0 = rw f at z in
-        omega arith
-    still y h (no nf) z = h (sym (get_or-set_other a x y 1 0 nf) ∙ z)
+    still : (y : ℕ) → get_or a y false ≡ true → Dec (y ≡ x) → get_or (set a x true) y false ≡ true
+    still y h (yes f) = rw f (get_or-set_same a x true false (omega arith))
+    still y h (no nf) = get_or-set_other a x y true false nf ∙ h
 
 module _ (m n : ℕ) (g : List ℕ) (k : ℕ) (p l : List ℕ) (s : ℕ) (m8 : m ≤ 8) (km : k < m) (o : IsPadded 8 m p) (y : IsSymmetry m n g (λ x. get_or l (s * 8 + x) 0))
-    (fixed : (i : ℕ) → i < k → get_or l (s * 8 + get_or p i 0) 0 ≡ get_or p i 0) (r a : List ℕ) (c : CoveredRows m n g k p r a) where
+    (fixed : (i : ℕ) → i < k → get_or l (s * 8 + get_or p i 0) 0 ≡ get_or p i 0) (r : List ℕ) (a : List Bool) (c : CoveredRows m n g k p r a) where
   -- the row x, placed next, is covered
   reached-covered : (x : ℕ) → Reached m l s a x → (t : ℕ) → k ≤ t → t < m → get_or p t 0 ≡ x → Covers m n g (suc k) (swapped p k t) r
   unfolding CoveredRows Next
@@ -245,7 +242,7 @@ module _ (m n : ℕ) (g : List ℕ) (k : ℕ) (p l : List ℕ) (s : ℕ) (m8 : m
       go i im f (no ik) ih =
           symmetry-next m n g k p (λ x. get_or l (s * 8 + x) 0) i t m8 km o y fixed (omega arith) im kt tm (rw f (sym e)) r (ih i (omega arith) im f)
 
-pub spreads-images : (m n : ℕ) (g : List ℕ) (k : ℕ) (p l : List ℕ) (s : ℕ) (test : Bool) (a b c : List ℕ) → m ≤ 8 → k < m → IsPadded 8 m p → IsSymmetry m n g (λ x. get_or l (s * 8 + x) 0) →
+pub spreads-images : (m n : ℕ) (g : List ℕ) (k : ℕ) (p l : List ℕ) (s : ℕ) (test : Bool) (a b c : List Bool) → m ≤ 8 → k < m → IsPadded 8 m p → IsSymmetry m n g (λ x. get_or l (s * 8 + x) 0) →
     test ≡ true → Fixes l s p k test → Spreads m n g k p a b → Images m l s b c → Spreads m n g k p a c
 unfolding CoveredRows
 spreads-images m n g k p l s test a b c m8 km o y e f h i = record {

@@ -24,7 +24,7 @@ use borrow.Author.Tests.{lt-ltb, le-ltb}
 use mir.Val.{bool_byte}
 use Rattle.grids.specs.Grids.{cell}
 use Rattle.two_values.specs.TwoValues.{bit}
-use Rattle.two_values.specs.Tables.{high, Bits, ByColumns, ByRows}
+use Rattle.two_values.specs.Tables.{high, ByColumns, ByRows}
 
 -- ---- places
 
@@ -154,7 +154,6 @@ unfolding high
 high-past n g low r c b = rw (le-ltb c n b, high)
 
 pub columns-table : (m n : ℕ) (g : List ℕ) (low i : ℕ) (x : List ℕ) → m ≤ 8 → m ≤ i → TableTo column_place (cell_bit n g low) 0 n i 0 x → ByColumns m n g low x
-unfolding Bits
 columns-table m n g low i x mb mi h = record { bits = h.bits; holds = λ r c b cb. go r c b cb (dec_lt c n) }
   where
     go : (r c : ℕ) → r < m → c < 16 → Dec (c < n) → get_or x (c * 8 + r) 0 ≡ high n g low r c
@@ -162,7 +161,6 @@ columns-table m n g low i x mb mi h = record { bits = h.bits; holds = λ r c b c
     go r c b cb (no y) = h.past r c (omega arith) (omega arith) cb ∙ sym (high-past n g low r c (omega arith))
 
 pub rows-table : (m n : ℕ) (g : List ℕ) (low i : ℕ) (x : List ℕ) → m ≤ 8 → m ≤ i → TableTo row_place (cell_unbit n g low) 1 n i 0 x → ByRows m n g low x
-unfolding Bits
 rows-table m n g low i x mb mi h = record { bits = h.bits; holds = λ r c b cb. go r c b cb (dec_lt c n) }
   where
     go : (r c : ℕ) → r < m → c < 16 → Dec (c < n) → get_or x (r * 16 + c) 0 ≡ 1 - high n g low r c

@@ -9,16 +9,18 @@
 --   TwoPairs y u r q c d e f  ==  rows r and q differ so in columns c and d, and e and f, and in no others
 --   ByTwo y u v a r q c d e f  ==  row r dominates row q: they differ in columns c and d, and e and f
 --   Over y u v a n r q   ==  row r equals row q, or dominates it so
---   Sides y u v a n r q i  ==  where i is 1, row r is over row q; where it is 2, q is over r
+--   Sides y u v a n r q i  ==  where i is the first, row r is over row q; where it is the second, q is over r
 --   Prepared ..          ==  what is known where rows are held against each other: the first k rows of p are placed
---   Loses y u v a n p first second s t i  ==  where i is a position, it is t or s, both are marked, and the row at the other one is over its row
+--   Loses y u v a n p b s t i  ==  where i is a position, it is t or s, b marks both, and the row at the other one is over its row
 --   MarksLeast k m p keys least b  ==  b marks those of the positions k to m whose row has the least key
---   Unmarked a b         ==  b is 0 at each position that a marks
-use Rattle.std.specs.Prelude.{◌≡◌, List, ◌⊎◌, ℕ, ◌+◌, ◌-◌, ◌*◌, ◌^◌, ◌≤◌, ◌<◌, length, get_or}
+use Rattle.std.specs.Prelude.{◌≡◌, List, Bool, true, false, Option, Some, ◌⊎◌, ℕ, ◌+◌, ◌-◌, ◌*◌, ◌^◌, ◌≤◌, ◌<◌, length, get_or}
 use Rattle.std.specs.Int.Bits.{bit_and}
 use Rattle.permutations.specs.Rows.{RowPermutation}
 use Rattle.permutations.specs.Rows.{row_numbers, IsRowPermutation}
-use Rattle.two_values.specs.Search.{Tables, PlacesBy}
+use Rattle.two_values.specs.declared.pairs.Side.{Side}
+use Rattle.two_values.specs.declared.pairs.Side.TheVariants.{First, Second}
+use Rattle.two_values.specs.Search.{PlacesBy}
+use Rattle.two_values.specs.Tables.{Tables}
 use Rattle.two_values.specs.Words.{RowWords, LowWords}
 
 abbrev pub entry : List ℕ → ℕ → ℕ → ℕ
@@ -56,9 +58,9 @@ pub data Over (y u v a : List ℕ) (n r q : ℕ) : Type 0 where
   by_one : (c d : ℕ) → c < n → d < n → ByOne y u v a r q c d → Over y u v a n r q
   by_two : (c d e f : ℕ) → c < n → d < n → e < n → f < n → ByTwo y u v a r q c d e f → Over y u v a n r q
 
-pub record Sides (y u v a : List ℕ) (n r q i : ℕ) : Type 0 where
-  pub first : i ≡ 1 → Over y u v a n r q
-  pub second : i ≡ 2 → Over y u v a n q r
+pub record Sides (y u v a : List ℕ) (n r q : ℕ) (i : Option Side) : Type 0 where
+  pub first : i ≡ Some First → Over y u v a n r q
+  pub second : i ≡ Some Second → Over y u v a n q r
 
 pub record Prepared (m n : ℕ) (g : List ℕ) (low : ℕ) (x y : List ℕ) (k : ℕ) (p : RowPermutation) (a u v : List ℕ) : Type 0 where
   pub tables : Tables m n g low x y
@@ -68,15 +70,11 @@ pub record Prepared (m n : ℕ) (g : List ℕ) (low : ℕ) (x y : List ℕ) (k :
   pub row_words : RowWords x u
   pub low-words : LowWords y v
 
-pub record Loses (y u v a : List ℕ) (n : ℕ) (p : List ℕ) (first second s t i : ℕ) : Type 0 where
-  pub marked : i < 8 → (first ≡ 0 → ⊥) × (second ≡ 0 → ⊥)
-  pub over : i < 8 → ((i ≡ t) × Over y u v a n (get_or p s 0) (get_or p t 0)) ⊎ ((i ≡ s) × Over y u v a n (get_or p t 0) (get_or p s 0))
+pub record Loses (y u v a : List ℕ) (n : ℕ) (p : List ℕ) (b : List Bool) (s t : ℕ) (i : Option ℕ) : Type 0 where
+  pub marked : (j : ℕ) → i ≡ Some j → (get_or b s false ≡ true) × (get_or b t false ≡ true)
+  pub over : (j : ℕ) → i ≡ Some j → ((j ≡ t) × Over y u v a n (get_or p s 0) (get_or p t 0)) ⊎ ((j ≡ s) × Over y u v a n (get_or p t 0) (get_or p s 0))
 
-pub record MarksLeast (k m : ℕ) (p keys : List ℕ) (least : ℕ) (b : List ℕ) : Type 0 where
+pub record MarksLeast (k m : ℕ) (p keys : List ℕ) (least : ℕ) (b : List Bool) : Type 0 where
   pub size : length b ≡ 8
-  pub only-least : (t : ℕ) → (get_or b t 0 ≡ 0 → ⊥) → get_or keys (get_or p t 0) 0 ≡ least
-  pub every-least : (t : ℕ) → k ≤ t → t < m → get_or keys (get_or p t 0) 0 ≡ least → get_or b t 0 ≡ 0 → ⊥
-
-pub record Unmarked (a b : List ℕ) : Type 0 where
-  pub size : length b ≡ 8
-  pub none : (t : ℕ) → (get_or a t 0 ≡ 0 → ⊥) → get_or b t 0 ≡ 0
+  pub only-least : (t : ℕ) → get_or b t false ≡ true → get_or keys (get_or p t 0) 0 ≡ least
+  pub every-least : (t : ℕ) → k ≤ t → t < m → get_or keys (get_or p t 0) 0 ≡ least → get_or b t false ≡ true

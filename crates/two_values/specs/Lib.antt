@@ -6,3 +6,4 @@ pub mod Words
 pub mod Domination
 pub mod Arranged
 pub mod Settled
+pub mod Nodes

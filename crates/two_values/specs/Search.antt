@@ -5,8 +5,8 @@
 --   PlacesBy k n g p a   ==  a holds how many columns come after each, by the first k rows of the order p
 --   Next m n g k p s t   ==  what covers placing the row at position s of p next, after the first k rows, covers placing the row at t
 --   Drops m n g k p a b  ==  b marks positions of p that a marks, and for each that a marks one whose branch is as good
---   Marked p keys least b t  ==  the row at position t of p has the least number, and b does not drop the position
---   Chosen m n g k p keys least b  ==  for each position of p from k on with the least number there is one that b does not drop, whose branch is as good
+--   Marked p keys least b t  ==  the row at position t of p has the least number, and b leaves the position
+--   Left m n g k p keys least b  ==  for each position of p from k on with the least number there is one that b leaves, whose branch is as good
 --   IsSymmetry m n g f   ==  the map f of row numbers carries a row order to another with the same arrangement
 --   Symmetries m n g l count  ==  l holds `count` of them, eight numbers each
 --   CoveredRows m n g k p r l  ==  of the rows that l marks, each branch with one of them placed next is covered by r
@@ -17,8 +17,6 @@
 --   Cuts fresh known least b  ==  b tells whether the best's next row is known and lower than the least
 --   Lowers fresh known least b  ==  b tells whether it is not known, or higher
 --   Rekeyed m k least f r  ==  r is f with the number of row k, and goes back to m
---   IsFollowed key least dropped covered t row b  ==  b tells whether the row's number is the least, position t is not dropped, and the row not covered yet
---   Tables m n g low x y ==  the tables of a grid with two values
 --   Known m n g low f    ==  what f holds of its best: the numbers of all rows, and how many columns come after each
 --   Standing ..          ==  the search stands so: the first k rows of p are placed, and f holds the best
 --   Alike m n g k p best back  ==  a row order of the branch has the best's arrangement, begins with the best's first `back` rows, and goes on with another
@@ -31,8 +29,8 @@ use Rattle.grids.specs.Order.{◌≼◌}
 use Rattle.grids.specs.Grids.{arrangement}
 use Rattle.branches.specs.Branches.{Begins, Covers}
 use Rattle.two_values.specs.declared.search.Found.{Found}
-use Rattle.two_values.specs.TwoValues.{TwoValued, places_after, key, sorted_rows}
-use Rattle.two_values.specs.Tables.{ByColumns, ByRows}
+use Rattle.two_values.specs.TwoValues.{places_after, key, sorted_rows}
+use Rattle.two_values.specs.Tables.{Tables}
 
 pub record PlacesBy (k n : ℕ) (g p a : List ℕ) : Type 0 where
   pub size : length a ≡ 16
@@ -41,16 +39,16 @@ pub record PlacesBy (k n : ℕ) (g p a : List ℕ) : Type 0 where
 unfoldable pub Next : ℕ → ℕ → List ℕ → ℕ → List ℕ → ℕ → ℕ → Type 0
 Next m n g k p s t = (r : List ℕ) → Covers m n g (suc k) (swapped p k s) r → Covers m n g (suc k) (swapped p k t) r
 
-pub record Drops (m n : ℕ) (g : List ℕ) (k : ℕ) (p a b : List ℕ) : Type 0 where
+pub record Drops (m n : ℕ) (g : List ℕ) (k : ℕ) (p : List ℕ) (a b : List Bool) : Type 0 where
   pub size : length b ≡ 8
-  pub fewer : (t : ℕ) → (get_or b t 0 ≡ 0 → ⊥) → get_or a t 0 ≡ 0 → ⊥
-  pub as-good : (t : ℕ) → k ≤ t → t < m → (get_or a t 0 ≡ 0 → ⊥) → (s : ℕ) × (k ≤ s) × (s < m) × (get_or b s 0 ≡ 0 → ⊥) × Next m n g k p s t
+  pub fewer : (t : ℕ) → get_or b t false ≡ true → get_or a t false ≡ true
+  pub as-good : (t : ℕ) → k ≤ t → t < m → get_or a t false ≡ true → (s : ℕ) × (k ≤ s) × (s < m) × (get_or b s false ≡ true) × Next m n g k p s t
 
-pub record Marked (p keys : List ℕ) (least : ℕ) (b : List ℕ) (t : ℕ) : Type 0 where
+pub record Marked (p keys : List ℕ) (least : ℕ) (b : List Bool) (t : ℕ) : Type 0 where
   pub has-least : get_or keys (get_or p t 0) 0 ≡ least
-  pub stays : get_or b t 0 ≡ 0
+  pub stays : get_or b t false ≡ true
 
-pub record Chosen (m n : ℕ) (g : List ℕ) (k : ℕ) (p keys : List ℕ) (least : ℕ) (b : List ℕ) : Type 0 where
+pub record Left (m n : ℕ) (g : List ℕ) (k : ℕ) (p keys : List ℕ) (least : ℕ) (b : List Bool) : Type 0 where
   pub size : length b ≡ 8
   pub as-good : (t : ℕ) → k ≤ t → t < m → get_or keys (get_or p t 0) 0 ≡ least → (s : ℕ) × (k ≤ s) × (s < m) × Marked p keys least b s × Next m n g k p s t
 
@@ -71,10 +69,10 @@ pub record Symmetries (m n : ℕ) (g l : List ℕ) (count : ℕ) : Type 0 where
   pub size : length l ≡ 32
   pub each : (s : ℕ) → s < count → IsSymmetry m n g (λ r. get_or l (s * 8 + r) 0)
 
-unfoldable pub CoveredRows : ℕ → ℕ → List ℕ → ℕ → List ℕ → List ℕ → List ℕ → Type 0
-CoveredRows m n g k p r l = (t : ℕ) → k ≤ t → t < m → (get_or l (get_or p t 0) 0 ≡ 0 → ⊥) → Covers m n g (suc k) (swapped p k t) r
+unfoldable pub CoveredRows : ℕ → ℕ → List ℕ → ℕ → List ℕ → List ℕ → List Bool → Type 0
+CoveredRows m n g k p r l = (t : ℕ) → k ≤ t → t < m → get_or l (get_or p t 0) false ≡ true → Covers m n g (suc k) (swapped p k t) r
 
-pub record Spreads (m n : ℕ) (g : List ℕ) (k : ℕ) (p a b : List ℕ) : Type 0 where
+pub record Spreads (m n : ℕ) (g : List ℕ) (k : ℕ) (p : List ℕ) (a b : List Bool) : Type 0 where
   pub size : length b ≡ 8
   pub covers : (r : List ℕ) → CoveredRows m n g k p r a → CoveredRows m n g k p r b
 
@@ -112,19 +110,6 @@ pub record Rekeyed (m k least : ℕ) (f r : Found) : Type 0 where
   pub back : r.back ≡ m
   pub symmetries : r.symmetries ≡ f.symmetries
   pub kept : r.kept ≡ f.kept
-
-pub record IsFollowed (key least : ℕ) (dropped covered : List ℕ) (t row : ℕ) (b : Bool) : Type 0 where
-  pub has-least : b ≡ true → key ≡ least
-  pub stays : b ≡ true → get_or dropped t 0 ≡ 0
-  pub passed_over : b ≡ false → key ≡ least → get_or dropped t 0 ≡ 0 → get_or covered row 0 ≡ 0 → ⊥
-
-pub record Tables (m n : ℕ) (g : List ℕ) (low : ℕ) (x y : List ℕ) : Type 0 where
-  pub rows_fit : m ≤ 8
-  pub columns-fit : n ≤ 16
-  pub size : length g ≡ m * n
-  pub two : TwoValued g low
-  pub by-columns : ByColumns m n g low x
-  pub by_rows : ByRows m n g low y
 
 pub record Standing (m n : ℕ) (g : List ℕ) (low : ℕ) (x y : List ℕ) (k : ℕ) (p : RowPermutation) (a : List ℕ) (fresh : Bool) (f : Found) : Type 0 where
   pub tables : Tables m n g low x y

@@ -5,6 +5,7 @@
 --   high n g low r c       ==  1 where the cell in row r, column c has the higher value; 0 elsewhere, and past column n
 --   ByColumns m n g low x  ==  x holds them column after column
 --   ByRows m n g low y     ==  y holds 1 less each of them, row after row
+--   Tables m n g low x y   ==  the tables of a grid with two values, of a shape within the limits
 --   Bits l                 ==  every number of l is 0 or 1
 --   Below16 a              ==  every number of a is at most 15
 --   PowersFit a            ==  2 to the power of each number of a, all added, is less than 2 to the power of 16
@@ -18,12 +19,12 @@ use Rattle.permutations.specs.Columns.{ColumnPermutation}
 use Rattle.permutations.specs.Columns.{column_numbers, IsColumnPermutation}
 use Rattle.grids.specs.Grids.{cell}
 use Rattle.permutations.specs.Sums.{sum_to, count}
-use Rattle.two_values.specs.TwoValues.{bit}
+use Rattle.two_values.specs.TwoValues.{TwoValued, bit}
 
 unfoldable pub high : ℕ → List ℕ → ℕ → ℕ → ℕ → ℕ
 high n g low r c = elim (ltb c n) [ true ↦ bit low (cell n g r c) | false ↦ 0 ]
 
-unfoldable pub Bits : List ℕ → Type 0
+abbrev pub Bits : List ℕ → Type 0
 Bits l = (i : ℕ) → get_or l i 0 ≤ 1
 
 unfoldable pub Below16 : List ℕ → Type 0
@@ -39,6 +40,14 @@ pub record ByColumns (m n : ℕ) (g : List ℕ) (low : ℕ) (x : List ℕ) : Typ
 pub record ByRows (m n : ℕ) (g : List ℕ) (low : ℕ) (y : List ℕ) : Type 0 where
   pub bits : Bits y
   pub holds : (r c : ℕ) → r < m → c < 16 → get_or y (r * 16 + c) 0 ≡ 1 - high n g low r c
+
+pub record Tables (m n : ℕ) (g : List ℕ) (low : ℕ) (x y : List ℕ) : Type 0 where
+  pub rows_fit : m ≤ 8
+  pub columns-fit : n ≤ 16
+  pub size : length g ≡ m * n
+  pub two : TwoValued g low
+  pub by-columns : ByColumns m n g low x
+  pub by_rows : ByRows m n g low y
 
 unfoldable pub refined_key : List ℕ → ℕ → List ℕ → ℕ → ℕ
 refined_key y r a c = 2 * get_or a c 0 + get_or y (r * 16 + c) 0

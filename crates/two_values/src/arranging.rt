@@ -1,20 +1,18 @@
 // The least arrangement of a grid with two values.
-ghost use Rattle.std.specs.Prelude.{◌≡◌, true, ◌*◌, ◌≤◌, ◌<◌, length};
-ghost use Rattle.permutations.specs.Rows.{row_numbers};
-ghost use Rattle.two_values.specs.TwoValues.{TwoValued};
-ghost use Rattle.two_values.specs.Search.{Standing, Outcome};
+ghost use Rattle.std.specs.Prelude.{◌≡◌, ◌≤◌, ◌<◌, IfSome};
 ghost use Rattle.two_values.specs.Arranged.{ArrangedLeast, first_place, FirstPlaces};
 
+use crate::nodes::Node;
 use crate::search::Found;
-use crate::{columns, search, settled, tables, values};
+use crate::tables::TwoValuedGrid;
+use crate::{columns, search, values};
 use permutations::columns::ColumnPermutation;
 use permutations::rows::RowPermutation;
 use std::array;
 
-// Orders that give the least arrangement, where `found` says so.
+// Orders of the rows and columns of a grid.
 #[derive(Clone, Copy)]
 pub struct Arranged {
-    pub found: bool,
     pub rows: RowPermutation,
     pub columns: ColumnPermutation,
 }
@@ -25,9 +23,10 @@ fn first_place(n: usize, c: usize) -> u8
     ensures { result ≡ first_place n c }
 {
     if c < n {
-        return (16 - n) as u8;
+        (16 - n) as u8
+    } else {
+        (15 - c) as u8
     }
-    (15 - c) as u8
 }
 
 // The same for each column.
@@ -38,61 +37,31 @@ fn first_places(n: usize) -> [u8; 16]
     array::from_fn(|c| first_place(n, c))
 }
 
-// What the search finds from its start: columns that are told apart with no row placed need none.
-fn begun(
-    grid: &[u8],
-    columns: &[u16; 128],
-    table: &[u8; 128],
-    m: usize,
-    n: usize,
-    low: u8,
-    rows: RowPermutation,
-    after: [u8; 16],
-    start: Found,
-) -> Found
-    requires { Standing m n grid.now low columns.now table.now 0 rows after true start }
-    ensures { Outcome m n grid.now low 0 (row_numbers rows) true start result }
+// The orders of the least arrangement of a grid with two values: the search begins with no row placed, and the columns are sorted by the
+// best row order that it finds.
+fn searched(grid: &TwoValuedGrid) -> Arranged
+    ensures { ArrangedLeast grid.now.m grid.now.n grid.now.cells.now result }
 {
-    if 0 < m {
-        if settled::tells_all(m, n, 0, after) {
-            let keys = columns::row_keys(columns, after);
-            let sorted = settled::completed(
-                grid, columns, table, m, n, low, 0, rows, after, true, start, keys,
-            );
-            return sorted;
-        }
-    }
-    let placed = search::place(grid, columns, table, m, n, low, 0, rows, after, true, start);
-    placed
-}
-
-// The orders of the least arrangement of a grid whose lower value is `low`.
-fn searched(grid: &[u8], m: usize, n: usize, low: u8) -> Arranged
-    requires { (m ≤ 8) × (n ≤ 16) × (length grid.now ≡ m * n) × TwoValued grid.now low }
-    ensures { ArrangedLeast m n grid.now result }
-{
-    let columns = tables::by_columns(grid, m, n, low);
-    let table = tables::by_rows(grid, m, n, low);
-    let rows = RowPermutation::identity(m);
-    let after = first_places(n);
-    let keys = [0u16; 8];
-    let symmetries = [0u8; 32];
-    let start = Found {
+    let rows = RowPermutation::identity(grid.m);
+    let after = first_places(grid.n);
+    let root = Node {
+        k: 0,
+        rows,
+        after,
+        fresh: true,
+    };
+    let mut found = Found {
         best: rows,
         after,
-        keys,
-        back: m,
-        symmetries,
+        keys: [0; 8],
+        back: grid.m,
+        symmetries: [0; 32],
         kept: 0,
     };
-    let found = begun(grid, &columns, &table, m, n, low, rows, after, start);
-    let places = found.after;
-    let best = found.best;
-    let order = columns::sorted(places, n);
+    search::place(grid, &root, &mut found);
     Arranged {
-        found: true,
-        rows: best,
-        columns: order,
+        rows: found.best,
+        columns: columns::sorted(found.after, grid.n),
     }
 }
 
@@ -123,37 +92,17 @@ fn has_one(grid: &[u8]) -> bool {
 
 // Whether the general search is as quick: the grid has more than two values, or one value and fewer than 16 columns.
 pub fn is_left(grid: &[u8], n: usize) -> bool {
-    if has_third(grid) {
-        return true;
-    }
-    if 16 <= n {
-        return false;
-    }
-    has_one(grid)
+    has_third(grid) || n < 16 && has_one(grid)
 }
 
 // The orders of the least arrangement, if the grid has two values at most, and a shape within the limits.
-pub fn least_arrangement(grid: &[u8], m: usize, n: usize) -> Arranged
-    ensures { result.found ≡ true → ArrangedLeast m n grid.now result }
+pub fn least_arrangement(grid: &[u8], m: usize, n: usize) -> Option<Arranged>
+    ensures { IfSome result (λ arranged. ArrangedLeast m n grid.now arranged) }
 {
-    let none = Arranged {
-        found: false,
-        rows: RowPermutation::identity(m),
-        columns: ColumnPermutation::identity(n),
-    };
-    if 8 < m {
-        return none;
+    if 8 < m || 16 < n || grid.len() != m * n {
+        return None;
     }
-    if 16 < n {
-        return none;
-    }
-    if grid.len() != m * n {
-        return none;
-    }
-    let found = values::classify(grid);
-    if !found.two {
-        return none;
-    }
-    let searched = searched(grid, m, n, found.low);
-    searched
+    let low = values::lower_of_two(grid)?;
+    let grid = TwoValuedGrid::new(grid, m, n, low);
+    Some(searched(&grid))
 }

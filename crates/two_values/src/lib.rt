@@ -3,7 +3,9 @@
 
 pub mod arranging;
 mod columns;
+mod contests;
 mod domination;
+mod nodes;
 mod pairs;
 mod search;
 mod settled;

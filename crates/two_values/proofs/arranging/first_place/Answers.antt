@@ -6,5 +6,5 @@ use Rattle.two_values.proofs.arranging.first_place.Goals as goal
 pub returns-then-c-n : goal.returns-then-c-n
 returns-then-c-n c = sym (first-inside _ _ c.if-c-n.true)
 
-pub returns : goal.returns
-returns c = sym (first_past _ _ c.if-c-n.false)
+pub returns-else-c-n : goal.returns-else-c-n
+returns-else-c-n c = sym (first_past _ _ c.if-c-n.false)

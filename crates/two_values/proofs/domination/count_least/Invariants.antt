@@ -1,4 +1,4 @@
--- `count_least` is safe and ends. The loop's invariant: no more positions are counted than there are before t.
+-- `count_least` is safe. The loop's invariant: no more positions are counted than there are before t.
 use Prim.Native.Nat.{◌≤◌}
 use Rattle.two_values.proofs.domination.count_least.Given as goal
 

@@ -1,26 +1,11 @@
-use mathlib.Core.Path.{◌≡◌, refl}
-use mathlib.Core.List.{List}
-use Prim.Native.Nat.{ℕ, ◌<◌}
-use native.Mathlib.Decide.{dec_lt}
+use mathlib.Core.Path.{refl, sym, ◌∙◌}
+use mathlib.Core.Bool.{true≢false}
 use native.Mathlib.Omega.{arith}
-use lib.ListN.{length, get_or, get_or-eq_default}
-use Rattle.permutations.specs.Lists.{tabulate}
-use Rattle.permutations.proofs.ListLaws.{length-tabulate, at-tabulate}
+use Rattle.two_values.proofs.DominationLaws.{none-marked}
 use Rattle.two_values.proofs.PlaceLaws.{standing-small, standing-fits, standing-row, cut, turn-first, turn-skip, turn-stands, turn-back, turn-next, turn-all}
 use Rattle.two_values.proofs.PlaceSums.{sum-distinct}
 use Rattle.two_values.proofs.search.+place.Goals as goal
-use Rattle.two_values.proofs.search.+place.Goals.{then-is_followed+else-now-k, else-is_followed}
-
--- at first no row is covered
-abbrev zeros : List ℕ
-zeros = tabulate 0 8 (λ i. 0)
-
-none-covered : (r : ℕ) → get_or zeros r 0 ≡ 0
-none-covered r = go (dec_lt r 8)
-  where
-    go : Dec (r < 8) → get_or zeros r 0 ≡ 0
-    go (yes h) = at-tabulate 8 (λ i. 0) r 0 h
-    go (no h) = get_or-eq_default zeros 0 (let e : length zeros ≡ 8 = length-tabulate 0 8 _ in omega arith)
+use Rattle.two_values.proofs.search.+place.Goals.{then-keys-at+then-left-t+then-not-covered-at+else-found-k, else-keys-at, else-keys-at-via-then-keys-at+then-left-t+else-not-covered-at, else-keys-at-via-then-keys-at+else-left-t, else-keys-at-via-else-keys-at}
 
 pub row_keys-keys-requires : goal.row_keys-keys-requires
 row_keys-keys-requires t c = let s = c.requires in (s.tables.by-columns.bits, standing-small _ _ _ _ _ _ _ _ _ _ _ s, standing-fits _ _ _ _ _ _ _ _ _ _ _ s)
@@ -28,72 +13,67 @@ row_keys-keys-requires t c = let s = c.requires in (s.tables.by-columns.bits, st
 pub tells_all-requires : goal.tells_all-requires
 tells_all-requires t c = standing-small _ _ _ _ _ _ _ _ _ _ _ c.requires
 
-pub completed-completed-requires : goal.completed-completed-requires
-completed-completed-requires t c =
+pub completed-requires : goal.completed-requires
+completed-requires t c =
     let s = c.requires in
     (s, omega (arith, s.placed-fits, c.if-k-m.false), sum-distinct _ _ _ _ _ s.tables.columns-fit s.places (c.tells_all.ensures c.if-tells_all.true), c.row_keys-keys.ensures)
 
 pub returns-then-is_cut : goal.returns-then-is_cut
 returns-then-is_cut t c =
     let s = c.requires in
-    cut _ _ _ _ _ _ _ _ _ _ _ s (omega (arith, s.placed-fits, c.if-k-m.false)) _ c.row_keys-keys.ensures _ _ _ _ c.lowest-least.ensures c.number_at-known.ensures
-    c.is_cut.ensures c.if-is_cut.true c.rekeyed.ensures
+    cut _ _ _ _ _ _ _ _ _ _ _ s (omega (arith, s.placed-fits, c.if-k-m.false)) _ c.row_keys-keys.ensures _ _ _ _ c.lowest-least.ensures refl
+    c.is_cut.ensures c.if-is_cut.true c.rekey.ensures
 
 pub loop-t-init : goal.loop-t-init
-unfolding tabulate
 loop-t-init t c =
     let s = c.requires in (
-      omega (arith, s.placed-fits),
       refl,
-      turn-first _ _ _ _ _ _ _ _ _ _ _ _ _ _ _ _ _ _ _ s (omega (arith, s.placed-fits, c.if-k-m.false)) c.row_keys-keys.ensures c.lowest-least.ensures c.chosen-dropped.ensures
-          c.number_at-known.ensures c.is_cut.ensures c.if-is_cut.false c.is_lower-new.ensures c.rekeyed-now.ensures refl none-covered,
+      turn-first _ _ _ _ _ _ _ _ _ _ _ _ _ _ _ _ _ _ _ s (omega (arith, s.placed-fits, c.if-k-m.false)) c.row_keys-keys.ensures c.lowest-least.ensures c.left-left.ensures
+          refl c.is_cut.ensures c.if-is_cut.false c.is_lower-fresh.ensures c.rekey-2.ensures refl none-marked,
     )
 
-pub is_followed-requires : goal.is_followed-requires
-is_followed-requires t c =
-    let h = c.loop-t.invariant.2 in
-    (omega (arith, h.stands.tables.rows_fit), standing-row _ _ _ _ _ _ _ _ _ _ _ h.stands _ c.loop-t-test.true _ c.number-row.ensures)
+pub refined-requires : goal.refined-requires
+refined-requires t c =
+    let h = c.loop-t.invariant.1 in
+    (h.stands.tables.by_rows.bits, standing-row _ _ _ _ _ _ _ _ _ _ _ h.stands _ c.loop-t-test.true _ c.row-row.ensures, standing-small _ _ _ _ _ _ _ _ _ _ _ h.stands)
 
-pub refined-further-requires : goal.refined-further-requires
-refined-further-requires t c =
-    let h = c.loop-t.invariant.2 in
-    (h.stands.tables.by_rows.bits, standing-row _ _ _ _ _ _ _ _ _ _ _ h.stands _ c.loop-t-test.true _ c.number-row.ensures, standing-small _ _ _ _ _ _ _ _ _ _ _ h.stands)
+pub place-requires : goal.place-requires
+place-requires t c =
+    let h = c.loop-t.invariant.1 in
+    (omega (arith, c.decreases, h.within), turn-stands _ _ _ _ _ _ _ _ _ _ _ _ _ _ _ _ _ _ c.loop-t-test.true h _ c.row-row.ensures c.if-keys-at.true c.if-left-t.true _ c.swapped.ensures _ c.refined.ensures)
 
-pub place-now-requires : goal.place-now-requires
-place-now-requires t c =
-    let h = c.loop-t.invariant.2 in (
-      omega (arith, c.decreases, h.within),
-      turn-stands _ _ _ _ _ _ _ _ _ _ _ _ _ _ _ _ _ _ c.loop-t-test.true h _ c.number-row.ensures _ c.number_at-key.ensures _ c.is_followed.ensures c.if-is_followed.true _ c.swapped-next.ensures _ c.refined-further.ensures,
-    )
+pub returns-then-found-k : goal.returns-then-found-k
+returns-then-found-k t c =
+    turn-back _ _ _ _ _ _ _ _ _ _ _ _ _ _ _ _ _ _ c.loop-t-test.true c.loop-t.invariant.1 _ c.row-row.ensures c.if-keys-at.true c.if-left-t.true _ c.swapped.ensures _
+    c.place.ensures c.if-found-k.true _ c.rekey-2.ensures.best
 
-pub returns-then-now-k : goal.returns-then-now-k
-returns-then-now-k t c =
-    turn-back _ _ _ _ _ _ _ _ _ _ _ _ _ _ _ _ _ _ c.loop-t-test.true c.loop-t.invariant.2 _ c.number-row.ensures _ c.number_at-key.ensures _ c.is_followed.ensures c.if-is_followed.true _ c.swapped-next.ensures _
-    c.place-now.ensures c.if-now-k.true _ c.rekeyed-now.ensures.best
-
-pub covered_with-more-requires : goal.covered_with-more-requires
-covered_with-more-requires t c =
-    let h = c.loop-t.invariant.2 in
-    (h.stands.tables.rows_fit, h.within, h.stands.rows, c.place-now.ensures.symmetries, standing-row _ _ _ _ _ _ _ _ _ _ _ h.stands _ c.loop-t-test.true _ c.number-row.ensures)
+pub covered_with-covered-requires : goal.covered_with-covered-requires
+covered_with-covered-requires t c =
+    let h = c.loop-t.invariant.1 in
+    (h.within, h.stands.rows, c.place.ensures.symmetries, standing-row _ _ _ _ _ _ _ _ _ _ _ h.stands _ c.loop-t-test.true _ c.row-row.ensures)
 
 pub loop-t-preserved : goal.loop-t-preserved
 loop-t-preserved t c =
     let l = c.loop-t in
     let tm = c.loop-t-test.true in
-    let row = c.number-row.ensures in
-    let key = c.number_at-key.ensures in
-    let test = c.is_followed.ensures in
-    let h = l.invariant.2 in
-    elim c.if-is_followed.branch [
-      | then-is_followed+else-now-k w ↦ (
-        omega arith,
-        rw w.covered-is w.covered_with-more.ensures.size,
-        rw (w.now-is, w.new-is, w.covered-is) (turn-next _ _ _ _ _ _ _ _ _ _ _ _ _ _ _ _ _ _ tm h _ row _ key _ test w.if-is_followed.true _ w.swapped-next.ensures _ w.place-now.ensures (λ z. omega (arith, w.if-now-k.false)) _ w.covered_with-more.ensures),
+    let row = c.row-row.ensures in
+    let h = l.invariant.1 in
+    elim c.if-keys-at.branch [
+      | then-keys-at+then-left-t+then-not-covered-at+else-found-k w ↦ (
+        rw w.covered-is w.covered_with-covered.ensures.size,
+        rw (w.found-is, w.fresh-is, w.covered-is) (turn-next _ _ _ _ _ _ _ _ _ _ _ _ _ _ _ _ _ _ tm h _ row w.if-keys-at.true w.if-left-t.true _ w.swapped.ensures _ w.place.ensures (λ z. omega (arith, w.if-found-k.false)) _ w.covered_with-covered.ensures),
       )
-      | else-is_followed w ↦ (omega arith, rw w.covered-is l.invariant.1, rw (w.now-is, w.new-is, w.covered-is) (turn-skip _ _ _ _ _ _ _ _ _ _ _ _ _ _ _ _ _ _ tm h _ row _ key _ test w.if-is_followed.false))
+      | else-keys-at w ↦ (
+        rw w.covered-is l.invariant.0,
+        rw (w.found-is, w.fresh-is, w.covered-is) (turn-skip _ _ _ _ _ _ _ _ _ _ _ _ _ _ _ _ _ _ tm h _ row (elim w.else-keys-at.branch [
+          | else-keys-at-via-then-keys-at+then-left-t+else-not-covered-at v ↦ λ z. v.if-not-covered-at.false
+          | else-keys-at-via-then-keys-at+else-left-t v ↦ λ z. absurd (true≢false (sym z.stays ∙ v.if-left-t.false))
+          | else-keys-at-via-else-keys-at v ↦ λ z. absurd (v.if-keys-at.false (rw row z.has-least))
+        ])),
+      )
     ]
 
 pub returns : goal.returns
 returns t c =
     let l = c.loop-t in
-    turn-all _ _ _ _ _ _ _ _ _ _ _ _ _ _ l.t _ _ _ c.loop-t-test.false l.invariant.2 _ c.rekeyed-now.ensures.best
+    turn-all _ _ _ _ _ _ _ _ _ _ _ _ _ _ l.t _ _ _ c.loop-t-test.false l.invariant.1 _ c.rekey-2.ensures.best

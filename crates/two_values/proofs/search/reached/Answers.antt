@@ -3,21 +3,24 @@ use mathlib.Core.Path.{refl}
 use Rattle.two_values.proofs.ReachedLaws.{reached-new, reached-copy}
 use Rattle.two_values.proofs.search.reached.Goals as goal
 
-pub returns-then-fresh : goal.returns-then-fresh
-returns-then-fresh c = reached-new _ _ _ _ _ _ _ _ _ _ c.requires c.if-fresh.true _ refl refl refl refl refl refl
+pub returns-then-node : goal.returns-then-node
+returns-then-node c =
+    let e = c.requires.1 in
+    rw e (reached-new _ _ _ _ _ _ _ _ _ _ (rw e at c.requires.0) c.if-node.true _ refl refl refl refl refl refl)
 
 pub with_symmetry-more-requires : goal.with_symmetry-more-requires
 with_symmetry-more-requires c =
-    let s = c.requires in
-    let f = s.follows c.if-fresh.false in
-    (s.tables.rows_fit, c.if-kept-lt4.true, s.symmetries, f.known.rows, s.rows, f.leading)
+    let s = rw c.requires.1 at c.requires.0 in
+    let f = s.follows c.if-node.false in
+    (c.if-found-lt4.true, s.symmetries, f.known.rows, s.rows, f.leading)
 
-pub returns-then-kept-lt4 : goal.returns-then-kept-lt4
-returns-then-kept-lt4 c =
-    reached-copy _ _ _ _ _ _ _ _ _ _ c.requires c.if-fresh.false _ refl refl refl
-    c.common.ensures c.with_symmetry-more.ensures
+pub returns-then-found-lt4 : goal.returns-then-found-lt4
+returns-then-found-lt4 c =
+    let e = c.requires.1 in
+    rw e (reached-copy _ _ _ _ _ _ _ _ _ _ (rw e at c.requires.0) c.if-node.false _ refl refl refl c.common-found.ensures c.with_symmetry-more.ensures)
 
-pub returns : goal.returns
-returns c =
-    let s = c.requires in
-    reached-copy _ _ _ _ _ _ _ _ _ _ s c.if-fresh.false _ refl refl refl c.common.ensures s.symmetries
+pub returns-else-found-lt4 : goal.returns-else-found-lt4
+returns-else-found-lt4 c =
+    let e = c.requires.1 in
+    let s = rw e at c.requires.0 in
+    rw e (reached-copy _ _ _ _ _ _ _ _ _ _ s c.if-node.false _ refl refl refl c.common-found.ensures s.symmetries)

@@ -4,4 +4,4 @@ use Rattle.two_values.proofs.SymmetryLaws.{Carrying}
 use Rattle.two_values.proofs.symmetries.with_symmetry.Given as goal
 
 abbrev pub invariant-loop-i : goal.invariant-loop-i
-invariant-loop-i l = Carrying (row_numbers l.first) (row_numbers l.second) l.initial.out l.kept l.i l.out
+invariant-loop-i l = Carrying (row_numbers l.found.best) (row_numbers l.other) l.initial.out l.found.kept l.i l.out

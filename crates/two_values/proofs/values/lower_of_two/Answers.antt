@@ -1,0 +1,1 @@
+-- `lower_of_two` meets its contract: where every cell is the lowest value or the highest, there are two values at most.
