@@ -1,5 +1,5 @@
+pub mod AnswerLaws
 pub mod ByteLaws
-pub mod EqualityLaws
 pub mod FieldLaws
 pub mod FillLaws
 pub mod HeadLaws

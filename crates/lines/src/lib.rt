@@ -1,9 +1,8 @@
-// The numbers and lines of a register, read, written and moved, and its bytes, compared; tables for its cells.
+// The numbers and lines of a register, read, written and moved; tables for its cells.
 #![tactic(auto)]
 
 pub mod bytes;
 pub mod entries;
-pub mod equality;
 pub mod head;
 pub mod holdings;
 pub mod numbers;

@@ -11,7 +11,7 @@ ghost use Rattle.std.specs.Process.{exit_status};
 ghost use Rattle.protocol.specs.Transcript.{transcript};
 ghost use Rattle.protocol.specs.Programs.{has_room};
 
-use reading::{Reading, read_input};
+use reading::read_input;
 use std::alloc::{AllocError, Global};
 use std::io;
 use std::process::ExitCode;
@@ -19,25 +19,18 @@ use std::time::Clock;
 use transcript::run;
 use writing::write_output;
 
-// Room for the input, and for the byte that makes it too long.
-fn input_buffer() -> [u8; 65537]
-    ensures { 65537 ≡ length result }
-{
-    [0; 65537]
-}
+// Room for the input and for the byte that makes it too long, for the register, and for all that is printed.
+const INPUT: usize = 65537;
 
-// Room for the register.
-fn register_buffer() -> [u8; 65536]
-    ensures { 65536 ≡ length result }
-{
-    [0; 65536]
-}
+const REGISTER: usize = 65536;
 
-// Room for all that is printed.
-fn output_buffer() -> [u8; 1310720]
-    ensures { 1310720 ≡ length result }
+const OUTPUT: usize = 1310720;
+
+// So many bytes of room.
+fn room<const N: usize>() -> [u8; N]
+    ensures { N ≡ length result }
 {
-    [0; 1310720]
+    [0; N]
 }
 
 // Writes what is printed for the input over the first bytes of a slice. Returns how many bytes that is.
@@ -70,8 +63,8 @@ fn fail(rt: &(impl Eprint + AllocGlobal), what: &str, error: io::Error) -> ExitC
 
 // Writes what is printed for the input to standard output, or says why it cannot.
 fn print(rt: &(impl Print + Eprint + Clock + AllocGlobal), input: &[u8]) -> ExitCode {
-    let mut register = register_buffer();
-    let mut out = output_buffer();
+    let mut register = room::<REGISTER>();
+    let mut out = room::<OUTPUT>();
     let printed = print_into(input, &mut register, &mut out);
     match write_output(rt, &out[..printed]) {
         Ok(()) => ExitCode::SUCCESS,
@@ -84,11 +77,10 @@ fn print(rt: &(impl Print + Eprint + Clock + AllocGlobal), input: &[u8]) -> Exit
 }
 
 fn main(rt: HostRuntime) -> ExitCode {
-    let mut input = input_buffer();
-    let reading = read_input(&rt, &mut input);
-    match reading {
-        Reading::Whole(got) => print(&rt, &input[..got]),
-        Reading::Failed(error) => fail(
+    let mut input = room::<INPUT>();
+    match read_input(&rt, &mut input) {
+        Ok(got) => print(&rt, &input[..got]),
+        Err(error) => fail(
             &rt,
             "planbook: standard input could not be read, nothing is printed",
             error,

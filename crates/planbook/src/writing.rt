@@ -1,5 +1,5 @@
 // Standard output, written whole.
-use crate::waiting::{TRIES, try_again};
+use crate::waiting::Tries;
 use std::io;
 use std::io::{ErrorKind, Write};
 use std::time::Clock;
@@ -9,17 +9,13 @@ use std::time::Clock;
 pub fn write_output(rt: &(impl Print + Clock), out: &[u8]) -> io::Result<()> {
     let mut writer = io::writer(rt);
     let mut put = 0;
-    let mut tries = TRIES;
+    let mut tries = Tries::new();
+    // How far a turn goes is known after its write.
     while put < out.len() {
         match writer.write(&out[put..]) {
             Ok(0) => return Err(io::Error::new(ErrorKind::WriteZero, "nothing more was written")),
             Ok(more) => put += more,
-            Err(error) => {
-                if tries == 0 || !try_again(rt, &error) {
-                    return Err(error);
-                }
-                tries -= 1;
-            }
+            Err(error) => tries.again(rt, error)?,
         }
     }
     Ok(())

@@ -17,7 +17,7 @@ use native.Mathlib.Decide.{dec_lt}
 use lib.ListN.{get_or}
 use Rattle.layout.specs.Layout.{head_length, line_length, line_start}
 use Rattle.layout.proofs.LineLaws.{start-zero, next_start, cells-inside}
-use Rattle.lines.proofs.EqualityLaws.{fails}
+use Rattle.lines.proofs.AnswerLaws.{fails}
 use Rattle.scan.specs.Cells.{CellBytes, CellsLaid, Same}
 use Rattle.scan.specs.Fits.{all_fit}
 use Rattle.scan.specs.Holdings.{HoldingsLaid}

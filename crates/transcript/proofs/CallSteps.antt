@@ -4,23 +4,23 @@
 --   bounds-cells  ==  command 3 has low and high of each cell
 --   parted-pruned  ==  prune on the bounds that the cells hold in turn
 --   pruned-no, pruned-counted  ==  its number is not 0; it is 0, and the entries in what it leaves are counted
---   lead-room  ==  a line that is laid has what stands before its cells
 --   answer-malformed, answer-made  ==  what is answered to a command line that is not laid, and to one that is
 use mathlib.Core.Path.{◌≡◌, refl, sym, ap, ap₂, ◌∙◌}
 use mathlib.Core.List.{List}
-use Prim.Native.Nat.{ℕ, zero, suc, ◌-◌, ◌*◌, ◌≤◌}
-use native.Mathlib.Omega.{arith}
-use lib.ListN.{length, take}
+use mathlib.Core.Bool.{false}
+use Prim.Native.Nat.{ℕ, zero, suc, ◌*◌}
+use lib.ListN.{take}
 use Rattle.bounds.specs.Prune.{Pruned, pruned}
 use Rattle.bounds.specs.Demand2.{Prunes}
 use Rattle.machine.specs.CallLists.{register_calls, called}
 use Rattle.calls.specs.Calls.{entered, struck, counted, placed}
-use Rattle.protocol.specs.Input.{lead_length, cell_count, client_in, cells_in}
+use Rattle.protocol.specs.Input.{cell_count, cells_in, is_laid}
 use Rattle.protocol.specs.Commands.{lows, highs}
 use Rattle.protocol.specs.Readings.{pruned_cells, read_command, read_by, command_of, answered_by}
-use Rattle.protocol.proofs.CommandLaws.{laid-length}
 use Rattle.protocol.proofs.ReadingLaws.{by-command, by-none, prune-says, prune-calls, command-of}
-use Rattle.transcript.specs.Commands.{ReadsCommand, Parts, PrunesParted}
+use Rattle.transcript.specs.Commands.{command_number, client_of, CommandRead, Parts, PrunesParted}
+use Rattle.transcript.specs.declared.commands.Command.{Command}
+use Rattle.transcript.specs.declared.reports.Report.{Report}
 use Rattle.transcript.specs.Answers.{Answers}
 
 module _ (m n top : ℕ) {k : ℕ} (client : ℕ) (b c : List ℕ) where
@@ -62,20 +62,17 @@ module _ (m n top : ℕ) (b c : List ℕ) {number : ℕ} {low high : List ℕ} (
 
 -- ---- a command line
 
-pub lead-room : {size : ℕ} {line cells : List ℕ} {k : ℕ} → ReadsCommand size line cells k → (k ≡ 0 → ⊥) → lead_length k ≤ length line
-lead-room {size} {line} r h = rw (r.command-is h) (omega (arith, laid-length size line (r.laid h)))
-
-module _ (m n top : ℕ) {line cells : List ℕ} {k : ℕ} (r : ReadsCommand (m * n) line cells k) (b : List ℕ) where
-  pub answer-malformed : k ≡ 0 → {number : ℕ} → number ≡ 12 → Answers m n top line b b (record { command = 0; number = number; place = 0 })
+module _ (m n top : ℕ) (line b : List ℕ) where
+  pub answer-malformed : is_laid (m * n) line ≡ false → {r : Report} → (r.command ≡ 0) × (r.number ≡ 12) × (r.place ≡ 0) → Answers m n top line b b r
   unfolding command_of answered_by
-  answer-malformed e d = let q = by-none m n top line (r.malformed e) in record { command-is = sym (rw q refl); answers = rw d (sym (rw q refl)) }
+  answer-malformed e {r} p = let q = by-none m n top line e in record { command-is = rw q p.0; answers = rw (q, answered_by, p.1, p.2) refl }
 
-  pub answer-made : (k ≡ 0 → ⊥) → {j : ℕ} → j ≡ cell_count (m * n) k → {client : ℕ} → client ≡ client_in line → {b' : List ℕ} {number place : ℕ} →
-      placed number place b' ≡ answered_by register_calls b (read_command m n top k client (take (j - 0) cells)) → Answers m n top line b b' (record { command = k; number = number; place = place })
-  answer-made h {j} e {client} f d = record { command-is = sym (ap command_of read ∙ command-of m n top k client (take (j - 0) cells)); answers = d ∙ sym (ap (answered_by register_calls b) read) }
+  pub answer-made : {cells : List ℕ} {k : Command} → CommandRead (m * n) line cells k → {x : ℕ} → x ≡ command_number k → {j : ℕ} → j ≡ cell_count (m * n) (command_number k) → {b' : List ℕ} {number place : ℕ} →
+      placed number place b' ≡ answered_by register_calls b (read_command m n top (command_number k) (client_of k) (take j cells)) → Answers m n top line b b' (record { command = x; number = number; place = place })
+  answer-made {cells} {k} r y {j} e d = record { command-is = y ∙ sym (ap command_of read ∙ command-of m n top (command_number k) (client_of k) (take j cells)); answers = d ∙ sym (ap (answered_by register_calls b) read) }
     where
-      cells_are : take (j - 0) cells ≡ cells_in (m * n) line
-      cells_are = let z : j - 0 ≡ cell_count (m * n) k = omega arith in rw z (r.cells_are h)
+      cells_are : take j cells ≡ cells_in (m * n) line
+      cells_are = rw e r.cells_are
 
-      read : read_by m n top line ≡ read_command m n top k client (take (j - 0) cells)
-      read = by-command m n top line (r.laid h) ∙ rw (← (r.command-is h), ← f, ← cells_are) refl
+      read : read_by m n top line ≡ read_command m n top (command_number k) (client_of k) (take j cells)
+      read = by-command m n top line r.laid ∙ rw (← r.states.command-is, ← r.states.client-is, ← cells_are) refl

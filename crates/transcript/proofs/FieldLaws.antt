@@ -1,9 +1,9 @@
 -- Fields of the input, read and tested.
 --
 --   field_told        ==  the bytes are those of a number's field, as the code finds it
---   lent_length       ==  a field of three bytes has three
+--   front_long        ==  the front of a list is there still where it was written over
 --   CellLaid b i      ==  the cell i of the bytes b is laid as a number of at most 255
---   CellsTo k at b c o  ==  o is c with the first k cells of b, which are laid so and take `at` bytes
+--   CellsTo k b c o   ==  o is c with the first k cells of b, which are laid so
 --   cells-none, cells-next, cells-all  ==  the loop's start, one turn, and its end
 --   cells-above, cells-unlaid  ==  a cell above 255, and one that is not laid so
 use mathlib.Core.Path.{◌≡◌, refl, sym, ap, ◌∙◌}
@@ -14,9 +14,13 @@ use Prim.Native.Nat.{ℕ, ◌+◌, ◌-◌, ◌*◌, ◌≤◌, ◌<◌}
 use native.Mathlib.Nat.{mul_comm}
 use native.Mathlib.Decide.{ℕ_discrete}
 use native.Mathlib.Omega.{arith}
-use lib.ListN.{length, get_or, take, drop, set, length-map, length-drop}
-use lib.Seq.{take_all, length-take-le}
-use Rattle.permutations.proofs.ListLaws.{part-is, part_length, at_map}
+use lib.ListN.{length, get_or, take, drop, set, length-map, length-append}
+use lib.Dec.{eqb}
+use lib.Pointwise.{pointwise}
+use Rattle.std.proofs.lemmas.Bool.Decides.{Decides-eqb}
+use Rattle.std.proofs.lemmas.Slice.Eq.{slice_eq-Decides}
+use lib.Seq.{take_at, length-take-le}
+use Rattle.permutations.proofs.ListLaws.{at_map}
 use Rattle.grids.proofs.QuestionLaws.{capped_at, at-capped}
 use Rattle.layout.specs.Decimal.{field}
 use Rattle.layout.specs.Layout.{fields, number_at, cells_of}
@@ -24,24 +28,23 @@ use Rattle.layout.proofs.DecimalLaws.{length-field}
 use Rattle.layout.proofs.LayoutLaws.{field_at}
 use Rattle.layout.proofs.LineLaws.{of_parts, length-cells, cell_at}
 use Rattle.lines.proofs.LineLaws.{ReadTo, read_none, read_next, read_all}
+use Rattle.lines.proofs.NumberLaws.{lent}
 use Rattle.transcript.specs.Fields.{ReadsCells}
 
 -- ---- one field
 
-pub field_told : (b z ys rest : List ℕ) (n : ℕ) {r : Bool} → length b ≤ length z → ys ≡ field (length (take (length b - 0) z)) n →
-    (r ≡ true) ↔ (take (length (take (length b - 0) (ys ++ rest))) b ≡ take (length b - 0) (ys ++ rest)) → (r ≡ true) ↔ (b ≡ field (length b) n)
+pub field_told : (b z ys rest : List ℕ) (n : ℕ) {r : Bool} → length b ≤ length z → ys ≡ field (length (take (length b) z)) n →
+    r ≡ pointwise eqb b (take (length b) (ys ++ rest)) → (r ≡ true) ↔ (b ≡ field (length b) n)
 field_told b z ys rest n fits y h =
-    let w : ys ≡ field (length b) n = rw (part_length z (length b) fits) at y in
+    let w : ys ≡ field (length b) n = rw (length-take-le (length b) z fits) at y in
     let l : length ys ≡ length b = ap length w ∙ length-field (length b) n in
-    let p : take (length b - 0) (ys ++ rest) ≡ ys = part-is ys rest (length b) l in
-    let t : take (length ys) b ≡ b = take_all (length ys) b (omega arith) in
-    (λ e. sym t ∙ (rw p at (h.0 e)) ∙ w, λ e. h.1 (rw p (t ∙ e ∙ sym w)))
+    let p : take (length b) (ys ++ rest) ≡ ys = take_at ys rest (length b) l in
+    let d = slice_eq-Decides Decides-eqb b (take (length b) (ys ++ rest)) _ h in
+    (λ e. d.0 e ∙ p ∙ w, λ e. d.1 (e ∙ sym (p ∙ w)))
 
--- a field of three bytes, as it is lent
-pub lent_length : (b : List ℕ) (at : ℕ) → at + 3 ≤ length b → length (take (at + 3 - at) (drop at b)) ≡ 3
-lent_length b at h =
-    let z : at + 3 - at ≡ 3 = omega arith in
-    rw z (length-take-le 3 (drop at b) (omega (arith, length-drop at b)))
+-- the front of a list, written over by as many
+pub front_long : (z ys : List ℕ) (n : ℕ) → length ys ≡ length (take n z) → n ≤ length z → n ≡ length (take n (ys ++ drop n z))
+front_long z ys n h l = sym (length-take-le n (ys ++ drop n z) (omega (arith, length-append ys (drop n z), length-take-le n z l)))
 
 -- ---- cells
 
@@ -49,33 +52,28 @@ pub record CellLaid (b : List ℕ) (i : ℕ) : Type 0 where
   pub bytes : take 3 (drop (3 * i) b) ≡ field 3 (number_at 3 (3 * i) b)
   pub at_most : number_at 3 (3 * i) b ≤ 255
 
-pub record CellsTo (k at : ℕ) (b c o : List ℕ) : Type 0 where
-  pub place : at ≡ 3 * k
+pub record CellsTo (k : ℕ) (b c o : List ℕ) : Type 0 where
   pub so_far : ReadTo k b c o
   pub laid : (i : ℕ) → i < k → CellLaid b i
 
-pub cells-none : (b c : List ℕ) → CellsTo 0 0 b c c
-cells-none b c = record { place = refl; so_far = read_none b c; laid = λ i h. absurd (omega arith) }
+pub cells-none : (b c : List ℕ) → CellsTo 0 b c c
+cells-none b c = record { so_far = read_none b c; laid = λ i h. absurd (omega arith) }
 
-module _ {k at : ℕ} {b c o : List ℕ} (t : CellsTo k at b c o) (h : k < length c) {x : ℕ} (e : x ≡ number_at 3 at b) where
-  here : x ≡ number_at 3 (3 * k) b
-  here = e ∙ ap (λ (i : ℕ). number_at 3 i b) t.place
+-- the three bytes of cell k, as they are lent, and the number that they state
+module _ {k : ℕ} {b c o : List ℕ} (t : CellsTo k b c o) (h : k < length c) {x : ℕ} (here : x ≡ number_at 3 (3 * k) b) where
+  lent_is : lent 3 (3 * k) b ≡ take 3 (drop (3 * k) b)
+  lent_is =
+      let z : 3 * k + 3 - 3 * k ≡ 3 = omega arith in
+      rw z refl
 
-  -- the three bytes of the cell, as they are lent
-  lent : take (at + 3 - at) (drop at b) ≡ take 3 (drop (3 * k) b)
-  lent =
-      let z : at + 3 - at ≡ 3 = omega arith in
-      rw (z, t.place) refl
-
-  pub cells-next : x ≤ 255 → {w : ℕ} → w ≡ 3 → take (at + 3 - at) (drop at b) ≡ field w x → CellsTo (k + 1) (at + 3) b c (set o k x)
+  pub cells-next : x ≤ 255 → {w : ℕ} → w ≡ 3 → lent 3 (3 * k) b ≡ field w x → CellsTo (k + 1) b c (set o k x)
   cells-next small {w} y f = record {
-    place = omega (arith, t.place);
     so_far = read_next x t.so_far h here;
     laid = λ i l. each i l (ℕ_discrete i k);
   }
     where
       each : (i : ℕ) → i < k + 1 → Dec (i ≡ k) → CellLaid b i
-      each i l (yes d) = rw d (record { bytes = sym lent ∙ f ∙ rw (y, here) refl; at_most = omega (arith, here) })
+      each i l (yes d) = rw d (record { bytes = sym lent_is ∙ f ∙ rw (y, here) refl; at_most = omega (arith, here) })
       each i l (no n) = t.laid i (omega arith)
 
   cell-is : get_or (cells_of (length c) b) k 0 ≡ x
@@ -88,9 +86,9 @@ module _ {k at : ℕ} {b c o : List ℕ} (t : CellsTo k at b c o) (h : k < lengt
     kept = z;
   }
 
-  pub cells-unlaid : (take (at + 3 - at) (drop at b) ≡ field (length (take (at + 3 - at) (drop at b))) x → ⊥) → length (take (at + 3 - at) (drop at b)) ≡ 3 → length o ≡ length c → ReadsCells b (length c) o false
+  pub cells-unlaid : (lent 3 (3 * k) b ≡ field (length (lent 3 (3 * k) b)) x → ⊥) → length (lent 3 (3 * k) b) ≡ 3 → length o ≡ length c → ReadsCells b (length c) o false
   cells-unlaid n w z = record {
-    decides = (λ d. absurd (true≢false (sym d)), λ p. absurd (n (lent ∙ at_field p.0 ∙ rw (w, cell-is) refl)));
+    decides = (λ d. absurd (true≢false (sym d)), λ p. absurd (n (lent_is ∙ at_field p.0 ∙ rw (w, cell-is) refl)));
     read = λ d. absurd (true≢false (sym d));
     kept = z;
   }
@@ -100,9 +98,9 @@ module _ {k at : ℕ} {b c o : List ℕ} (t : CellsTo k at b c o) (h : k < lengt
           let f = field_at 3 (cells_of (length c) b) [] k (omega (arith, length-cells (length c) b)) in
           ap (λ (l : List ℕ). take 3 (drop (3 * k) l)) (q ∙ sym (append-nil (fields 3 (cells_of (length c) b)))) ∙ rw (mul_comm k 3) at f
 
-pub cells-all : {k at : ℕ} {b c o : List ℕ} → CellsTo k at b c o → length c ≤ k → length b ≡ 3 * length c → ReadsCells b (length c) o true
+pub cells-all : {k : ℕ} {b c o : List ℕ} → CellsTo k b c o → length c ≤ k → length b ≡ 3 * length c → ReadsCells b (length c) o true
 unfolding fields
-cells-all {k} {at} {b} {c} {o} t h z = record {
+cells-all {k} {b} {c} {o} t h z = record {
   decides = (λ d. (whole, at-capped 255 cs small), λ p. refl);
   read = λ d. read_all t.so_far h;
   kept = t.so_far.so_far.size;

@@ -1,5 +1,7 @@
 -- What stands before the cells of a command line: its command, and the client but for command 3.
 --
+--   no-count, with-client   ==  a command that is no count has another number than 3
+--   cells-three, cells-other  ==  how many cells, for command 3 and for another
 --   lead-three, lead-other  ==  how many bytes, for command 3 and for another
 --   lead-least              ==  at least one field
 --   no-client, some-client  ==  the client of command 3, and of another
@@ -7,8 +9,8 @@
 use mathlib.Core.Path.{◌≡◌, refl, sym, ap, ap₂, ◌∙◌}
 use mathlib.Core.List.{List, ◌++◌, flatten, append-nil}
 use mathlib.Core.Bool.{Bool, true, false, true≢false}
-use mathlib.Core.Logic.{◌↔◌}
-use Prim.Native.Nat.{ℕ, ◌≤◌}
+use mathlib.Core.Logic.{◌↔◌, ◌⊎◌, inl, inr}
+use Prim.Native.Nat.{ℕ, ◌*◌, ◌≤◌}
 use native.Mathlib.Decide.{ℕ_discrete}
 use native.Mathlib.Omega.{arith}
 use lib.ListN.{length, take, drop, take-append-drop, length-drop}
@@ -19,9 +21,30 @@ use Rattle.layout.specs.Decimal.{field}
 use Rattle.layout.specs.Layout.{fields, number_at}
 use Rattle.layout.proofs.DecimalLaws.{length-field}
 use Rattle.layout.proofs.LineLaws.{drop-take}
-use Rattle.protocol.specs.Input.{leads, lead_length, command_in, client_in}
+use Rattle.protocol.specs.Input.{leads, lead_length, cell_count, command_in, client_in}
+use Rattle.transcript.specs.Commands.{command_number, client_of}
+use Rattle.transcript.specs.declared.commands.Command.{Command}
+use Rattle.transcript.specs.declared.commands.Command.TheVariants.{Enter, Strike}
+
+-- what a match tells of a command that is no count
+pub no-count : (k : Command) → ((c : ℕ) × (k ≡ Enter c)) ⊎ ((c : ℕ) × (k ≡ Strike c)) → command_number k ≡ 3 → ⊥
+no-count k (inl (c, e)) q = omega (arith, ap command_number e, q)
+no-count k (inr (c, e)) q = omega (arith, ap command_number e, q)
+
+-- and of its client
+pub with-client : (k : Command) (c : ℕ) → (k ≡ Enter c) ⊎ (k ≡ Strike c) → (command_number k ≡ 3 → ⊥) × (c ≡ client_of k)
+with-client k c (inl e) = (λ q. omega (arith, ap command_number e, q), sym (ap client_of e))
+with-client k c (inr e) = (λ q. omega (arith, ap command_number e, q), sym (ap client_of e))
 
 module _ (k : ℕ) where
+  pub cells-three : (size : ℕ) → k ≡ 3 → cell_count size k ≡ 2 * size
+  unfolding cell_count
+  cells-three size e = rw (eq-eqb k 3 e, cell_count) refl
+
+  pub cells-other : (size : ℕ) → (k ≡ 3 → ⊥) → cell_count size k ≡ size
+  unfolding cell_count
+  cells-other size n = rw (ne_eqb k 3 n, cell_count) refl
+
   pub lead-three : k ≡ 3 → lead_length k ≡ 6
   unfolding lead_length
   lead-three e = rw (eq-eqb k 3 e, lead_length) refl
@@ -81,15 +104,15 @@ module _ (k : ℕ) (l : List ℕ) (room : lead_length k ≤ length l) where
           let q = ap (λ (w : ℕ). take w l) (sym (lead-other k n)) ∙ p ∙ two_fields n in
           sym (take-take 6 12 l (omega arith)) ∙ ap (take 6) q ∙ take_at (field 6 k) (field 6 (client_in l)) 6 (length-field 6 k)
 
-  pub lead-no-first : {t : Bool} → (t ≡ true) ↔ (take 6 l ≡ field (length (take 6 l)) k) → t ≡ false → (false ≡ true) ↔ Laid
-  lead-no-first told f = (λ e. absurd (true≢false (sym e)), λ p. absurd (true≢false (sym (told.1 (lead-first p)) ∙ f)))
+  module _ {t : Bool} (told : (t ≡ true) ↔ (take 6 l ≡ field (length (take 6 l)) k)) where
+    pub lead-no-first : t ≡ false → (t ≡ true) ↔ Laid
+    lead-no-first f = (λ e. absurd (true≢false (sym e ∙ f)), λ p. absurd (true≢false (sym (told.1 (lead-first p)) ∙ f)))
 
-  module _ {t : Bool} (told : (t ≡ true) ↔ (take 6 l ≡ field (length (take 6 l)) k)) (y : t ≡ true) where
-    pub lead-alone : k ≡ 3 → (true ≡ true) ↔ Laid
-    lead-alone e = (λ u. ap (λ (w : ℕ). take w l) (lead-three k e) ∙ first_of (told.0 y) ∙ sym (three-fields e), λ p. refl)
+    pub lead-alone : k ≡ 3 → (t ≡ true) ↔ Laid
+    lead-alone e = (λ y. ap (λ (w : ℕ). take w l) (lead-three k e) ∙ first_of (told.0 y) ∙ sym (three-fields e), λ p. told.1 (lead-first p))
 
-    pub lead-both : (k ≡ 3 → ⊥) → {u : Bool} {c : ℕ} → c ≡ client_in l → (u ≡ true) ↔ (take 6 (drop 6 l) ≡ field (length (take 6 (drop 6 l))) c) → (u ≡ true) ↔ Laid
-    lead-both n {u} {c} d tells = (to, back)
+    pub lead-both : t ≡ true → (k ≡ 3 → ⊥) → {u : Bool} {c : ℕ} → c ≡ client_in l → (u ≡ true) ↔ (take 6 (drop 6 l) ≡ field (length (take 6 (drop 6 l))) c) → (u ≡ true) ↔ Laid
+    lead-both y n {u} {c} d tells = (to, back)
       where
         second-six : length (take 6 (drop 6 l)) ≡ 6
         second-six = length-take-le 6 (drop 6 l) (omega (arith, length-drop 6 l, lead-other k n))

@@ -4,6 +4,7 @@
 --   ready-runs       ==  the register is opened, and the command lines can be answered
 --   ran-small, ran-room  ==  the register fits behind what was printed for them
 --   ran              ==  with the register copied there, the output slice begins with what planbook prints
+--   fault-some       ==  a fault has a number
 --   small-register, small-out  ==  a slice is too small: nothing is done
 --   start-ended      ==  a check gets a no, and its line is written
 --   start_fits, start-ready  ==  every check gets a yes: the register fits its slice, and the run can begin
@@ -14,15 +15,13 @@ use mathlib.Core.Bool.{false}
 use Prim.Native.Nat.{ℕ, zero, suc, ◌+◌, ◌-◌, ◌≤◌, ◌<◌}
 use native.Mathlib.Omega.{arith}
 use lib.ListN.{length, take, drop, length-append, length-drop}
-use lib.Seq.{take_at, drop_at, take-length, drop-drop}
+use lib.Seq.{length-take-le, take_at, drop_at, drop-drop}
 use borrow.Author.Tests.{le-leb, lt-leb}
-use borrow.Rule.Slice.PartMut.{mid_of, put_mid}
-use Rattle.permutations.proofs.ListLaws.{part_length}
+use borrow.Rule.Slice.PartMut.{put_mid}
 use Rattle.layout.specs.Layout.{Shape, layout_length, InLimits}
 use Rattle.calls.specs.Calls.{Outcome, opened, placed, shape}
 use Rattle.machine.specs.Machine.{shown}
 use Rattle.machine.proofs.Demand3Laws.{open-answers}
-use Rattle.calls.proofs.ValidMoves.{tail-part, put-tail}
 use Rattle.protocol.specs.Input.{further_lines}
 use Rattle.protocol.specs.Commands.{report}
 use Rattle.protocol.specs.Transcript.{byte_limit, shape_in, start_no, reports, printed_register, transcript}
@@ -31,9 +30,13 @@ use Rattle.protocol.proofs.ReportLaws.{length-report}
 use Rattle.protocol.proofs.StartLaws.{start-pass}
 use Rattle.protocol.proofs.RunLaws.{start-refused, register-shown, length-register, transcript-ends, transcript-fits}
 use Rattle.protocol.proofs.SliceLaws.{has-room}
-use Rattle.transcript.specs.declared.starts.Start.{Start}
+use Rattle.transcript.specs.declared.start.Start.{Start}
 use Rattle.transcript.specs.Answers.{Runs, Answered}
-use Rattle.transcript.specs.Starts.{check_number, Starts}
+use Rattle.refusals.proofs.NumberLaws.{no-some}
+use Rattle.refusals.specs.declared.Asked.TheVariants.{No}
+use Rattle.transcript.specs.declared.starts.Fault.{Fault}
+use Rattle.transcript.specs.declared.starts.Fault.TheVariants.{LongInput, Malformed, Refused, LongRegister}
+use Rattle.transcript.specs.Starts.{fault_number, Started}
 use Rattle.transcript.specs.Runs.{Ready, Ran}
 
 -- ---- the run after the checks
@@ -74,7 +77,7 @@ module _ {input b out o : List ℕ} {n : ℕ} (passes : start_no input ≡ 0) (r
   pub ran-room : n + length b ≤ length o
   ran-room = omega (arith, ran-small, kept)
 
-  pub ran : (ys : List ℕ) → ys ≡ take (length b) b ++ drop (length b) (mid_of n (length o - n) o) → Ran input b out (put_mid n (length o - n) o ys) (n + length b)
+  pub ran : (ys : List ℕ) → ys ≡ b → Ran input b out (put_mid n (n + length b - n) o ys) (n + length b)
   unfolding over
   ran ys y = record { register = last; count = counted; printed = printed }
     where
@@ -87,13 +90,19 @@ module _ {input b out o : List ℕ} {n : ℕ} (passes : start_no input ≡ 0) (r
       behind : drop n o ≡ drop n out
       behind = ap (drop n) a.printed ∙ drop_at lines-printed (drop n out) n (sym a.count)
 
-      printed : put_mid n (length o - n) o ys ≡ transcript input ++ drop (length (transcript input)) out
+      printed : put_mid n (n + length b - n) o ys ≡ transcript input ++ drop (length (transcript input)) out
       printed =
-          put-tail o n fits ys
-          ∙ rw (y, tail-part o n fits, behind, front, take-length b, drop-drop (length b) n out, counted) (sym (append_assoc lines-printed b (drop (length (transcript input)) out)))
+          let m : n + length b - n ≡ length b = omega arith in
+          rw (y, m, behind, front, drop-drop (length b) n out, counted) (sym (append_assoc lines-printed b (drop (length (transcript input)) out)))
           ∙ ap (λ (x : List ℕ). x ++ drop (length (transcript input)) out) (sym whole)
 
 -- ---- the whole
+
+pub fault-some : (f : Fault) → fault_number f ≡ 0 → ⊥
+fault-some LongInput e = omega arith
+fault-some Malformed e = omega arith
+fault-some (Refused x) e = no-some {a = No x} refl e
+fault-some LongRegister e = omega arith
 
 module _ (input register out : List ℕ) where
   none : has_room register out ≡ false → transcribing 0 register out ≡ transcribed input register out
@@ -120,30 +129,27 @@ module _ (input register out : List ℕ) where
         let z = length-report 0 (suc j) 0 in
         done (sym (ap length p.0 ∙ z)) (rw p.1 refl) (d ∙ rw (p.0, z) refl)
 
-    module _ {start : Start} (s : Starts input start) where
-      pub start-ended : {number : ℕ} → number ≡ check_number start.found → (number ≡ 0 → ⊥) → {out' : List ℕ} → out' ≡ report 0 number 0 ++ drop 19 out → transcribing 19 register out' ≡ transcribed input register out
-      start-ended {number} q n {out'} e = go number refl
-        where
-          go : (j : ℕ) → number ≡ j → transcribing 19 register out' ≡ transcribed input register out
-          go zero z = absurd (n z)
-          go (suc j) z = ended j (sym (q ∙ s.number_is) ∙ z) (rw z at e)
+    pub start-ended : {number : ℕ} → number ≡ start_no input → (number ≡ 0 → ⊥) → {out' : List ℕ} → out' ≡ report 0 number 0 ++ drop 19 out → transcribing 19 register out' ≡ transcribed input register out
+    start-ended {number} q n {out'} e = go number refl
+      where
+        go : (j : ℕ) → number ≡ j → transcribing 19 register out' ≡ transcribed input register out
+        go zero z = absurd (n z)
+        go (suc j) z = ended j (sym q ∙ z) (rw z at e)
 
-      start-zero : check_number start.found ≡ 0 → start_no input ≡ 0
-      start-zero z = sym s.number_is ∙ z
+    module _ {start : Start} (s : Started input start) where
+      pub start_fits : start.length ≤ length register
+      start_fits = omega (arith, s.length-is, ((start-pass input).0 s.passes).register-short)
 
-      pub start_fits : check_number start.found ≡ 0 → start.length ≤ length register
-      start_fits z = omega (arith, s.length-is z, ((start-pass input).0 (start-zero z)).register-short)
-
-      pub start-ready : check_number start.found ≡ 0 → Ready input start (take (start.length - 0) register) out
-      start-ready z = record {
-        passes = start-zero z;
-        shape_is = s.shape_is z;
-        sized = part_length register start.length (start_fits z) ∙ s.length-is z;
+      pub start-ready : Ready input start (take start.length register) out
+      start-ready = record {
+        passes = s.passes;
+        shape_is = s.shape_is;
+        sized = length-take-le start.length register start_fits ∙ s.length-is;
         room = h;
       }
 
-      pub run-done : check_number start.found ≡ 0 → {r : ℕ} {ys out' : List ℕ} → Ran input ys out out' r → transcribing r (ys ++ drop (start.length - 0) register) out' ≡ transcribed input register out
+      pub run-done : {r : ℕ} {ys out' : List ℕ} → Ran input ys out out' r → transcribing r (ys ++ drop start.length register) out' ≡ transcribed input register out
       unfolding over
-      run-done z {ys = ys} d =
-          let e : start.length - 0 ≡ length (printed_register input) = omega (arith, s.length-is z, length-register input (start-zero z)) in
+      run-done {ys = ys} d =
+          let e : start.length ≡ length (printed_register input) = omega (arith, s.length-is, length-register input s.passes) in
           done d.count (rw (e, d.register) refl) d.printed

@@ -11,18 +11,21 @@
 --   shape-states     ==  then these are the numbers that line 1 states
 --   rest_lines       ==  where each check gets a yes, the further lines begin behind the first 25 bytes
 --   LineRead input m n top capacity  ==  the input is short enough, line 1 is laid, and these are its numbers
---   line_read        ==  what the code knows of it then
 --   long-refused, short-refused, line_refused, numbers-refused, length-refused  ==  the ways out with a no: 11, 12, 12, 1 to 4, 13
---   start-made       ==  the way out with a yes
+--   passes-all, shape-read, length-read  ==  the way out with a yes
 use mathlib.Core.Path.{◌≡◌, refl, sym, ap, ◌∙◌}
 use mathlib.Core.List.{List, [], ◌∷◌, ◌++◌, flatten, append_assoc}
-use mathlib.Core.Bool.{Bool, true, false, true≢false, not}
+use mathlib.Core.Bool.{Bool, true, false, true≢false}
 use mathlib.Core.Logic.{◌↔◌}
 use Prim.Native.Nat.{ℕ, zero, suc, ◌+◌, ◌-◌, ◌*◌, ◌/◌, ◌%◌, ◌≤◌, ◌<◌}
 use native.Mathlib.Omega.{arith}
 use lib.ListN.{length, get_or, take, drop, set, length-append, take-append-drop}
 use lib.Seq.{take_at, take-take}
-use borrow.Author.Tests.{not-true, not-false}
+use lib.Dec.{eqb}
+use lib.Pointwise.{pointwise}
+use Rattle.std.specs.List.{starts_with}
+use Rattle.std.proofs.lemmas.Bool.Decides.{Decides-eqb}
+use Rattle.std.proofs.lemmas.Slice.Eq.{slice_eq-Decides}
 use Rattle.permutations.specs.Lists.{All}
 use Rattle.permutations.proofs.BoolLaws.{refuted}
 use Rattle.permutations.proofs.ListLaws.{all_append}
@@ -40,9 +43,6 @@ use Rattle.protocol.specs.Transcript.{shape_in, question12, start_no}
 use Rattle.protocol.proofs.LineLaws.{lines_other, lines-joined}
 use Rattle.protocol.proofs.ShapeLaws.{length-shape, shape-length}
 use Rattle.protocol.proofs.StartLaws.{over-limit, start-line, start-numbers, start-length, start-pass}
-use Rattle.transcript.specs.declared.starts.Check.TheVariants.{Passed}
-use Rattle.transcript.specs.declared.starts.Start.{Start}
-use Rattle.transcript.specs.Starts.{check_number, Starts}
 
 -- ---- line 1 is written
 
@@ -52,12 +52,16 @@ unfolding shape_line
 shape-written l s z a b c d = rw (d, c, b, a) (fields-whole l (s.rows ∷ s.columns ∷ s.top ∷ s.capacity ∷ []) z)
 
 pub line-decides : (input l : List ℕ) {o p q r : List ℕ} {m n top capacity : ℕ} {t : Bool} → length l ≡ 25 → m ≡ number_at number_width rows_place input → n ≡ number_at number_width columns_place input → top ≡ number_at number_width top_place input → capacity ≡ number_at number_width capacity_place input →
-    o ≡ with_field rows_place m l → p ≡ with_field columns_place n o → q ≡ with_field top_place top p → r ≡ with_field capacity_place capacity q → (t ≡ true) ↔ (take (length (set r (capacity_place + number_width) 10)) input ≡ set r (capacity_place + number_width) 10) →
+    o ≡ with_field rows_place m l → p ≡ with_field columns_place n o → q ≡ with_field top_place top p → r ≡ with_field capacity_place capacity q → t ≡ starts_with eqb input (set r (capacity_place + number_width) 10) →
     (t ≡ true) ↔ (take 25 input ≡ shape_line (decode_shape input))
 unfolding decode_shape
-line-decides input l z e f g h a b c d k =
+line-decides input l {t = t} z e f g h a b c d k =
     let w = shape-written l (decode_shape input) z (rw e at a) (rw f at b) (rw g at c) (rw h at d) in
-    rw (w, length-shape (decode_shape input)) at k
+    let x = shape_line (decode_shape input) in
+    let k' : t ≡ pointwise eqb x (take (length x) input) = rw w at k in
+    let y = slice_eq-Decides Decides-eqb x (take (length x) input) t k' in
+    let q : (t ≡ true) ↔ (take (length x) input ≡ x) = (λ u. sym (y.0 u), λ u. y.1 (sym u)) in
+    rw (length-shape (decode_shape input)) at q
 
 -- ---- the first line of bytes
 
@@ -156,22 +160,19 @@ rest_lines input e =
 
 -- ---- the ways out
 
-refused : (input : List ℕ) {k : ℕ} → start_no input ≡ k → (k ≡ 0 → ⊥) → {r : Start} → check_number r.found ≡ k → Starts input r
-refused input e n p = record { number_is = p ∙ sym e; shape_is = λ z. absurd (n (sym p ∙ z)); length-is = λ z. absurd (n (sym p ∙ z)) }
-
 module _ (input : List ℕ) where
-  pub long-refused : 65536 < length input → {r : Start} → check_number r.found ≡ 11 → Starts input r
-  long-refused h p = refused input (over-limit input h) (λ z. omega arith) p
+  pub long-refused : 65536 < length input → 11 ≡ start_no input
+  long-refused h = sym (over-limit input h)
 
   module _ (short : length input ≤ 65536) where
-    unlaid : (take 25 input ≡ shape_line (decode_shape input) → ⊥) → {r : Start} → check_number r.found ≡ 12 → Starts input r
-    unlaid n p = refused input (start-line input short (refuted (question12 input).answer (shape-told input) n)) (λ z. omega arith) p
+    unlaid : (take 25 input ≡ shape_line (decode_shape input) → ⊥) → 12 ≡ start_no input
+    unlaid n = sym (start-line input short (refuted (question12 input).answer (shape-told input) n))
 
-    pub short-refused : length input < 25 → {r : Start} → check_number r.found ≡ 12 → Starts input r
-    short-refused h p = unlaid (λ e. omega (arith, shape-whole input (decode_shape input) e)) p
+    pub short-refused : length input < 25 → 12 ≡ start_no input
+    short-refused h = unlaid (λ e. omega (arith, shape-whole input (decode_shape input) e))
 
-    pub line_refused : {t : Bool} → (t ≡ true) ↔ (take 25 input ≡ shape_line (decode_shape input)) → not t ≡ true → {r : Start} → check_number r.found ≡ 12 → Starts input r
-    line_refused {t} d n p = unlaid (λ e. true≢false (sym (d.1 e) ∙ not-true t n)) p
+    pub line_refused : {t : Bool} → (t ≡ true) ↔ (take 25 input ≡ shape_line (decode_shape input)) → t ≡ false → 12 ≡ start_no input
+    line_refused d n = unlaid (λ e. true≢false (sym (d.1 e) ∙ n))
 
 pub record LineRead (input : List ℕ) (m n top capacity : ℕ) : Type 0 where
   pub short : length input ≤ 65536
@@ -181,39 +182,36 @@ pub record LineRead (input : List ℕ) (m n top capacity : ℕ) : Type 0 where
   pub top_read : top ≡ number_at number_width top_place input
   pub capacity-read : capacity ≡ number_at number_width capacity_place input
 
-module _ {input : List ℕ} {m n top capacity : ℕ} where
-  pub line_read : {t : Bool} → length input ≤ 65536 → (t ≡ true) ↔ (take 25 input ≡ shape_line (decode_shape input)) → not t ≡ false → m ≡ number_at number_width rows_place input → n ≡ number_at number_width columns_place input → top ≡ number_at number_width top_place input →
-      capacity ≡ number_at number_width capacity_place input → LineRead input m n top capacity
-  line_read {t} s d l a b c e = record { short = s; laid = d.0 (not-false t l); rows-read = a; columns-read = b; top_read = c; capacity-read = e }
+module _ {input : List ℕ} {m n top capacity : ℕ} (o : LineRead input m n top capacity) where
+  states : shape m n top capacity ≡ shape_in input
+  unfolding decode_shape
+  states = (λ i. record { rows = o.rows-read i; columns = o.columns-read i; top = o.top_read i; capacity = o.capacity-read i }) ∙ sym (shape-states input o.laid)
 
-  module _ (o : LineRead input m n top capacity) where
-    states : shape m n top capacity ≡ shape_in input
-    unfolding decode_shape
-    states = (λ i. record { rows = o.rows-read i; columns = o.columns-read i; top = o.top_read i; capacity = o.capacity-read i }) ∙ sym (shape-states input o.laid)
+  line-yes : (question12 input).answer ≡ true
+  line-yes = (shape-told input).1 o.laid
 
-    line-yes : (question12 input).answer ≡ true
-    line-yes = (shape-told input).1 o.laid
+  pub numbers-refused : {k : ℕ} → k ≡ numbers_no m n top capacity → (k ≡ 0 → ⊥) → k ≡ start_no input
+  numbers-refused {k} e h = sym (go k (sym (e ∙ ap (λ (s : Shape). numbers_no s.rows s.columns s.top s.capacity) states)) h)
+    where
+      go : (k : ℕ) → numbers_no (shape_in input).rows (shape_in input).columns (shape_in input).top (shape_in input).capacity ≡ k → (k ≡ 0 → ⊥) → start_no input ≡ k
+      go zero d n = absurd (n refl)
+      go (suc k) d n = start-numbers input o.short line-yes k d
 
-    pub numbers-refused : {k : ℕ} → k ≡ numbers_no m n top capacity → (k ≡ 0 → ⊥) → {r : Start} → check_number r.found ≡ k → Starts input r
-    numbers-refused {k} e h p = refused input (go k (sym (e ∙ ap (λ (s : Shape). numbers_no s.rows s.columns s.top s.capacity) states)) h) h p
-      where
-        go : (k : ℕ) → numbers_no (shape_in input).rows (shape_in input).columns (shape_in input).top (shape_in input).capacity ≡ k → (k ≡ 0 → ⊥) → start_no input ≡ k
-        go zero d n = absurd (n refl)
-        go (suc k) d n = start-numbers input o.short line-yes k d
+  module _ (z : 0 ≡ numbers_no m n top capacity) {x : ℕ} (q : x ≡ line_start (m * n) capacity) where
+    within : InLimits (shape_in input)
+    within = rw states at (numbers-within (shape m n top capacity) z)
 
-    module _ (z : 0 ≡ numbers_no m n top capacity) {x : ℕ} (q : x ≡ line_start (m * n) capacity) where
-      within : InLimits (shape_in input)
-      within = rw states at (numbers-within (shape m n top capacity) z)
+    sized : x ≡ layout_length (shape_in input)
+    sized = rw (← states) (length-is (shape m n top capacity) q)
 
-      sized : x ≡ layout_length (shape_in input)
-      sized = rw (← states) (length-is (shape m n top capacity) q)
+    pub length-refused : 65536 < x → 13 ≡ start_no input
+    length-refused h = sym (start-length input o.short line-yes within (omega (arith, sized)))
 
-      pub length-refused : 65536 < x → {r : Start} → check_number r.found ≡ 13 → Starts input r
-      length-refused h p = refused input (start-length input o.short line-yes within (omega (arith, sized))) (λ d. omega arith) p
+    pub passes-all : x ≤ 65536 → start_no input ≡ 0
+    passes-all h = (start-pass input).1 (record { input-short = o.short; line-laid = line-yes; limits = within; register-short = omega (arith, sized) })
 
-      pub start-made : x ≤ 65536 → Starts input (record { found = Passed; rows = m; columns = n; top = top; capacity = capacity; length = x })
-      start-made h = record {
-        number_is = sym ((start-pass input).1 (record { input-short = o.short; line-laid = line-yes; limits = within; register-short = omega (arith, sized) }));
-        shape_is = λ d. states;
-        length-is = λ d. sized;
-      }
+    pub shape-read : shape m n top capacity ≡ shape_in input
+    shape-read = states
+
+    pub length-read : x ≡ layout_length (shape_in input)
+    length-read = sized

@@ -1,20 +1,35 @@
 -- Command lines as the code reads them. Between functions: no answer of a call is defined here.
 --
---   ReadsCommand size line cells r  ==  r is the command of a line that is laid as it should be, and its cells are in front; 0 for another line
+--   command_number k, client_of k  ==  the number that states a command, and its client; 0 for a count, which names none
+--   States line k  ==  the line states this command and its client
+--   CommandRead size line cells k  ==  the line is laid as it should be and states the command k, and its cells are in front
 --   Parts c size low high  ==  the bounds that the cells c hold in turn
 --   PrunesParted m n top c number low high  ==  what prune answers and leaves of these bounds
-use Rattle.std.specs.Prelude.{◌≡◌, List, true, false, ℕ, ◌≤◌, length, take}
-use Rattle.protocol.specs.Input.{cell_count, command_in, cells_in, is_laid}
+use Rattle.std.specs.Prelude.{◌≡◌, List, true, ℕ, take}
+use Rattle.protocol.specs.Input.{cell_count, command_in, client_in, cells_in, is_laid}
 use Rattle.protocol.specs.Commands.{lows, highs}
 use Rattle.protocol.specs.Readings.{pruned_cells}
+use Rattle.transcript.specs.declared.commands.Command.{Command}
+use Rattle.transcript.specs.declared.commands.Command.TheVariants.{Enter, Strike, Count}
 
-pub record ReadsCommand (size : ℕ) (line cells : List ℕ) (r : ℕ) : Type 0 where
-  pub malformed : r ≡ 0 → is_laid size line ≡ false
-  pub laid : (r ≡ 0 → ⊥) → is_laid size line ≡ true
-  pub command-is : (r ≡ 0 → ⊥) → r ≡ command_in line
-  pub cells_are : (r ≡ 0 → ⊥) → take (cell_count size r) cells ≡ cells_in size line
-  pub kept : length cells ≡ 256
-  pub small : r ≤ 3
+abbrev pub command_number : Command → ℕ
+command_number (Enter client) = 1
+command_number (Strike client) = 2
+command_number Count = 3
+
+abbrev pub client_of : Command → ℕ
+client_of (Enter client) = client
+client_of (Strike client) = client
+client_of Count = 0
+
+pub record States (line : List ℕ) (k : Command) : Type 0 where
+  pub command-is : command_number k ≡ command_in line
+  pub client-is : client_of k ≡ client_in line
+
+pub record CommandRead (size : ℕ) (line cells : List ℕ) (k : Command) : Type 0 where
+  pub laid : is_laid size line ≡ true
+  pub states : States line k
+  pub cells_are : take (cell_count size (command_number k)) cells ≡ cells_in size line
 
 pub record Parts (c : List ℕ) (size : ℕ) (low high : List ℕ) : Type 0 where
   pub low-is : low ≡ lows size c

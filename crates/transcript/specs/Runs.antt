@@ -7,7 +7,7 @@ use Rattle.calls.specs.Calls.{shape}
 use Rattle.layout.specs.Layout.{layout_length}
 use Rattle.protocol.specs.Transcript.{shape_in, start_no, printed_register, transcript}
 use Rattle.protocol.specs.Programs.{output_limit, over}
-use Rattle.transcript.specs.declared.starts.Start.{Start}
+use Rattle.transcript.specs.declared.start.Start.{Start}
 
 pub record Ready (input : List ℕ) (start : Start) (b out : List ℕ) : Type 0 where
   pub passes : start_no input ≡ 0

@@ -1,96 +1,119 @@
 // Command lines.
-ghost use Rattle.std.specs.Prelude.{◌≡◌, true, ◌↔◌, ◌*◌, ◌≤◌, length, take};
-ghost use Rattle.layout.specs.Layout.{fields};
+ghost use Rattle.std.specs.Prelude.{◌≡◌, ℕ, true, false, ◌↔◌, ◌*◌, ◌≤◌, length, take, MatchOption};
+ghost use Rattle.layout.specs.Layout.{fields, number_at};
 ghost use Rattle.machine.specs.CallLists.{register_calls};
 ghost use Rattle.calls.specs.Calls.{placed};
-ghost use Rattle.protocol.specs.Input.{cell_count, leads, lead_length, command_in, client_in};
+ghost use Rattle.protocol.specs.Input.{cell_count, leads, lead_length, client_in, is_laid};
 ghost use Rattle.protocol.specs.Readings.{read_command, answered_by};
-ghost use Rattle.transcript.specs.Commands.{ReadsCommand, Parts, PrunesParted};
+ghost use Rattle.transcript.specs.Commands.{command_number, client_of, States, CommandRead, Parts, PrunesParted};
 
 use crate::fields;
+use crate::start::Start;
 use bounds::prune;
-use lines::numbers;
+use lines::entries::WIDTH;
+use lines::head;
 use register::answers::Placed;
 use register::{counts, entering, striking};
 
-// How many cells a command has, of grids with so many.
-pub fn cell_count(size: usize, command: usize) -> usize
-    requires { size ≤ 128 }
-    ensures { (result ≡ cell_count size command) × (result ≤ 256) }
-{
-    if command == 3 {
-        return 2 * size;
-    }
-    size
+// What a line asks: that a grid be entered, or struck, for a client, or that the entries within bounds be counted.
+#[derive(Clone, Copy)]
+pub enum Command {
+    Enter(usize),
+    Strike(usize),
+    Count,
 }
 
-// How many bytes stand before the cells of a command: its field, and the client's but for command 3.
-fn lead_length(command: usize) -> usize
-    ensures { (result ≡ lead_length command) × (6 ≤ result) × (result ≤ 12) }
-{
-    if command == 3 {
-        return 6;
+impl Command {
+    // The number that states it.
+    pub fn number(self) -> usize
+        ensures { result ≡ command_number self }
+    {
+        match self {
+            Command::Enter(_) => 1,
+            Command::Strike(_) => 2,
+            Command::Count => 3,
+        }
     }
-    12
+
+    // How many cells it has, of grids with so many: low and high of each for a count.
+    pub fn cell_count(self, size: usize) -> usize
+        requires { size ≤ 128 }
+        ensures { (result ≡ cell_count size (command_number self)) × (result ≤ 256) }
+    {
+        match self {
+            Command::Enter(_) | Command::Strike(_) => size,
+            Command::Count => 2 * size,
+        }
+    }
+
+    // How many bytes stand before its cells: its field, and the client's but for a count.
+    fn lead_length(self) -> usize
+        ensures { (result ≡ lead_length (command_number self)) × (6 ≤ result) × (result ≤ 12) }
+    {
+        match self {
+            Command::Enter(_) | Command::Strike(_) => 2 * head::WIDTH,
+            Command::Count => head::WIDTH,
+        }
+    }
 }
 
-// The client that a line states, whose command is known; 0 for command 3, which names none.
-pub fn read_client(line: &[u8], command: usize) -> usize
-    requires { (command ≡ command_in line.now) × (lead_length command ≤ length line.now) }
-    ensures { result ≡ client_in line.now }
+// The client that a line states, if it is long enough.
+fn read_client(line: &[u8]) -> Option<usize>
+    ensures { MatchOption result (length line.now ≤ 11) (λ client. client ≡ number_at 6 6 line.now) }
 {
-    if command == 3 {
-        return 0;
+    if line.len() < 2 * head::WIDTH {
+        return None;
     }
-    numbers::six_wide(line, 6)
+    Some(head::read_field(line, head::WIDTH))
+}
+
+// The command that a line states, if it states one.
+fn read_lead(line: &[u8]) -> Option<Command>
+    ensures { MatchOption result ((size : ℕ) → is_laid size line.now ≡ false) (λ command. States line.now command) }
+{
+    if line.len() < head::WIDTH {
+        return None;
+    }
+    match head::read_field(line, 0) {
+        1 => Some(Command::Enter(read_client(line)?)),
+        2 => Some(Command::Strike(read_client(line)?)),
+        3 => Some(Command::Count),
+        _ => None,
+    }
 }
 
 // Whether what stands before the cells of a line is laid as it should be.
-fn lead_laid(line: &[u8], command: usize) -> bool
-    requires { (command ≡ command_in line.now) × (lead_length command ≤ length line.now) }
-    ensures { (result ≡ true) ↔ (take (lead_length command) line.now ≡ fields 6 (leads command (client_in line.now))) }
+fn lead_laid(line: &[u8], command: Command) -> bool
+    requires { States line.now command × (lead_length (command_number command) ≤ length line.now) }
+    ensures { (result ≡ true) ↔ (take (lead_length (command_number command)) line.now ≡ fields 6 (leads (command_number command) (client_in line.now))) }
 {
-    if !fields::is_field(&line[0..6], command) {
-        return false;
+    let first = fields::is_field(&line[..head::WIDTH], command.number());
+    match command {
+        Command::Enter(client) | Command::Strike(client) => {
+            first && fields::is_field(&line[head::WIDTH..2 * head::WIDTH], client)
+        }
+        Command::Count => first,
     }
-    if command == 3 {
-        return true;
-    }
-    let client = read_client(line, command);
-    fields::is_field(&line[6..12], client)
 }
 
-// The command of a line, with its cells written to the front of a slice; 0 where the line is not laid as it should be.
-pub fn read_command(line: &[u8], size: usize, cells: &mut [u8]) -> usize
+// The command of a line that is laid as it should be, with its cells written to the front of a slice.
+pub fn read_command(line: &[u8], size: usize, cells: &mut [u8]) -> Option<Command>
     requires { (size ≤ 128) × (length cells.old ≡ 256) }
-    ensures { ReadsCommand size line.now cells.new result }
+    ensures { MatchOption result (is_laid size line.now ≡ false) (λ command. CommandRead size line.now cells.new command) }
 {
-    if line.len() < 6 {
-        return 0;
+    let command = read_lead(line)?;
+    let lead = command.lead_length();
+    let count = command.cell_count(size);
+    let end = lead + WIDTH * count;
+    if line.len() == end + 1
+        && line[end] == b'\n'
+        && lead_laid(line, command)
+        && fields::read_cells(&line[lead..end], &mut cells[..count])
+    {
+        Some(command)
+    } else {
+        None
     }
-    let command = numbers::six_wide(line, 0);
-    if command < 1 {
-        return 0;
-    }
-    if 3 < command {
-        return 0;
-    }
-    let lead = lead_length(command);
-    let count = cell_count(size, command);
-    let end = lead + 3 * count;
-    if line.len() != end + 1 {
-        return 0;
-    }
-    if line[end] != 10 {
-        return 0;
-    }
-    if !lead_laid(line, command) {
-        return 0;
-    }
-    if !fields::read_cells(&line[lead..end], &mut cells[0..count]) {
-        return 0;
-    }
-    command
 }
 
 // Parts cells that hold low and high in turn.
@@ -98,68 +121,51 @@ fn part(cells: &[u8], low: &mut [u8], high: &mut [u8])
     requires { (length low.old ≤ 128) × (length high.old ≡ length low.old) × (length cells.now ≡ 2 * length low.old) }
     ensures { Parts cells.now (length low.old) low.new high.new }
 {
-    let mut i = 0;
-    while i < low.len() {
+    for i in 0..low.len() {
         low[i] = cells[2 * i];
         high[i] = cells[2 * i + 1];
-        i += 1;
     }
 }
 
 // Parts cells that hold low and high in turn, and prunes these bounds. Returns prune's number.
-fn prune_parted(
-    m: usize,
-    n: usize,
-    top: usize,
-    cells: &[u8],
-    low: &mut [u8],
-    high: &mut [u8],
-) -> u32
-    requires { (length low.old ≤ 128) × (length low.old ≡ m * n) × (length high.old ≡ length low.old) × (length cells.now ≡ 2 * length low.old) }
-    ensures { PrunesParted m n top cells.now result low.new high.new }
+fn prune_parted(start: Start, cells: &[u8], low: &mut [u8], high: &mut [u8]) -> u32
+    requires { (length low.old ≡ start.rows * start.columns) × (length high.old ≡ length low.old) × (length cells.now ≡ 2 * length low.old) }
+    ensures { PrunesParted start.rows start.columns start.top cells.now result low.new high.new }
 {
     part(cells, low, high);
-    prune::prune(m, n, top, low, high).counted().number
+    prune::prune(start.rows, start.columns, start.top, low, high)
+        .counted()
+        .number
 }
 
-// Command 3: prunes the bounds that cells hold in turn, and where prune's number is 0 counts the entries within what it leaves; the
-// count stands in the place of a place.
-fn count_pruned(register: &[u8], m: usize, n: usize, top: usize, cells: &[u8]) -> Placed
-    requires { (m * n ≤ 128) × (length cells.now ≡ 2 * (m * n)) }
-    ensures { placed result.number result.place register.now ≡ answered_by register_calls register.now (read_command m n top 3 0 cells.now) }
+// Prunes the bounds that cells hold in turn, and where prune's number is 0 counts the entries within what it leaves; the count stands
+// in the place of a place.
+fn count_pruned(register: &[u8], start: Start, cells: &[u8]) -> Placed
+    requires { length cells.now ≡ 2 * (start.rows * start.columns) }
+    ensures { placed result.number result.place register.now ≡ answered_by register_calls register.now (read_command start.rows start.columns start.top 3 0 cells.now) }
 {
-    let size = m * n;
-    let mut low = [0u8; 128];
-    let mut high = [0u8; 128];
-    let number = prune_parted(m, n, top, cells, &mut low[0..size], &mut high[0..size]);
+    let size = start.size();
+    let mut low = [0; 128];
+    let mut high = [0; 128];
+    let number = prune_parted(start, cells, &mut low[..size], &mut high[..size]);
     if number != 0 {
         return Placed { number, place: 0 };
     }
-    let found = counts::count(register, &low[0..size], &high[0..size]).counted();
+    let found = counts::count(register, &low[..size], &high[..size]).counted();
     Placed {
         number: found.number,
         place: found.count,
     }
 }
 
-// Answers a command with its client and its cells, on a register of m rows, n columns and this top.
-pub fn make_call(
-    register: &mut [u8],
-    m: usize,
-    n: usize,
-    top: usize,
-    command: usize,
-    client: usize,
-    cells: &[u8],
-) -> Placed
-    requires { (m * n ≤ 128) × (1 ≤ command) × (command ≤ 3) × (length cells.now ≡ cell_count (m * n) command) }
-    ensures { placed result.number result.place register.new ≡ answered_by register_calls register.old (read_command m n top command client cells.now) }
+// Answers a command with its cells.
+pub fn make_call(register: &mut [u8], start: Start, command: Command, cells: &[u8]) -> Placed
+    requires { length cells.now ≡ cell_count (start.rows * start.columns) (command_number command) }
+    ensures { placed result.number result.place register.new ≡ answered_by register_calls register.old (read_command start.rows start.columns start.top (command_number command) (client_of command) cells.now) }
 {
-    if command == 1 {
-        return entering::enter(register, client, cells).placed();
+    match command {
+        Command::Enter(client) => entering::enter(register, client, cells).placed(),
+        Command::Strike(client) => striking::strike(register, client, cells).placed(),
+        Command::Count => count_pruned(register, start, cells),
     }
-    if command == 2 {
-        return striking::strike(register, client, cells).placed();
-    }
-    count_pruned(register, m, n, top, cells)
 }

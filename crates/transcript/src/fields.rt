@@ -3,7 +3,8 @@ ghost use Rattle.std.specs.Prelude.{◌≡◌, true, ◌↔◌, ◌≤◌, ◌*�
 ghost use Rattle.layout.specs.Decimal.{field};
 ghost use Rattle.transcript.specs.Fields.{ReadsCells};
 
-use lines::{equality, numbers};
+use lines::entries::WIDTH;
+use lines::numbers;
 
 // Whether the bytes are the field of this number.
 pub fn is_field(bytes: &[u8], number: usize) -> bool
@@ -11,9 +12,9 @@ pub fn is_field(bytes: &[u8], number: usize) -> bool
     ensures { (result ≡ true) ↔ (bytes.now ≡ field (length bytes.now) number) }
 {
     let width = bytes.len();
-    let mut field = [0u8; 6];
-    numbers::write_number(&mut field[0..width], number);
-    equality::begins_with(bytes, &field[0..width])
+    let mut field = [0; 6];
+    numbers::write_number(&mut field[..width], number);
+    bytes == &field[..width]
 }
 
 // Reads cells, 3 wide each, up to the first that is not laid so or is above 255. Whether there is none.
@@ -21,20 +22,14 @@ pub fn read_cells(bytes: &[u8], cells: &mut [u8]) -> bool
     requires { (length cells.old ≤ 256) × (length bytes.now ≡ 3 * length cells.old) }
     ensures { ReadsCells bytes.now (length cells.old) cells.new result }
 {
-    let mut k = 0;
-    let mut at = 0;
-    while k < cells.len() {
-        let end = at + 3;
-        let number = numbers::three_wide(bytes, at);
-        if 255 < number {
+    for (k, cell) in cells.iter_mut().enumerate() {
+        let at = WIDTH * k;
+        let field = &bytes[at..at + WIDTH];
+        let number = numbers::read_number(field);
+        if 255 < number || !is_field(field, number) {
             return false;
         }
-        if !is_field(&bytes[at..end], number) {
-            return false;
-        }
-        cells[k] = number as u8;
-        at = end;
-        k += 1;
+        *cell = number as u8;
     }
     true
 }

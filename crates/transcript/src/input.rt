@@ -9,7 +9,7 @@ pub fn line_end(input: &[u8], at: usize) -> usize
     requires { at < length input.now }
     ensures { NextLine input.now at result }
 {
-    match memchr(10, &input[at..]) {
+    match memchr(b'\n', &input[at..]) {
         Some(found) => at + found + 1,
         None => input.len(),
     }

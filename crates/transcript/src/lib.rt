@@ -7,4 +7,5 @@ mod fields;
 mod input;
 mod reports;
 pub mod run;
+mod start;
 mod starts;

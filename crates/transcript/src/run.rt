@@ -1,20 +1,16 @@
 // The whole run.
-ghost use Rattle.std.specs.Prelude.{◌≡◌, ◌≤◌, ◌++◌, length, take, drop};
+ghost use Rattle.std.specs.Prelude.{◌≡◌};
 ghost use Rattle.protocol.specs.Programs.{transcribed, transcribing};
 ghost use Rattle.transcript.specs.Runs.{Ran, Ready};
 
 use crate::reports::Report;
-use crate::starts::Start;
+use crate::start::Start;
+use crate::starts::MOST_BYTES;
 use crate::{answers, reports, starts};
 use register::opening;
 
-// Copies a slice over the first bytes of another.
-fn copy(from: &[u8], to: &mut [u8])
-    requires { length from.now ≤ length to.old }
-    ensures { to.new ≡ take (length from.now) from.now ++ drop (length from.now) to.old }
-{
-    to[..from.len()].copy_from_slice(from);
-}
+// How many bytes there is room for in the output.
+const MOST_PRINTED: usize = 1310720;
 
 // Opens the register over all of a slice of its length, answers the command lines, and writes what is printed over the first bytes of
 // another slice. Returns how many bytes that is.
@@ -29,9 +25,10 @@ fn run(input: &[u8], start: Start, register: &mut [u8], out: &mut [u8]) -> usize
         start.capacity,
         register,
     );
-    let printed = answers::answer_lines(input, start.rows, start.columns, start.top, register, out);
-    copy(register, &mut out[printed..]);
-    printed + register.len()
+    let printed = answers::answer_lines(input, start, register, out);
+    let end = printed + register.len();
+    out[printed..end].copy_from_slice(register);
+    end
 }
 
 // Writes what planbook prints for an input over the first bytes of a slice, and returns how many bytes that is. The register is kept
@@ -40,26 +37,14 @@ fn run(input: &[u8], start: Start, register: &mut [u8], out: &mut [u8]) -> usize
 pub fn transcribe(input: &[u8], register: &mut [u8], out: &mut [u8]) -> usize
     ensures { transcribing result register.new out.new ≡ transcribed input.now register.old out.old }
 {
-    if register.len() < 65536 {
+    if register.len() < MOST_BYTES || out.len() < MOST_PRINTED {
         return 0;
     }
-    if out.len() < 1310720 {
-        return 0;
+    match starts::check_input(input) {
+        Ok(start) => run(input, start, &mut register[..start.length], out),
+        Err(fault) => {
+            reports::write_report(out, Report::refusing(fault.number()));
+            reports::LENGTH
+        }
     }
-    let start = starts::check_input(input);
-    let found = start.found;
-    let number = found.number();
-    if number != 0 {
-        reports::write_report(
-            out,
-            Report {
-                command: 0,
-                number,
-                place: 0,
-            },
-        );
-        return 19;
-    }
-    let length = start.length;
-    run(input, start, &mut register[0..length], out)
 }

@@ -1,12 +1,18 @@
 // What is asked before any command.
-ghost use Rattle.std.specs.Prelude.{◌≡◌, true, ◌↔◌, ◌≤◌, length, take};
+ghost use Rattle.std.specs.Prelude.{◌≡◌, true, ◌↔◌, ◌≤◌, length, take, MatchResult};
 ghost use Rattle.layout.specs.Layout.{decode_shape};
 ghost use Rattle.protocol.specs.Input.{shape_line};
-ghost use Rattle.transcript.specs.Starts.{check_number, Starts};
+ghost use Rattle.protocol.specs.Transcript.{start_no};
+ghost use Rattle.refusals.specs.Numbers.{refusal_number};
+ghost use Rattle.transcript.specs.Starts.{fault_number, Started};
 
+use crate::start::Start;
 use grids::questions;
-use lines::{entries, equality, head, numbers};
+use lines::{entries, head};
 use refusals::{Asked, Refusal};
+
+// How many bytes the input and the register may have.
+pub const MOST_BYTES: usize = 65536;
 
 // Line 1 of the input has the first four numbers of a register's line 1, at the same places. Where its line feed stands, and how many
 // bytes it has.
@@ -14,54 +20,34 @@ const FEED: usize = head::CAPACITY + head::WIDTH;
 
 pub const LENGTH: usize = FEED + 1;
 
-// What the checks find: each gets a yes; or the input is too long, a line is not laid as it should be, open would be refused, or the
-// register is too long.
+// The first no: the input is too long, a line is not laid as it should be, open would be refused, or the register is too long.
 #[derive(Clone, Copy)]
-pub enum Check {
-    Passed,
+pub enum Fault {
     LongInput,
     Malformed,
     Refused(Refusal),
     LongRegister,
 }
 
-impl Check {
-    // The number that is printed, or 0.
+impl Fault {
+    // The number that is printed.
     pub fn number(self) -> u32
-        ensures { result ≡ check_number self }
+        ensures { result ≡ fault_number self }
     {
         match self {
-            Check::Passed => 0,
-            Check::LongInput => 11,
-            Check::Malformed => 12,
-            Check::Refused(refusal) => refusal.number(),
-            Check::LongRegister => 13,
+            Fault::LongInput => 11,
+            Fault::Malformed => 12,
+            Fault::Refused(refusal) => refusal.number(),
+            Fault::LongRegister => 13,
         }
     }
 }
 
-// What the checks find; and if each gets a yes what line 1 states, and how many bytes the register has.
-#[derive(Clone, Copy)]
-pub struct Start {
-    pub found: Check,
-    pub rows: usize,
-    pub columns: usize,
-    pub top: usize,
-    pub capacity: usize,
-    pub length: usize,
-}
+impl From<Refusal> for Fault {
+    ghost from_gives = { λ refusal result. fault_number result ≡ refusal_number refusal };
 
-// A no alone.
-fn ended(found: Check) -> Start
-    ensures { result.found ≡ found }
-{
-    Start {
-        found,
-        rows: 0,
-        columns: 0,
-        top: 0,
-        capacity: 0,
-        length: 0,
+    fn from(refusal: Refusal) -> Fault {
+        Fault::Refused(refusal)
     }
 }
 
@@ -70,53 +56,49 @@ fn line_laid(input: &[u8]) -> bool
     requires { 25 ≤ length input.now }
     ensures { (result ≡ true) ↔ (take 25 input.now ≡ shape_line (decode_shape input.now)) }
 {
-    let mut line = [0u8; LENGTH];
-    head::write_field(&mut line, head::ROWS, numbers::six_wide(input, head::ROWS));
+    let mut line = [0; LENGTH];
+    head::write_field(&mut line, head::ROWS, head::read_field(input, head::ROWS));
     head::write_field(
         &mut line,
         head::COLUMNS,
-        numbers::six_wide(input, head::COLUMNS),
+        head::read_field(input, head::COLUMNS),
     );
-    head::write_field(&mut line, head::TOP, numbers::six_wide(input, head::TOP));
+    head::write_field(&mut line, head::TOP, head::read_field(input, head::TOP));
     head::write_field(
         &mut line,
         head::CAPACITY,
-        numbers::six_wide(input, head::CAPACITY),
+        head::read_field(input, head::CAPACITY),
     );
-    line[FEED] = 10;
-    equality::begins_with(input, &line)
+    line[FEED] = b'\n';
+    input.starts_with(&line)
 }
 
 // Asks 11, 12, 1 to 4 and 13 of the input.
-pub fn check_input(input: &[u8]) -> Start
-    ensures { Starts input.now result }
+pub fn check_input(input: &[u8]) -> Result<Start, Fault>
+    ensures { MatchResult result (λ start. Started input.now start) (λ fault. fault_number fault ≡ start_no input.now) }
 {
-    if 65536 < input.len() {
-        return ended(Check::LongInput);
+    if MOST_BYTES < input.len() {
+        return Err(Fault::LongInput);
     }
-    if input.len() < LENGTH {
-        return ended(Check::Malformed);
+    if input.len() < LENGTH || !line_laid(input) {
+        return Err(Fault::Malformed);
     }
-    if !line_laid(input) {
-        return ended(Check::Malformed);
-    }
-    let rows = numbers::six_wide(input, head::ROWS);
-    let columns = numbers::six_wide(input, head::COLUMNS);
-    let top = numbers::six_wide(input, head::TOP);
-    let capacity = numbers::six_wide(input, head::CAPACITY);
+    let rows = head::read_field(input, head::ROWS);
+    let columns = head::read_field(input, head::COLUMNS);
+    let top = head::read_field(input, head::TOP);
+    let capacity = head::read_field(input, head::CAPACITY);
     if let Asked::No(refusal) = questions::ask_numbers(rows, columns, top, capacity) {
-        return ended(Check::Refused(refusal));
+        return Err(refusal.into());
     }
     let length = entries::line_start(rows * columns, capacity);
-    if 65536 < length {
-        return ended(Check::LongRegister);
+    if MOST_BYTES < length {
+        return Err(Fault::LongRegister);
     }
-    Start {
-        found: Check::Passed,
+    Ok(Start {
         rows,
         columns,
         top,
         capacity,
         length,
-    }
+    })
 }

@@ -5,4 +5,4 @@ use Rattle.planbook.proofs.print.Goals as goal
 
 pub print_into-printed-requires : goal.print_into-printed-requires
 print_into-printed-requires g c =
-    has-room _ _ (omega (arith, c.register_buffer-register.ensures)) (omega (arith, c.output_buffer-out.ensures))
+    has-room _ _ (omega (arith, c.room-register.ensures)) (omega (arith, c.room-out.ensures))

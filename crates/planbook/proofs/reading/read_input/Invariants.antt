@@ -6,4 +6,4 @@ abbrev pub invariant-loop-got : goal.invariant-loop-got
 invariant-loop-got g l = (length l.input ≡ length l.initial.input) × (l.got ≤ length l.input)
 
 abbrev pub decreases-loop-got : goal.decreases-loop-got
-decreases-loop-got g l = (length l.input - l.got) + l.tries
+decreases-loop-got g l = (length l.input - l.got) + l.tries.left

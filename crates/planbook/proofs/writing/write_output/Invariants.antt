@@ -6,4 +6,4 @@ abbrev pub invariant-loop-put : goal.invariant-loop-put
 invariant-loop-put g l = l.put ≤ length l.out
 
 abbrev pub decreases-loop-put : goal.decreases-loop-put
-decreases-loop-put g l = (length l.out - l.put) + l.tries
+decreases-loop-put g l = (length l.out - l.put) + l.tries.left

@@ -1,25 +1,23 @@
 -- `answer_line` meets its contract: the line is not laid, or its command is answered.
 use mathlib.Core.Path.{◌∙◌}
 use native.Mathlib.Omega.{arith}
-use Rattle.permutations.proofs.ListLaws.{part_length}
-use Rattle.transcript.proofs.CallSteps.{lead-room, answer-malformed, answer-made}
+use lib.Seq.{length-take-le}
+use Rattle.transcript.proofs.CallSteps.{answer-malformed, answer-made}
 use Rattle.transcript.proofs.answers.answer_line.Goals as goal
 
-pub returns-then-command-eq0 : goal.returns-then-command-eq0
-returns-then-command-eq0 c =
-    answer-malformed _ _ _ c.read_command-command.ensures c.args.register.now c.if-command-eq0.true c.number.ensures
-
-pub read_client-client-requires : goal.read_client-client-requires
-read_client-client-requires c =
-    let r = c.read_command-command.ensures in
-    (r.command-is c.if-command-eq0.false, lead-room r c.if-command-eq0.false)
+pub returns-in_default : goal.returns-in_default
+returns-in_default c =
+    let s = c.args.start in
+    let x = c.refusing.ensures in
+    answer-malformed s.rows s.columns s.top c.args.line.now c.args.register.now (rw c.size-size.ensures.0 at c.in_default.ensures) (x.0, x.1 ∙ c.number.ensures, x.2)
 
 pub make_call-placed-requires : goal.make_call-placed-requires
 make_call-placed-requires c =
-    let r = c.read_command-command in
-    let n = c.cell_count-count in
-    (c.requires, omega arith, r.ensures.small, part_length c.read_command-command.new.cells n.result (omega (arith, r.ensures.kept, n.ensures.1)) ∙ n.ensures.0)
+    let n = c.cell_count in
+    length-take-le n.result c.read_command.new.cells (omega (arith, n.ensures.1, c.read_command.auto.cells)) ∙ rw c.size-size.ensures.0 at n.ensures.0
 
 pub returns : goal.returns
 returns c =
-    answer-made _ _ _ c.read_command-command.ensures c.args.register.now c.if-command-eq0.false c.cell_count-count.ensures.0 c.read_client-client.ensures c.make_call-placed.ensures
+    let s = c.args.start in
+    let z = c.size-size.ensures.0 in
+    answer-made s.rows s.columns s.top c.args.line.now c.args.register.now (rw z at c.in-Some.ensures) c.number-2.ensures (rw z at c.cell_count.ensures.0) c.make_call-placed.ensures

@@ -2,7 +2,7 @@ use mathlib.Core.Path.{ap}
 use native.Mathlib.Omega.{arith}
 use lib.ListN.{length, length-drop}
 use Rattle.calls.proofs.ValidMoves.{tail-part}
-use Rattle.transcript.proofs.AnswerSteps.{answering-none, answering-next, answering-all, answering-room, answering-size, answering-kept}
+use Rattle.transcript.proofs.AnswerSteps.{answering-none, answering-next, answering-all, answering-room, answering-kept}
 use Rattle.transcript.proofs.answers.answer_lines.Goals as goal
 
 pub loop-at-init : goal.loop-at-init
@@ -16,9 +16,6 @@ slice_bounds-answer_line-start c = omega (arith, c.line_end-end.ensures.further)
 
 pub slice_bounds-answer_line-end : goal.slice_bounds-answer_line-end
 slice_bounds-answer_line-end c = omega (arith, c.line_end-end.ensures.within)
-
-pub answer_line-report-requires : goal.answer_line-report-requires
-answer_line-report-requires c = answering-size c.requires
 
 pub slice_bounds-write_report-count : goal.slice_bounds-write_report-count
 slice_bounds-write_report-count c = omega (arith, answering-room c.requires c.loop-at.invariant (omega arith))

@@ -1,29 +1,32 @@
--- `lead_laid` meets its contract: the first field, and but for command 3 the second.
+-- `lead_laid` meets its contract: the first field, and but for a count the second.
+use mathlib.Core.Path.{◌≡◌, sym, ap, ◌∙◌}
+use mathlib.Core.Bool.{true}
+use mathlib.Core.Logic.{◌↔◌}
 use native.Mathlib.Omega.{arith}
-use borrow.Author.Tests.{not-true, not-false}
-use Rattle.transcript.proofs.LeadLaws.{lead-least, lead-other, lead-no-first, lead-alone, lead-both}
+use lib.ListN.{length, take}
+use lib.Seq.{length-take-le}
+use Rattle.layout.specs.Decimal.{field}
+use Rattle.transcript.specs.Commands.{command_number}
+use Rattle.transcript.proofs.LeadLaws.{with-client, lead-least, lead-other, lead-no-first, lead-alone, lead-both}
 use Rattle.transcript.proofs.commands.lead_laid.Goals as goal
+use Rattle.transcript.proofs.commands.lead_laid.Goals.{After-is_field-first}
 
 pub slice_bounds-is_field-end : goal.slice_bounds-is_field-end
-slice_bounds-is_field-end c = omega (arith, c.requires.1, lead-least c.args.command)
+slice_bounds-is_field-end c = sym (length-take-le 6 c.args.line.now (omega (arith, c.requires.1, lead-least (command_number c.args.command))))
 
-pub returns-then-not-is_field : goal.returns-then-not-is_field
-returns-then-not-is_field c =
-    let f = c.is_field in
-    lead-no-first c.args.command c.args.line.now c.requires.1 f.ensures (not-true f.result c.if-not-is_field.true-raw)
+told : (c : After-is_field-first) → (c.is_field-first.result ≡ true) ↔ (take 6 c.args.line.now ≡ field (length (take 6 c.args.line.now)) (command_number c.args.command))
+told c = rw c.number.ensures at c.is_field-first.ensures
 
-pub returns-then-command-eq3 : goal.returns-then-command-eq3
-returns-then-command-eq3 c =
-    let f = c.is_field in
-    lead-alone c.args.command c.args.line.now c.requires.1 f.ensures (not-false f.result c.if-not-is_field.false-raw) c.if-command-eq3.true
+pub returns-in-Count : goal.returns-in-Count
+returns-in-Count c = lead-alone _ c.args.line.now c.requires.1 (told ((goal.at.returns-in-Count c).After-is_field-first)) (ap command_number c.in-Count.is)
 
-pub read_client-client-requires : goal.read_client-client-requires
-read_client-client-requires c = c.requires
+pub slice_bounds-is_field-end-then-first : goal.slice_bounds-is_field-end-then-first
+slice_bounds-is_field-end-then-first c = omega (arith, c.requires.1, lead-other (command_number c.args.command) (with-client c.args.command c.in-Enter.client c.in-Enter.is).0)
 
-pub slice_bounds-is_field-end-2 : goal.slice_bounds-is_field-end-2
-slice_bounds-is_field-end-2 c = omega (arith, c.requires.1, lead-other c.args.command c.if-command-eq3.false)
+pub returns-else-first : goal.returns-else-first
+returns-else-first c = lead-no-first _ c.args.line.now c.requires.1 (told ((goal.at.returns-else-first c).After-is_field-first)) c.if-first.false
 
-pub returns : goal.returns
-returns c =
-    let f = c.is_field in
-    lead-both c.args.command c.args.line.now c.requires.1 f.ensures (not-false f.result c.if-not-is_field.false-raw) c.if-command-eq3.false c.read_client-client.ensures c.is_field-2.ensures
+pub returns-then-first : goal.returns-then-first
+returns-then-first c =
+    let w = with-client c.args.command c.in-Enter.client c.in-Enter.is in
+    lead-both _ c.args.line.now c.requires.1 (told ((goal.at.returns-then-first c).After-is_field-first)) c.if-first.true w.0 (w.1 ∙ c.requires.0.client-is) c.is_field.ensures

@@ -1,23 +1,23 @@
 -- `make_call` meets its contract: each arm answers the command that it is for.
-use mathlib.Core.Path.{sym, ◌∙◌}
-use native.Mathlib.Omega.{arith}
+use mathlib.Core.Path.{refl, sym, ap, ◌∙◌}
+use Rattle.transcript.specs.Commands.{command_number}
 use Rattle.transcript.proofs.CallSteps.{enter-of, strike-of, bounds_of, bounds-cells}
 use Rattle.transcript.proofs.commands.make_call.Goals as goal
 
-pub returns-then-command-eq1 : goal.returns-then-command-eq1
-returns-then-command-eq1 c =
+pub returns-in-Enter : goal.returns-in-Enter
+returns-in-Enter c =
     let x = c.placed.ensures in
-    rw (x.0, x.1) (c.enter.ensures ∙ sym (enter-of _ _ _ _ _ _ c.if-command-eq1.true))
+    rw (x.0, x.1, c.in-Enter.is) (c.enter.ensures ∙ sym (enter-of _ _ _ _ _ _ refl))
 
-pub returns-then-command-eq2 : goal.returns-then-command-eq2
-returns-then-command-eq2 c =
-    let x = c.placed-then-command-eq2.ensures in
-    rw (x.0, x.1) (c.strike.ensures ∙ sym (strike-of _ _ _ _ _ _ c.if-command-eq2.true))
+pub returns-in-Strike : goal.returns-in-Strike
+returns-in-Strike c =
+    let x = c.placed-in-Strike.ensures in
+    rw (x.0, x.1, c.in-Strike.is) (c.strike.ensures ∙ sym (strike-of _ _ _ _ _ _ refl))
 
 pub count_pruned-requires : goal.count_pruned-requires
-count_pruned-requires c =
-    (c.requires.0, bounds-cells _ {k = c.args.command} (omega arith) c.requires.3)
+count_pruned-requires c = bounds-cells _ (ap command_number c.in-Count.is) c.requires
 
-pub returns : goal.returns
-returns c =
-    c.count_pruned.ensures ∙ sym (bounds_of c.args.m c.args.n c.args.top {k = c.args.command} c.args.client c.args.register.now c.args.cells.now (omega arith))
+pub returns-in-Count : goal.returns-in-Count
+returns-in-Count c =
+    let s = c.args.start in
+    rw c.in-Count.is (c.count_pruned.ensures ∙ sym (bounds_of s.rows s.columns s.top 0 c.args.register.now c.args.cells.now refl))

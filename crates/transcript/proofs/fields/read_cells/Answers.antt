@@ -1,40 +1,48 @@
-use mathlib.Core.Path.{sym, ◌∙◌}
+use mathlib.Core.Path.{◌≡◌, sym, ◌∙◌}
 use mathlib.Core.Bool.{true≢false}
+use Prim.Native.Nat.{◌+◌, ◌*◌, ◌≤◌}
 use native.Mathlib.Omega.{arith}
-use borrow.Author.Tests.{not-true, not-false}
-use Rattle.transcript.proofs.FieldLaws.{lent_length, cells-none, cells-next, cells-above, cells-unlaid, cells-all}
+use lib.ListN.{length}
+use Rattle.std.proofs.lemmas.List.{set-get_or}
+use Rattle.layout.specs.Layout.{number_at}
+use Rattle.lines.proofs.NumberLaws.{length-lent, number-lent}
+use Rattle.transcript.proofs.FieldLaws.{cells-none, cells-next, cells-above, cells-unlaid, cells-all}
 use Rattle.transcript.proofs.fields.read_cells.Goals as goal
+use Rattle.transcript.proofs.fields.read_cells.Goals.{In-loop-k, After-read_number-number, then-number-gt255-via-then-number-gt255, then-number-gt255-via-else-number-gt255+then-not-is_field}
 
 pub loop-k-init : goal.loop-k-init
 loop-k-init c = cells-none _ _
 
-pub shape_of-cells-then-number-gt255 : goal.shape_of-cells-then-number-gt255
-shape_of-cells-then-number-gt255 c = c.loop-k.invariant.so_far.so_far.size
+room : (c : In-loop-k) → 3 * c.loop-k.k + 3 ≤ length c.args.bytes.now
+room c = omega arith
+
+stated : (c : After-read_number-number) → 3 * c.loop-k.k + 3 ≤ length c.args.bytes.now → c.read_number-number.result ≡ number_at 3 (3 * c.loop-k.k) c.args.bytes.now
+stated c r = (number-lent 3 (3 * c.loop-k.k) c.args.bytes.now r c.read_number-number.ensures).0
+
+pub read_number-number-requires : goal.read_number-number-requires
+read_number-number-requires c = omega (arith, length-lent 3 (3 * c.loop-k.k) c.args.bytes.now (room ((goal.at.read_number-number-requires c).In-loop-k)))
+
+pub is_field-requires : goal.is_field-requires
+is_field-requires c = omega (arith, length-lent 3 (3 * c.loop-k.k) c.args.bytes.now (room ((goal.at.is_field-requires c).In-loop-k)))
 
 pub returns-then-number-gt255 : goal.returns-then-number-gt255
 returns-then-number-gt255 c =
     let l = c.loop-k in
-    cells-above l.invariant (omega arith) c.three_wide-number.ensures.0 (omega arith) l.invariant.so_far.so_far.size
-
-pub is_field-requires : goal.is_field-requires
-is_field-requires c =
-    let l = c.loop-k in
-    omega (arith, lent_length c.args.bytes.now l.at (omega arith))
-
-pub shape_of-cells-then-not-is_field : goal.shape_of-cells-then-not-is_field
-shape_of-cells-then-not-is_field c = c.loop-k.invariant.so_far.so_far.size
-
-pub returns-then-not-is_field : goal.returns-then-not-is_field
-returns-then-not-is_field c =
-    let l = c.loop-k in
-    let t = c.is_field in
-    cells-unlaid l.invariant (omega arith) c.three_wide-number.ensures.0 (λ q. true≢false (sym (t.ensures.1 q) ∙ not-true t.result c.if-not-is_field.true-raw)) (lent_length c.args.bytes.now l.at (omega arith)) l.invariant.so_far.so_far.size
+    let r = room ((goal.at.returns-then-number-gt255 c).In-loop-k) in
+    let n = stated ((goal.at.returns-then-number-gt255 c).After-read_number-number) r in
+    elim c.then-number-gt255.branch [
+      | then-number-gt255-via-then-number-gt255 w ↦ rw (w.cells-is, set-get_or) (cells-above l.invariant c.loop-k-test.true n w.if-number-gt255.true l.invariant.so_far.so_far.size)
+      | then-number-gt255-via-else-number-gt255+then-not-is_field w ↦
+          rw (w.cells-is, set-get_or)
+          (cells-unlaid l.invariant c.loop-k-test.true n (λ q. true≢false (sym (w.is_field.ensures.1 q) ∙ w.if-not-is_field.true)) (length-lent 3 (3 * l.k) c.args.bytes.now r) l.invariant.so_far.so_far.size)
+    ]
 
 pub loop-k-preserved : goal.loop-k-preserved
 loop-k-preserved c =
     let l = c.loop-k in
-    let t = c.is_field in
-    cells-next l.invariant (omega arith) c.three_wide-number.ensures.0 (omega arith) (lent_length c.args.bytes.now l.at (omega arith)) (t.ensures.0 (not-false t.result c.if-not-is_field.false-raw))
+    let r = room ((goal.at.loop-k-preserved c).In-loop-k) in
+    let n = stated ((goal.at.loop-k-preserved c).After-read_number-number) r in
+    cells-next l.invariant c.loop-k-test.true n c.if-number-gt255.false (length-lent 3 (3 * l.k) c.args.bytes.now r) (c.is_field.ensures.0 c.if-not-is_field.false)
 
 pub shape_of-cells : goal.shape_of-cells
 shape_of-cells c = c.loop-k.invariant.so_far.so_far.size

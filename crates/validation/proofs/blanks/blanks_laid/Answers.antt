@@ -1,7 +1,7 @@
 use mathlib.Core.Path.{◌≡◌, sym, ◌∙◌}
 use mathlib.Core.Bool.{true≢false}
 use native.Mathlib.Omega.{arith}
-use Rattle.lines.proofs.EqualityLaws.{holds, fails}
+use Rattle.lines.proofs.AnswerLaws.{holds, fails}
 use Rattle.validation.proofs.BlankLaws.{line-inside, compared, blank_none, blank-next}
 use Rattle.validation.proofs.blanks.blanks_laid.Goals as goal
 

@@ -3,7 +3,7 @@ use mathlib.Core.Path.{sym, ◌∙◌}
 use borrow.Author.Tests.{leb-true, le-leb}
 use Rattle.refusals.proofs.NumberLaws.{no-some, no-is, yes-is}
 use Rattle.grids.proofs.QuestionLaws.{numbers-decide}
-use Rattle.lines.proofs.EqualityLaws.{fails}
+use Rattle.lines.proofs.AnswerLaws.{fails}
 use Rattle.validation.proofs.question5.within_limits.Goals as goal
 
 pub returns-in-Err : goal.returns-in-Err
