@@ -8,14 +8,15 @@
 --   agree-decided    ==  whether a row comes no later than another, by the column up to which they agree
 --   below-decided, under-later  ==  what the code finds at a column
 --   parted-at, above_at  ==  where two rows part, and which of them is above
-use mathlib.Core.Path.{◌≡◌, ap, ◌∙◌}
+use mathlib.Core.Path.{◌≡◌, refl, ap, ◌∙◌}
 use mathlib.Core.List.{List, ◌++◌}
 use mathlib.Core.Bool.{Bool, true, false}
 use Prim.Native.Nat.{ℕ, ◌+◌, ◌-◌, ◌≤◌, ◌<◌}
 use native.Mathlib.Decide.{dec_lt}
 use native.Mathlib.Omega.{arith}
 use lib.Dec.{ltb}
-use lib.ListN.{length, set, take, drop, get_or-append, length-append}
+use native.Mathlib.Decide.{ℕ_discrete}
+use lib.ListN.{length, set, length-set, take, drop, get_or-append, length-append}
 use lib.Seq.{get_or-set_same, get_or-set_other, get_or-take, get_or-drop, get_or-append-add, length-take-le}
 use Rattle.std.proofs.lemmas.List.{length-drop}
 use borrow.Author.Tests.{lt-ltb, le-ltb}
@@ -79,7 +80,21 @@ lowered-copied c x h cx ch = record {
     front : length (take c x) ≡ c
     front = length-take-le c x cx
 
+pub lowered_none : (x h : List ℕ) → LoweredTo 0 x h h
+lowered_none x h = record { size = refl; done = λ j b. absurd (omega arith); rest = λ j b. refl }
+
 module _ {c : ℕ} {x h h' : List ℕ} (l : LoweredTo c x h h') where
+  pub lowered-next : c < length h → LoweredTo (c + 1) x h (set h' c (cell_at x c))
+  lowered-next b = record {
+    size = length-set h' c _ ∙ l.size;
+    done = λ j k. go j k (ℕ_discrete j c);
+    rest = λ j k. get_or-set_other h' c j _ 0 (omega arith) ∙ l.rest j (omega arith);
+  }
+    where
+      go : (j : ℕ) → j < c + 1 → Dec (j ≡ c) → cell_at (set h' c (cell_at x c)) j ≡ cell_at x j
+      go j k (yes e) = rw e (get_or-set_same h' c (cell_at x c) 0 (omega (arith, l.size)))
+      go j k (no ne) = get_or-set_other h' c j _ 0 ne ∙ l.done j (omega arith)
+
   module _ {n : ℕ} {s : ℕ → ℕ} (d : Parted n (cell_at x) s c) where
     pub lowered-all : n ≤ c → IsHighs n (cell_at x) s (cell_at h) (cell_at h')
     lowered-all nc = highs-lowered d (cell_at h) (cell_at h') l.done (λ cn. absurd (omega arith)) (λ j cj jn. absurd (omega arith))

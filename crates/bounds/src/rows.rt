@@ -89,7 +89,10 @@ impl Parting<'_> {
         ensures { IsHighs (length self.now.rows.lows.now) (cell_at self.now.rows.lows.now) (cell_at self.now.rows.sorted) (cell_at highs.old) (cell_at highs.new) }
     {
         let at = self.at;
-        highs[..at].copy_from_slice(&self.rows.lows[..at]);
+        // no copy_from_slice: on rows of six cells its call takes a tenth of prune's time
+        for c in 0..at {
+            highs[c] = self.rows.lows[c];
+        }
         if at < highs.len() {
             highs[at] = cells::lower(highs[at], self.cap());
         }
