@@ -5,7 +5,7 @@
 --   Branch m n g k placed s out   ==  out covers the branch with the row at position s placed next
 --   NoLater n g k placed s out    ==  by one row more, out comes no later than that branch
 --   strictly-covers ==  what comes before all of a branch, by one row more, covers it
---   none-marked     ==  a list of zeros marks none
+--   none-marked     ==  marks of which none is set
 --   lowest-none     ==  at first
 --   lowest-less, lowest-greater, lowest-equal  ==  past a candidate that is less, greater, or neither
 --   lowest-bound    ==  at the end: the bound
@@ -17,43 +17,41 @@ use mathlib.Core.Bool.{Bool, true, false, true≢false}
 use Prim.Native.Nat.{ℕ, suc, ◌+◌, ◌≤◌, ◌<◌}
 use native.Mathlib.Decide.{ℕ_discrete, dec_lt}
 use native.Mathlib.Omega.{arith}
-use lib.ListN.{length, get_or, set, length-set, get_or-eq_default}
+use lib.ListN.{length, get_or, set, replicate, length-set, length-replicate, get_or-replicate, get_or-eq_default}
 use lib.Seq.{get_or-set_other}
-use Rattle.permutations.specs.Lists.{tabulate}
 use Rattle.permutations.specs.Permutations.{IsPermutation, swapped}
 use Rattle.permutations.specs.Rows.{row_numbers}
 use Rattle.permutations.specs.Columns.{column_numbers}
-use Rattle.permutations.proofs.ListLaws.{length-tabulate, at-tabulate}
 use Rattle.grids.specs.Order.{◌≼◌, ◌≺◌}
 use Rattle.grids.specs.Grids.{cell, arrangement}
 use Rattle.grids.proofs.OrderLaws.{≼_refl, ≼_trans, ≼-antisymm, ≺-≼}
-use Rattle.permutations.specs.declared.orders.Orders.{Orders}
-use Rattle.general_search.specs.declared.search.Bound.{Bound}
+use Rattle.general_search.specs.declared.search.Orders.{Orders}
+use Rattle.general_search.specs.declared.state.Bound.{Bound}
 use Rattle.branches.specs.Branches.{Begins, Covers}
 use Rattle.general_search.specs.Search.{leading_rows, row_at, IsOrders, Searching, Candidate, Improves, Bounded}
 use Rattle.branches.proofs.LeadingRows.{leading-is, leading-row, leading-decides, best-whole}
 use Rattle.branches.proofs.BranchLaws.{covers-lower}
 use Rattle.general_search.proofs.SearchLaws.{improves-refl, improves-trans, searching-better, candidate-lower, bound-below, bound-above}
 
-abbrev pub Branch : ℕ → ℕ → List ℕ → ℕ → Orders 8 → ℕ → Orders 8 → Type 0
+abbrev pub Branch : ℕ → ℕ → List ℕ → ℕ → Orders → ℕ → Orders → Type 0
 Branch m n g k placed s out = Covers m n g (suc k) (swapped (row_numbers placed.rows) k s) (leading_rows m n g out)
 
-abbrev pub NoLater : ℕ → List ℕ → ℕ → Orders 8 → ℕ → Orders 8 → Type 0
+abbrev pub NoLater : ℕ → List ℕ → ℕ → Orders → ℕ → Orders → Type 0
 NoLater n g k placed s out =
     (q : List ℕ) → IsPermutation n q → leading_rows (suc k) n g out ≼ arrangement (suc k) n (swapped (row_numbers placed.rows) k s) q g
 
-pub record Lowest (m n : ℕ) (g : List ℕ) (k t : ℕ) (placed : Orders 8) (breaks : List ℕ) (best out : Orders 8) (from : ℕ) (above : List ℕ) (made : Bool) : Type 0 where
+pub record Lowest (m n : ℕ) (g : List ℕ) (k t : ℕ) (placed : Orders) (breaks : List Bool) (best out : Orders) (from : ℕ) (above : List Bool) (made : Bool) : Type 0 where
   pub improves : Improves m n g k best out
   pub first : k ≤ from
   pub last : from ≤ t
   pub size : length above ≡ 8
   pub before : (s : ℕ) → k ≤ s → s < from → Branch m n g k placed s out
   pub lowest : (s : ℕ) → from ≤ s → s < t → NoLater n g k placed s out
-  pub fresh : (s : ℕ) → t ≤ s → get_or above s 0 ≡ 0
-  pub marked : (s : ℕ) → from ≤ s → s < t → (get_or above s 0 ≡ 0 → ⊥) → Branch m n g k placed s out
+  pub fresh : (s : ℕ) → t ≤ s → get_or above s false ≡ false
+  pub marked : (s : ℕ) → from ≤ s → s < t → (get_or above s false ≡ true) → Branch m n g k placed s out
   pub candidate : made ≡ true → Candidate m n g k from placed breaks out
 
-pub strictly-covers : (m n : ℕ) (g : List ℕ) (k : ℕ) (placed : Orders 8) (s : ℕ) (out : Orders 8) → k < m → NoLater n g k placed s out →
+pub strictly-covers : (m n : ℕ) (g : List ℕ) (k : ℕ) (placed : Orders) (s : ℕ) (out : Orders) → k < m → NoLater n g k placed s out →
     ((q : List ℕ) → IsPermutation n q → leading_rows (suc k) n g out ≡ arrangement (suc k) n (swapped (row_numbers placed.rows) k s) q g → ⊥) → Branch m n g k placed s out
 unfolding Covers Begins
 strictly-covers m n g k placed s out km h ne p op begins q oq =
@@ -62,17 +60,17 @@ strictly-covers m n g k placed s out km h ne p op begins q oq =
     rows : arrangement (suc k) n p q g ≡ arrangement (suc k) n (swapped (row_numbers placed.rows) k s) q g
     rows = leading-is n g p q (swapped (row_numbers placed.rows) k s) q (suc k) (λ i j ik jn. ap (λ (x : ℕ). cell n g x (get_or q j 0)) (begins i ik))
 
-abbrev zeros : List ℕ
-zeros = tabulate 0 8 (λ i. 0)
+abbrev pub none : List Bool
+none = replicate 8 false
 
-pub none-marked : (s : ℕ) → get_or zeros s 0 ≡ 0
+pub none-marked : (s : ℕ) → get_or none s false ≡ false
 none-marked s = go (dec_lt s 8)
   where
-    go : Dec (s < 8) → get_or zeros s 0 ≡ 0
-    go (yes h) = at-tabulate 8 (λ i. 0) s 0 h
-    go (no h) = get_or-eq_default zeros 0 (let e : length zeros ≡ 8 = length-tabulate 0 8 _ in omega arith)
+    go : Dec (s < 8) → get_or none s false ≡ false
+    go (yes h) = get_or-replicate 8 s false false h
+    go (no h) = get_or-eq_default none false (let e : length none ≡ 8 = length-replicate 8 false in omega arith)
 
-pub lowest-none : (m n : ℕ) (g : List ℕ) (k : ℕ) (placed : Orders 8) (breaks : List ℕ) (best : Orders 8) (above : List ℕ) → IsOrders m n best → length above ≡ 8 → ((s : ℕ) → get_or above s 0 ≡ 0) →
+pub lowest-none : (m n : ℕ) (g : List ℕ) (k : ℕ) (placed : Orders) (breaks : List Bool) (best : Orders) (above : List Bool) → IsOrders m n best → length above ≡ 8 → ((s : ℕ) → get_or above s false ≡ false) →
     Lowest m n g k k placed breaks best best k above false
 lowest-none m n g k placed breaks best above o e z = record {
   improves = improves-refl m n g k best o;
@@ -86,24 +84,24 @@ lowest-none m n g k placed breaks best above o e z = record {
   candidate = λ y. absurd (true≢false (sym y));
 }
 
-pub bound-none : (m n : ℕ) (g : List ℕ) (k : ℕ) (placed : Orders 8) (breaks : List ℕ) (best : Orders 8) (b : Bound) → b.best ≡ best → b.from ≡ k →
-    ((s : ℕ) → s < m → get_or b.above s 0 ≡ 0) → b.made ≡ false → IsOrders m n best → Bounded m n g k placed breaks best b
-bound-none m n g k placed breaks best b e f z w o = record {
-  improves = rw e (improves-refl m n g k best o);
-  first = omega arith;
-  before = λ s a c. absurd (omega arith);
-  above = λ s a c nz. absurd (nz (z s c));
-  candidate = λ y. absurd (true≢false (sym y ∙ w));
+pub bound-none : (m n : ℕ) (g : List ℕ) (k : ℕ) (placed : Orders) (breaks : List Bool) (best : Orders) (b : Bound) →
+    (b.best ≡ best) × (b.from ≡ k) × (b.above ≡ none) × (b.made ≡ false) → IsOrders m n best → Bounded m n g k placed breaks best b
+bound-none m n g k placed breaks best b u o = record {
+  improves = rw u.0 (improves-refl m n g k best o);
+  first = omega (arith, u.1);
+  before = λ s a c. absurd (omega (arith, u.1));
+  above = λ s a c y. absurd (true≢false (sym y ∙ rw u.2 (none-marked s)));
+  candidate = λ y. absurd (true≢false (sym y ∙ u.3));
 }
 
-pub bound-placed : (m n : ℕ) (g : List ℕ) (k : ℕ) (placed : Orders 8) (breaks : List ℕ) (best : Orders 8) (b : Bound) → Searching m n g k placed breaks best → Bounded m n g k placed breaks best b →
+pub bound-placed : (m n : ℕ) (g : List ℕ) (k : ℕ) (placed : Orders) (breaks : List Bool) (best : Orders) (b : Bound) → Searching m n g k placed breaks best → Bounded m n g k placed breaks best b →
     Searching m n g k placed breaks b.best × Bounded m n g k placed breaks b.best b
 bound-placed m n g k placed breaks best b s h = (
   searching-better m n g k placed breaks best b.best s h.improves,
   record { improves = improves-refl m n g k b.best h.improves.orders; first = h.first; before = h.before; above = h.above; candidate = h.candidate },
 )
 
-pub lowest-bound : (m n : ℕ) (g : List ℕ) (k t : ℕ) (placed : Orders 8) (breaks : List ℕ) (best : Orders 8) (b : Bound) → m ≤ t →
+pub lowest-bound : (m n : ℕ) (g : List ℕ) (k t : ℕ) (placed : Orders) (breaks : List Bool) (best : Orders) (b : Bound) → m ≤ t →
     Lowest m n g k t placed breaks best b.best b.from b.above b.made → Bounded m n g k placed breaks best b
 lowest-bound m n g k t placed breaks best b mt l = record {
   improves = l.improves;
@@ -114,7 +112,7 @@ lowest-bound m n g k t placed breaks best b mt l = record {
 }
 
 -- the candidate at position t is `next`
-module _ (m n : ℕ) (g : List ℕ) (k t : ℕ) (placed : Orders 8) (breaks : List ℕ) (best out next : Orders 8) (from : ℕ) (above : List ℕ) (made : Bool)
+module _ (m n : ℕ) (g : List ℕ) (k t : ℕ) (placed : Orders) (breaks : List Bool) (best out next : Orders) (from : ℕ) (above : List Bool) (made : Bool)
     (s : Searching m n g k placed breaks out) (c : Candidate m n g k t placed breaks next) (l : Lowest m n g k t placed breaks best out from above made) (km : k < m) where
   -- no column order does better with the candidate's rows
   least : NoLater n g k placed t next
@@ -129,7 +127,7 @@ module _ (m n : ℕ) (g : List ℕ) (k t : ℕ) (placed : Orders 8) (breaks : Li
     before = λ r a b. earlier r a b (dec_lt r from);
     lowest = λ r a b. let e : r ≡ t = omega arith in rw e least;
     fresh = λ r a. l.fresh r (omega arith);
-    marked = λ r a b nz. absurd (nz (l.fresh r a));
+    marked = λ r a b nz. absurd (true≢false (sym nz ∙ l.fresh r a));
     candidate = λ y. c;
   }
     where
@@ -154,8 +152,8 @@ module _ (m n : ℕ) (g : List ℕ) (k t : ℕ) (placed : Orders 8) (breaks : Li
           (λ q o e. strict (rw e (old q o)))
 
   -- out stays, and comes no later than the candidate
-  stays : (above' : List ℕ) → length above' ≡ 8 → ((r : ℕ) → t + 1 ≤ r → get_or above' r 0 ≡ 0) →
-      ((r : ℕ) → from ≤ r → r < t + 1 → (get_or above' r 0 ≡ 0 → ⊥) → Branch m n g k placed r out) → row_at n g k out ≼ row_at n g k next → Lowest m n g k (t + 1) placed breaks best out from above' made
+  stays : (above' : List Bool) → length above' ≡ 8 → ((r : ℕ) → t + 1 ≤ r → get_or above' r false ≡ false) →
+      ((r : ℕ) → from ≤ r → r < t + 1 → (get_or above' r false ≡ true) → Branch m n g k placed r out) → row_at n g k out ≼ row_at n g k next → Lowest m n g k (t + 1) placed breaks best out from above' made
   stays above' e z marked h = record {
     improves = l.improves;
     first = l.first;
@@ -176,13 +174,13 @@ module _ (m n : ℕ) (g : List ℕ) (k t : ℕ) (placed : Orders 8) (breaks : Li
   lowest-equal e =
       stays above l.size (λ r a. l.fresh r (omega arith)) (λ r a b nz. go r a b nz (ℕ_discrete r t)) (rw e (≼_refl (row_at n g k out)))
     where
-      go : (r : ℕ) → from ≤ r → r < t + 1 → (get_or above r 0 ≡ 0 → ⊥) → Dec (r ≡ t) → Branch m n g k placed r out
-      go r a b nz (yes f) = absurd (nz (l.fresh r (omega arith)))
+      go : (r : ℕ) → from ≤ r → r < t + 1 → (get_or above r false ≡ true) → Dec (r ≡ t) → Branch m n g k placed r out
+      go r a b nz (yes f) = absurd (true≢false (sym nz ∙ l.fresh r (omega arith)))
       go r a b nz (no f) = l.marked r a (omega arith) nz
 
-  pub lowest-greater : t < 8 → row_at n g k out ≺ row_at n g k next → Lowest m n g k (t + 1) placed breaks best out from (set above t 1) made
+  pub lowest-greater : t < 8 → row_at n g k out ≺ row_at n g k next → Lowest m n g k (t + 1) placed breaks best out from (set above t true) made
   lowest-greater t8 h =
-      stays (set above t 1) (length-set above t 1 ∙ l.size) (λ r a. let ne : r ≡ t → ⊥ = omega arith in get_or-set_other above t r 1 0 ne ∙ l.fresh r (omega arith))
+      stays (set above t true) (length-set above t true ∙ l.size) (λ r a. let ne : r ≡ t → ⊥ = omega arith in get_or-set_other above t r true false ne ∙ l.fresh r (omega arith))
       (λ r a b nz. go r a b nz (ℕ_discrete r t)) (≺-≼ (row_at n g k out) (row_at n g k next) h)
     where
       lower : leading_rows (suc k) n g out ≼ leading_rows (suc k) n g next
@@ -193,8 +191,8 @@ module _ (m n : ℕ) (g : List ℕ) (k t : ℕ) (placed : Orders 8) (breaks : Li
           h (rw (leading-row n g (row_numbers next.rows) (column_numbers next.columns) (row_numbers out.rows) (column_numbers out.columns) k
           (≼-antisymm (leading_rows (suc k) n g next) (leading_rows (suc k) n g out) z lower)) (≼_refl (row_at n g k out)))
 
-      go : (r : ℕ) → from ≤ r → r < t + 1 → (get_or (set above t 1) r 0 ≡ 0 → ⊥) → Dec (r ≡ t) → Branch m n g k placed r out
+      go : (r : ℕ) → from ≤ r → r < t + 1 → (get_or (set above t true) r false ≡ true) → Dec (r ≡ t) → Branch m n g k placed r out
       go r a b nz (yes f) =
           rw f (strictly-covers m n g k placed t out km (λ q o. ≼_trans (leading_rows (suc k) n g out) (leading_rows (suc k) n g next) _ lower (least q o))
           (λ q o e. strict (rw e (least q o))))
-      go r a b nz (no f) = l.marked r a (omega arith) (rw (get_or-set_other above t r 1 0 f) at nz)
+      go r a b nz (no f) = l.marked r a (omega arith) (rw (get_or-set_other above t r true false f) at nz)

@@ -7,9 +7,11 @@
 --   Counted n g i j sum, counted_none, counted_next, counted-all  ==  the cells of row i before column j are counted, and their number is small: at first, a cell more, at the end
 --   rows_none, rows_next  ==  the rows are counted: none, and a row more
 --   greatest-one, greatest-next, greatest-stays  ==  the greatest of some numbers: of one, and with a number more that is greater, or not
---   marks-none, marks-one  ==  only lesser numbers are marked: with no mark, and with a mark more
+--   greatest-part     ==  of a part of the numbers
+--   marks-none, marks-next  ==  only lesser numbers are marked: with no mark, and past a number that is told to be less or not
 use mathlib.Core.Path.{◌≡◌, refl, sym, ap, ◌∙◌}
 use mathlib.Core.List.{List, [], ◌∷◌}
+use mathlib.Core.Bool.{Bool, false, true≢false}
 use mathlib.Core.Logic.{inl, inr}
 use Prim.Native.Nat.{ℕ, zero, suc, ◌+◌, ◌-◌, ◌*◌, ◌%◌, ◌^◌, ◌≤◌, ◌<◌}
 use native.Mathlib.Nat.{add-zero, zero-add, suc-mul, one-mul, not-suc-le-zero, mul-le-mul_right}
@@ -17,10 +19,10 @@ use native.Mathlib.Decide.{ℕ_discrete, dec_lt}
 use native.Mathlib.Omega.{arith}
 use native.Mathlib.Numerals.{add-one}
 use lib.ListN.{length, get_or, set, take}
-use lib.Seq.{get_or-take, get_or-set_same, get_or-set_other}
-use lib.Dec.{leb}
+use lib.Seq.{get_or-take, length-take-le, get_or-set_same, get_or-set_other}
+use lib.Dec.{leb, ltb}
 use lib.Pow.{shl_exact}
-use borrow.Author.Tests.{leb-true, lt-ltb, le-ltb}
+use borrow.Author.Tests.{leb-true, ltb-true, lt-ltb, le-ltb}
 use Rattle.permutations.specs.Lists.{tabulate, numbers, every}
 use Rattle.permutations.specs.Permutations.{IsPermutation}
 use Rattle.permutations.specs.Padded.{IsPadded}
@@ -201,16 +203,27 @@ module _ (t : ℕ) (c : List ℕ) (r : ℕ) (h : FirstGreatest t c r) where
     greatest = no-greater r (omega arith) le;
   }
 
+-- the same in a part of the numbers
+pub greatest-part : (m : ℕ) (c : List ℕ) (r : ℕ) → m ≤ length c → FirstGreatest (length (take m c)) (take m c) r → FirstGreatest m c r
+greatest-part m c r h f =
+    let n = length-take-le m c h in
+    let at : (s : ℕ) → s < m → get_or (take m c) s 0 ≡ get_or c s 0 = λ s b. get_or-take m c s 0 b in
+    record {
+      within = omega (arith, f.within);
+      before = λ s b. omega (arith, f.before s b, f.within, at s (omega (arith, f.within)), at r (omega (arith, f.within)));
+      greatest = λ s b. omega (arith, f.greatest s (omega arith), at s b, at r (omega (arith, f.within)));
+    }
+
 -- ---- marks
 
-pub marks-none : (c : List ℕ) (r : ℕ) (marks : List ℕ) → ((s : ℕ) → get_or marks s 0 ≡ 0) → MarksLess c r marks
+pub marks-none : (c : List ℕ) (r : ℕ) (marks : List Bool) → ((s : ℕ) → get_or marks s false ≡ false) → MarksLess c r marks
 unfolding MarksLess
-marks-none c r marks z s nz = absurd (nz (z s))
+marks-none c r marks z s nz = absurd (true≢false (sym nz ∙ z s))
 
-pub marks-one : (c : List ℕ) (r : ℕ) (marks : List ℕ) (t : ℕ) → get_or c t 0 < get_or c r 0 → MarksLess c r marks → MarksLess c r (set marks t 1)
+pub marks-next : (c : List ℕ) (r : ℕ) (marks : List Bool) (t : ℕ) → t < length marks → MarksLess c r marks → MarksLess c r (set marks t (ltb (get_or c t 0) (get_or c r 0)))
 unfolding MarksLess
-marks-one c r marks t l h s nz = go (ℕ_discrete s t)
+marks-next c r marks t tl h s yes-s = go (ℕ_discrete s t)
   where
     go : Dec (s ≡ t) → get_or c s 0 < get_or c r 0
-    go (yes e) = rw e l
-    go (no ne) = h s (rw (get_or-set_other marks t s 1 0 ne) at nz)
+    go (yes e) = rw e (ltb-true (get_or c t 0) (get_or c r 0) (sym (get_or-set_same marks t _ false tl) ∙ rw e at yes-s))
+    go (no ne) = h s (rw (get_or-set_other marks t s _ false ne) at yes-s)

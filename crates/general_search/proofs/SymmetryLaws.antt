@@ -12,13 +12,18 @@ use native.Mathlib.Decide.{ℕ_discrete}
 use native.Mathlib.Omega.{arith}
 use lib.ListN.{get_or, take}
 use lib.Seq.{get_or-take}
+use native.Mathlib.Nat.{zero-add}
+use lib.ListN.{length}
+use Rattle.std.specs.Prelude.{Option, Some, None, unwrap_or, MatchOption}
+use Rattle.std.specs.List.{AllWithin, HoldsAt, range_with_len}
+use Rattle.std.proofs.lemmas.List.FromFn.{length-range_with_len, get_or-range_with_len}
 use Rattle.permutations.specs.Permutations.{swapped}
 use Rattle.permutations.specs.Padded.{IsPadded}
 use Rattle.permutations.specs.Rows.{row_numbers}
 use Rattle.permutations.specs.Columns.{column_numbers}
 use Rattle.grids.specs.Grids.{cell, arrangement}
 use Rattle.grids.proofs.OrderLaws.{agree-next}
-use Rattle.permutations.specs.declared.orders.Orders.{Orders}
+use Rattle.general_search.specs.declared.search.Orders.{Orders}
 use Rattle.branches.specs.Branches.{Begins, Covers}
 use Rattle.general_search.specs.Search.{leading_rows, IsOrders, Alike, InCommon}
 use Rattle.branches.proofs.LeadingRows.{leading-is}
@@ -26,12 +31,12 @@ use Rattle.branches.proofs.BranchLaws.{covers-agree, placed-stay, placed-next}
 use Rattle.branches.proofs.BranchSymmetry.{covers-alike}
 
 -- the orders' own permutations give the arrangement
-own : (m n : ℕ) (g : List ℕ) (o : Orders 8) → arrangement m n (take m (row_numbers o.rows)) (take n (column_numbers o.columns)) g ≡ leading_rows m n g o
+own : (m n : ℕ) (g : List ℕ) (o : Orders) → arrangement m n (take m (row_numbers o.rows)) (take n (column_numbers o.columns)) g ≡ leading_rows m n g o
 own m n g o =
     leading-is n g (take m (row_numbers o.rows)) (take n (column_numbers o.columns)) (row_numbers o.rows) (column_numbers o.columns) m λ i j im jn.
     ap₂ (λ (a b : ℕ). cell n g a b) (get_or-take m (row_numbers o.rows) i 0 im) (get_or-take n (column_numbers o.columns) j 0 jn)
 
-pub alike-fewer : (m n : ℕ) (g : List ℕ) (k : ℕ) (next placed : List ℕ) (out : Orders 8) (back : ℕ) → ((i : ℕ) → i < k → get_or next i 0 ≡ get_or placed i 0) →
+pub alike-fewer : (m n : ℕ) (g : List ℕ) (k : ℕ) (next placed : List ℕ) (out : Orders) (back : ℕ) → ((i : ℕ) → i < k → get_or next i 0 ≡ get_or placed i 0) →
     Alike m n g (suc k) next out back → Alike m n g k placed out back
 unfolding Begins
 alike-fewer m n g k next placed out back same a = record {
@@ -45,7 +50,7 @@ alike-fewer m n g k next placed out back same a = record {
 }
 
 -- The branch of the row at position t holds a copy of out, which begins with the same k rows and goes on with the row at position s.
-pub alike-covered : (m n : ℕ) (g : List ℕ) (k s t : ℕ) (p r : List ℕ) (out : Orders 8) → m ≤ 8 → k < m → IsPadded 8 m p → IsOrders m n out → k ≤ s → s < m → k ≤ t → t < m →
+pub alike-covered : (m n : ℕ) (g : List ℕ) (k s t : ℕ) (p r : List ℕ) (out : Orders) → m ≤ 8 → k < m → IsPadded 8 m p → IsOrders m n out → k ≤ s → s < m → k ≤ t → t < m →
     Alike m n g (suc k) (swapped p k t) out k → get_or p s 0 ≡ get_or (row_numbers out.rows) k 0 → Covers m n g (suc k) (swapped p k s) r → Covers m n g (suc k) (swapped p k t) r
 unfolding Begins
 alike-covered m n g k s t p r out m8 km o io ks sm kt tm a e c =
@@ -65,7 +70,7 @@ alike-covered m n g k s t p r out m8 km o io ks sm kt tm a e c =
         ∙ placed-stay m n g k p m8 km o t kt i (omega arith)
         ∙ sym (placed-stay m n g k p m8 km o s ks i (omega arith))
 
-pub alike-last : (m n : ℕ) (g : List ℕ) (k : ℕ) (placed : List ℕ) (next out : Orders 8) (back : ℕ) → k ≤ m → IsOrders m n next → ((i : ℕ) → i < k → get_or (row_numbers next.rows) i 0 ≡ get_or placed i 0) →
+pub alike-last : (m n : ℕ) (g : List ℕ) (k : ℕ) (placed : List ℕ) (next out : Orders) (back : ℕ) → k ≤ m → IsOrders m n next → ((i : ℕ) → i < k → get_or (row_numbers next.rows) i 0 ≡ get_or placed i 0) →
     leading_rows m n g next ≡ leading_rows m n g out → ((i : ℕ) → i < back → get_or (row_numbers next.rows) i 0 ≡ get_or (row_numbers out.rows) i 0) → back ≤ m → Alike m n g k placed out back
 unfolding Begins
 alike-last m n g k placed next out back km io same e common bm = record {
@@ -85,3 +90,24 @@ common-none a b count = record { up_to = omega arith; same = λ i h. absurd (not
 
 pub common-next : (a b : List ℕ) (count i : ℕ) → i < count → get_or a i 0 ≡ get_or b i 0 → InCommon a b count i → InCommon a b count (i + 1)
 common-next a b count i ic e c = record { up_to = omega arith; same = agree-next a b i c.same e }
+
+pub common-found : (a b : List ℕ) (count : ℕ) (r : Option ℕ) →
+    MatchOption r (AllWithin (λ (i : ℕ). get_or a i 0 ≡ get_or b i 0) (range_with_len 0 count) 0 (length (range_with_len 0 count)))
+    (λ x. (get_or a x 0 ≡ get_or b x 0 → ⊥) × (i : ℕ) × (i < length (range_with_len 0 count)) × HoldsAt (λ y. y ≡ x) (range_with_len 0 count) i
+    × AllWithin (λ (i : ℕ). get_or a i 0 ≡ get_or b i 0) (range_with_len 0 count) 0 i) →
+    InCommon a b count (unwrap_or r count)
+common-found a b count None h = record {
+  up_to = omega arith;
+  same = λ i ic.
+      let s = h i 0 (omega arith) (omega (arith, length-range_with_len 0 count)) in
+      rw (get_or-range_with_len 0 count i 0 ic, zero-add i) at s;
+}
+common-found a b count (Some x) h =
+    let n = length-range_with_len 0 count in
+    let e : x ≡ h.1 = sym (h.3 0) ∙ get_or-range_with_len 0 count h.1 0 (omega (arith, h.2)) ∙ zero-add h.1 in
+    record {
+      up_to = omega (arith, h.2);
+      same = λ i ix.
+          let s = h.4 i 0 (omega arith) (omega arith) in
+          rw (get_or-range_with_len 0 count i 0 (omega (arith, h.2)), zero-add i) at s;
+    }

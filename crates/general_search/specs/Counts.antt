@@ -8,7 +8,7 @@
 --   CountsRows m n g p c  ==  c holds the numbers of the first m rows of the order p
 --   FirstGreatest t c r   ==  the greatest of the first t numbers of c stands first at r
 --   MarksLess c r marks   ==  marks are set only where the number in c is less than that at r
-use Rattle.std.specs.Prelude.{◌≡◌, List, [], ◌∷◌, true, false, ℕ, ◌+◌, ◌-◌, ◌*◌, ◌^◌, ◌≤◌, ◌<◌, get_or, ltb}
+use Rattle.std.specs.Prelude.{◌≡◌, Bool, List, [], ◌∷◌, true, false, ℕ, ◌+◌, ◌-◌, ◌*◌, ◌^◌, ◌≤◌, ◌<◌, get_or, ltb}
 use Rattle.grids.specs.Order.{rank}
 use Rattle.grids.specs.Grids.{row}
 
@@ -30,5 +30,5 @@ pub record FirstGreatest (t : ℕ) (c : List ℕ) (r : ℕ) : Type 0 where
   pub before : (s : ℕ) → s < r → get_or c s 0 < get_or c r 0
   pub greatest : (s : ℕ) → s < t → get_or c s 0 ≤ get_or c r 0
 
-unfoldable pub MarksLess : List ℕ → ℕ → List ℕ → Type 0
-MarksLess c r marks = (s : ℕ) → (get_or marks s 0 ≡ 0 → ⊥) → get_or c s 0 < get_or c r 0
+unfoldable pub MarksLess : List ℕ → ℕ → List Bool → Type 0
+MarksLess c r marks = (s : ℕ) → (get_or marks s false ≡ true) → get_or c s 0 < get_or c r 0

@@ -2,5 +2,7 @@
 #![tactic(auto)]
 
 mod blocks;
+mod candidates;
 pub mod search;
+mod state;
 pub mod terminal_search;

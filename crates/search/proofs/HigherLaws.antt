@@ -2,12 +2,10 @@
 --
 --   lane-add, lane-sub  ==  words are added and subtracted byte by byte, where no byte carries or borrows
 --   lane_and         ==  so are they joined by `and`
---   or-below         ==  words of 16 bits joined by `or` have 16 bits
---   level-words      ==  words of the levels of a table have bytes of at most 15
 --   level-word-most  ==  such a word is at most 15 in every byte
 --   none-higher      ==  what a test of two such words and a set of rows tells
 use Rattle.std.proofs.Common.{◌≡◌, ℕ, zero, suc, ◌+◌, ◌-◌, ◌*◌, ◌/◌, ◌%◌, ◌^◌, ◌<◌, ◌≤◌, List, get_or, sym, ap, ◌∙◌, ap₂, not-suc-le-zero, arith}
-use lib.Bits.{bit_and, bit_or, or_lt, and_block, and_mask, and_zero_r, and_shr, and_lt}
+use lib.Bits.{bit_and, and_block, and_mask, and_zero_r, and_shr, and_lt}
 use Rattle.search.specs.RowSets.{lane, HasRow}
 use Rattle.search.specs.ColumnLists.{LevelWords}
 use Rattle.search.specs.Domination.{NoneHigher}
@@ -34,9 +32,6 @@ lane_and zero a b =
     let f : bit_and a b ≡ bit_and (a / 256) (b / 256) * 2 ^ 8 + bit_and (a % 256) (b % 256) = ap₂ bit_and ea eb ∙ and_block 8 (a / 256) (b / 256) (a % 256) (b % 256) (omega arith) (omega arith) in
     omega (arith, f, and_lt 8 (a % 256) (b % 256) (omega arith) (omega arith))
 lane_and (suc x) a b = ap (lane x) (and_shr a b 8) ∙ lane_and x (a / 256) (b / 256)
-
-pub or-below : (a z : ℕ) → a < 65536 → bit_or a (z % 65536) < 65536
-or-below a z l = or_lt 16 a (z % 65536) l (omega arith)
 
 -- the highest bit of a byte
 high : (y : ℕ) → bit_and y 128 ≡ (y / 128) % 2 * 128

@@ -5,8 +5,8 @@
 --   digit-next         ==  a number to base 16 with a digit more
 --   number-room        ==  a number of less than 16 digits has room for one more
 --   lowest-one, lowest-next  ==  the least of some keys: of one, and with a key more
---   with_none, with-next, with_all  ==  the rows that have a key: at first, with a row more, and at the end
-use Rattle.std.proofs.Common.{◌≡◌, ℕ, zero, suc, ◌+◌, ◌-◌, ◌*◌, ◌^◌, ◌<◌, ◌≤◌, eqb, ◌⊎◌, List, map, min, get_or, sym, ap, ◌∙◌, inl, inr, mul-suc, add-one, arith, pow_mono, pow-add, eq-eqb, eqb-true}
+--   with_none, with-next  ==  the rows that have a key: at first, and with a row more
+use Rattle.std.proofs.Common.{◌≡◌, ℕ, zero, suc, ◌+◌, ◌*◌, ◌^◌, ◌<◌, ◌≤◌, eqb, ◌⊎◌, List, map, min, get_or, sym, ap, ◌∙◌, inl, inr, mul-suc, add-one, arith, pow_mono, pow-add, eq-eqb, eqb-true}
 use native.Mathlib.Decide.{ℕ_discrete, dec_lt}
 use lib.Bits.{bit_or}
 use Rattle.permutations.specs.Rows.{row_number}
@@ -24,14 +24,14 @@ column-most l j = omega arith
 
 -- ---- rows at positions
 
-module _ (l : List RowNumber) (w : RowsWithin (l)) (t : ℕ) (t8 : t < 8) (d : RowNumber) where
-  pub row_at : get_or (l) t 0 ≡ row_number (get_or l t d)
+module _ (l : List RowNumber) (w : RowsWithin (map row_number l)) (t : ℕ) (t8 : t < 8) (d : RowNumber) where
+  pub row_at : get_or (map row_number l) t 0 ≡ row_number (get_or l t d)
   row_at = sym (map_at row_number l t d (omega (arith, map-length row_number l 8 w.size)))
 
   pub row_within : row_number (get_or l t d) < 8
   row_within = omega (arith, row_at, w.within t t8)
 
-  pub key-at : (keys : List ℕ) → get_or keys (get_or (l) t 0) 0 ≡ get_or keys (row_number (get_or l t d)) 0
+  pub key-at : (keys : List ℕ) → get_or keys (get_or (map row_number l) t 0) 0 ≡ get_or keys (row_number (get_or l t d)) 0
   key-at keys = ap (λ (z : ℕ). get_or keys z 0) row_at
 
 -- ---- numbers to base 16
@@ -102,10 +102,3 @@ with-next t k p keys v s row kt e r8 w = record {
     which r (inr h) =
         let o = one_only (eqb (get_or keys row 0) v) row r8 r h in
         (t, kt, omega arith, e ∙ sym o.0, rw o.0 (eqb-true (get_or keys row 0) v o.1))
-
-pub with_all : (m t k : ℕ) (p keys : List ℕ) (v s : ℕ) → m ≤ t → t ≤ m + (k - m) → WithKey t k p keys v s → WithKey m k p keys v s
-with_all m t k p keys v s mt most w = record {
-  set = w.set;
-  has = λ u ku um. w.has u ku (omega arith);
-  only = λ r h. let o = w.only r h in (o.0, o.1, omega (arith, o.1, o.2), o.3, o.4);
-}

@@ -10,7 +10,7 @@
 --   fresh-next, known_next  ==  so are they handed on: without a key, and with it, from the columns sorted with one of these rows placed
 --   first-after     ==  how many columns come after each with that row placed
 --   rest-without    ==  the rows left once one is placed
-use Rattle.std.proofs.Common.{◌≡◌, ℕ, suc, ◌+◌, ◌-◌, ◌*◌, ◌^◌, ◌<◌, ◌≤◌, Bool, true, false, ◌↔◌, List, length, get_or, sym, ap, ◌∙◌, true≢false, arith, get_or-take}
+use Rattle.std.proofs.Common.{◌≡◌, ℕ, suc, ◌+◌, ◌-◌, ◌*◌, ◌^◌, ◌<◌, ◌≤◌, Bool, true, false, None, Some, ◌↔◌, List, length, get_or, sym, ap, ◌∙◌, true≢false, arith, get_or-take}
 use native.Mathlib.Decide.{ℕ_discrete, dec_lt}
 use Rattle.permutations.specs.Permutations.{swapped}
 use Rattle.permutations.specs.Sums.{sum_to}
@@ -35,6 +35,7 @@ use Rattle.branches.proofs.NextLaws.{digits_are, sifted-within, sifted-next}
 use Rattle.branches.proofs.KeyedRows.{key-lower, key-same, same_key, rows-swapped}
 use Rattle.search.specs.declared.node.Node.{Node}
 use Rattle.search.specs.declared.node.Candidates.{Candidates}
+use Rattle.search.specs.declared.node.Refinement.{Refinement}
 use Rattle.search.specs.declared.found.Found.{Found}
 use Rattle.search.specs.RowSets.{IsRowSet, HasRow, RowsFrom}
 use Rattle.search.specs.ColumnLists.{column_at, columns_of, Lists, end_of, levels_of}
@@ -126,7 +127,7 @@ module _ {m n : ℕ} {g : List ℕ} {two : Bool} {low : ℕ} {y w x : List ℕ} 
             absurd (lower-key u t ku um h.left h.within (omega (arith, key-is u ku um, key-is t h.left h.within)) (h.least u ku um))
         go (no l) u = omega (arith, lowest.no_more t h.left h.within)
 
-    pub keys-next : (c : Candidates) → c.rows.0 ≡ set → c.key ≡ least → c.made ≡ false → NextRows m n g two low y node c
+    pub keys-next : (c : Candidates) → c.rows.bytes ≡ set → c.key ≡ least → c.made ≡ None → NextRows m n g two low y node c
     keys-next c rows key-least made = rw-set
       where
         one : (t : ℕ) → k ≤ t → t < m → HasRow set (get_or p t 0) → IsNext m n g k p t
@@ -138,7 +139,7 @@ module _ {m n : ℕ} {g : List ℕ} {two : Bool} {low : ℕ} {y w x : List ℕ} 
         key-as : (t : ℕ) → IsNext m n g k p t → c.key ≡ key-with t
         key-as t h = key-least ∙ sym (least-of t h) ∙ key-is t h.left h.within
 
-        left-of : (r : ℕ) → HasRow set r → HasRow node.rest.0 r
+        left-of : (r : ℕ) → HasRow set r → HasRow node.rest.bytes r
         left-of r h = let u = has.only r h in rw (← u.3) (s.rest.has u.0 u.1 u.2)
 
         rw-set : NextRows m n g two low y node c
@@ -150,7 +151,7 @@ module _ {m n : ℕ} {g : List ℕ} {two : Bool} {low : ℕ} {y w x : List ℕ} 
           some = let u = lowest.reached in (u.0, next_of u.0 u.1 u.2 u.3);
           key-two = λ e. key-as;
           key-known = λ e. key-as;
-          refined = λ e. absurd (true≢false (sym e ∙ made));
+          refined = rw made tt;
         }
 
   -- ---- any values
@@ -177,10 +178,10 @@ module _ {m n : ℕ} {g : List ℕ} {two : Bool} {low : ℕ} {y w x : List ℕ} 
       go t t8 (yes tm) = omega (arith, row_within t tm, m8)
       go t t8 (no tm) = omega (arith, rest-whole 8 m p s.rows t t8 (omega arith))
 
-  pub rest_some : node.rest.0 ≡ 0 → ⊥
-  rest_some e = none-of-zero node.rest.0 (get_or p k 0) e (s.rest.has k (omega arith) km)
+  pub rest_some : node.rest.bytes ≡ 0 → ⊥
+  rest_some e = none-of-zero node.rest.bytes (get_or p k 0) e (s.rest.has k (omega arith) km)
 
-  pub leaves-lone : m - k ≡ 1 → Leaves m n g node node.rest.0
+  pub leaves-lone : m - k ≡ 1 → Leaves m n g node node.rest.bytes
   leaves-lone one = record {
     set = s.rest.set;
     left = λ r h. h;
@@ -213,7 +214,7 @@ module _ {m n : ℕ} {g : List ℕ} {two : Bool} {low : ℕ} {y w x : List ℕ} 
         same : (u i : ℕ) → u < n → u ≤ i → i < end_of l node.after u → end_of l node.after u ≤ n → end_of l node.after i ≡ end_of l node.after u
         same u i un ui ie en = sym (ends-are i (omega arith)) ∙ ends.same u i un ui (rw (ends-are u un) ie) ∙ ends-are u un
 
-    pub leaves-sifted : (set : ℕ) → IsRowSet set → (set ≡ 0 → ⊥) → Sifts n (end_of l node.after) (levels_of w l) (HasRow node.rest.0) n (HasRow set) → Leaves m n g node set
+    pub leaves-sifted : (set : ℕ) → IsRowSet set → (set ≡ 0 → ⊥) → Sifts n (end_of l node.after) (levels_of w l) (HasRow node.rest.bytes) n (HasRow set) → Leaves m n g node set
     unfolding levels_of
     leaves-sifted set is_set some sifts = record {
       set = is_set;
@@ -223,7 +224,7 @@ module _ {m n : ℕ} {g : List ℕ} {two : Bool} {low : ℕ} {y w x : List ℕ} 
       some = some;
     }
       where
-        levels-are : (i r j : ℕ) → HasRow node.rest.0 r → i + j < n → levels_of w l i r j ≡ level (cell n g r (get_or (columns_of n l) (i + j) 0))
+        levels-are : (i r j : ℕ) → HasRow node.rest.bytes r → i + j < n → levels_of w l i r j ≡ level (cell n g r (get_or (columns_of n l) (i + j) 0))
         levels-are i r j h ij =
             let t = s.rest.only r h in
             let rm : r < m = rw t.3 at (row_within t.0 t.2) in
@@ -232,17 +233,17 @@ module _ {m n : ℕ} {g : List ℕ} {two : Bool} {low : ℕ} {y w x : List ℕ} 
             ∙ s.tables.by_rows.holds r (column_at l (i + j)) rm c
             ∙ ap (λ (d : ℕ). level (cell n g r d)) (sym (column-is (i + j) ij))
 
-        by-list : Sifts n (λ u. 16 - get_or node.after (get_or (columns_of n l) u 0) 0) (levels_of w l) (HasRow node.rest.0) n (HasRow set)
-        by-list = sifts-ends n (end_of l node.after) (λ u. 16 - get_or node.after (get_or (columns_of n l) u 0) 0) (λ u un. sym (ends-are u un)) (levels_of w l) (HasRow node.rest.0) n (HasRow set) sifts
+        by-list : Sifts n (λ u. 16 - get_or node.after (get_or (columns_of n l) u 0) 0) (levels_of w l) (HasRow node.rest.bytes) n (HasRow set)
+        by-list = sifts-ends n (end_of l node.after) (λ u. 16 - get_or node.after (get_or (columns_of n l) u 0) 0) (λ u un. sym (ends-are u un)) (levels_of w l) (HasRow node.rest.bytes) n (HasRow set) sifts
 
-        within-rest : (r : ℕ) → HasRow set r → HasRow node.rest.0 r
+        within-rest : (r : ℕ) → HasRow set r → HasRow node.rest.bytes r
         within-rest =
-            sifted-within m n g k p node.after (columns_of n l) s.tables.columns-fit m8 s.tables.size s.tables.valued.small km s.rows s.places lists.sorts (HasRow node.rest.0) (HasRow set)
+            sifted-within m n g k p node.after (columns_of n l) s.tables.columns-fit m8 s.tables.size s.tables.valued.small km s.rows s.places lists.sorts (HasRow node.rest.bytes) (HasRow set)
             s.rest.has s.rest.only (levels_of w l) levels-are by-list
 
         both : (t : ℕ) → k ≤ t → t < m → HasRow set (get_or p t 0) ↔ IsNext m n g k p t
         both =
-            sifted-next m n g k p node.after (columns_of n l) s.tables.columns-fit m8 s.tables.size s.tables.valued.small km s.rows s.places lists.sorts (HasRow node.rest.0) (HasRow set)
+            sifted-next m n g k p node.after (columns_of n l) s.tables.columns-fit m8 s.tables.size s.tables.valued.small km s.rows s.places lists.sorts (HasRow node.rest.bytes) (HasRow set)
             s.rest.has s.rest.only (levels_of w l) levels-are by-list
 
   -- some row of such a set
@@ -253,7 +254,7 @@ module _ {m n : ℕ} {g : List ℕ} {two : Bool} {low : ℕ} {y w x : List ℕ} 
       (t.0, h.only t.0 t.1 t.2 (rw t.3 r.1))
 
   -- without a key, where the search is fresh
-  pub fresh-next : two ≡ false → node.fresh ≡ true → (set : ℕ) → Leaves m n g node set → (c : Candidates) → c.rows.0 ≡ set → c.made ≡ false → NextRows m n g two low y node c
+  pub fresh-next : two ≡ false → node.fresh ≡ true → (set : ℕ) → Leaves m n g node set → (c : Candidates) → c.rows.bytes ≡ set → c.made ≡ None → NextRows m n g two low y node c
   fresh-next z f set h c rows made = record {
     set = rw rows h.set;
     left = rw rows h.left;
@@ -262,7 +263,7 @@ module _ {m n : ℕ} {g : List ℕ} {two : Bool} {low : ℕ} {y w x : List ℕ} 
     some = some_next set h;
     key-two = λ e. absurd (true≢false (sym e ∙ z));
     key-known = λ e. absurd (true≢false (sym f ∙ e));
-    refined = λ e. absurd (true≢false (sym e ∙ made));
+    refined = rw made tt;
   }
 
   -- the columns with a row of the set placed
@@ -298,9 +299,9 @@ module _ {m n : ℕ} {g : List ℕ} {two : Bool} {low : ℕ} {y w x : List ℕ} 
     pub first-after : After n further
     first-after = places-after (suc k) n g (swapped p k t0) further s.tables.columns-fit first-places
 
-    pub known_next : (l : ℕ) → Lists n further l → (v : ℕ) → v ≡ number n (λ j. entry y first (column_at l j)) → (c : Candidates) → c.rows.0 ≡ set → c.key ≡ v → c.first.0 ≡ first → c.after ≡ further → NextRows m n g two low y node c
+    pub known_next : (l : ℕ) → Lists n further l → (v : ℕ) → v ≡ number n (λ j. entry y first (column_at l j)) → (c : Candidates) → c.rows.bytes ≡ set → c.key ≡ v → (made : Refinement) → c.made ≡ Some made → made.row.0 ≡ first → made.after ≡ further → NextRows m n g two low y node c
     unfolding key columns_of
-    known_next l lists v is c rows key-is first-is after_is = record {
+    known_next l lists v is c rows key-is made made-is first-is after_is = record {
       set = rw rows h.set;
       left = rw rows h.left;
       only = rw rows h.only;
@@ -308,7 +309,7 @@ module _ {m n : ℕ} {g : List ℕ} {two : Bool} {low : ℕ} {y w x : List ℕ} 
       some = some_next set h;
       key-two = λ e. absurd (true≢false (sym e ∙ z));
       key-known = λ e t ht. key-is ∙ first_key ∙ next_keys t0 t is-next ht;
-      refined = λ e. rw (first-is, after_is) refined;
+      refined = rw (made-is, first-is, after_is) refined;
     }
       where
         entries : (j : ℕ) → j < n → entry y first (column_at l j) ≡ level (cell n g (get_or (swapped p k t0) k 0) (get_or (columns_of n l) j 0))
@@ -328,7 +329,7 @@ module _ {m n : ℕ} {g : List ℕ} {two : Bool} {low : ℕ} {y w x : List ℕ} 
   once : (i j : ℕ) → i < m → j < m → get_or p i 0 ≡ get_or p j 0 → i ≡ j
   once i j im jm e = s.rows.permutation.once i j im jm (get_or-take m p i 0 im ∙ e ∙ sym (get_or-take m p j 0 jm))
 
-  pub rest-without : (t : ℕ) → k ≤ t → t < m → (rest : ℕ) → IsRowSet rest → ((r : ℕ) → HasRow rest r ↔ (HasRow node.rest.0 r × (r ≡ get_or p t 0 → ⊥))) → RowsFrom (suc k) m (swapped p k t) rest
+  pub rest-without : (t : ℕ) → k ≤ t → t < m → (rest : ℕ) → IsRowSet rest → ((r : ℕ) → HasRow rest r ↔ (HasRow node.rest.bytes r × (r ≡ get_or p t 0 → ⊥))) → RowsFrom (suc k) m (swapped p k t) rest
   rest-without t kt tm rest is_set has = record {
     set = is_set;
     has = λ u ku um. later u ku um (ℕ_discrete u t);

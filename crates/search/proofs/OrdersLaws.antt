@@ -6,12 +6,11 @@
 --   searched-least  ==  what the search found from its start, with the columns sorted, is the least arrangement
 use Rattle.std.proofs.Common.{◌≡◌, ℕ, ◌-◌, ◌*◌, ◌<◌, ◌≤◌, Bool, true, false, ltb, ◌↔◌, List, length, get_or, take, sym, ap, ◌∙◌, inl, true≢false, arith, length-take-le, get_or-take, le-ltb, lt-ltb}
 use native.Mathlib.Decide.{dec_lt}
-use Rattle.permutations.specs.Columns.{ColumnPermutation}
+use Rattle.permutations.specs.declared.columns.ColumnPermutation.{ColumnPermutation}
 use Rattle.permutations.specs.Lists.{tabulate}
 use Rattle.permutations.specs.Permutations.{identity}
 use Rattle.permutations.specs.Padded.{padded}
-use Rattle.permutations.specs.Columns.{column_numbers, IsColumnPermutation}
-use Rattle.permutations.specs.Numbered.{Lists}
+use Rattle.permutations.specs.Columns.{column_numbers, IsColumnPermutation, ListsColumns}
 use Rattle.permutations.proofs.ListLaws.{length-tabulate, at-tabulate, tabulate-is, tabulate-ext}
 use Rattle.permutations.proofs.PermutationLaws.{at-identity}
 use Rattle.permutations.proofs.SwapLaws.{identity-whole}
@@ -29,7 +28,7 @@ use Rattle.search.specs.declared.found.Found.{Found}
 use Rattle.search.specs.RowSets.{IsRowSet, HasRow, RowsFrom}
 use Rattle.search.specs.ColumnLists.{column_at, columns_of, Lists}
 use Rattle.search.specs.Tables.{Tables, first_place, FirstPlaces}
-use Rattle.search.specs.Search.{rows_of, Standing, Outcome}
+use Rattle.search.specs.Search.{keys_of, is_ready, keys_with, keyed_at, rows_of, Standing, Outcome}
 
 first-inside : (n c : ℕ) → c < n → first_place n c ≡ 16 - n
 unfolding first_place
@@ -53,10 +52,10 @@ rows-first m p s m8 e is_set has = record {
   only = λ r h. let rm = (has r).0 h in (r, omega arith, rm, rw e (at-identity 8 r (omega arith)));
 }
 
-pub starting : {m n : ℕ} {g : List ℕ} {two : Bool} {low : ℕ} {y w x : List ℕ} (node : Node) (f : Found) → Tables m n g two low y w x → rows_of node.rows ≡ identity 8 → FirstPlaces n node.after → RowsFrom 0 m (rows_of node.rows) node.rest.0 →
-    node.placed ≡ 0 → node.fresh ≡ true → length f.keys ≡ 8 → f.ready ≡ two → f.apart ≡ 120 → f.back ≡ m → length (rows_of f.symmetries) ≡ 32 → f.kept ≡ 0 → Standing m n g two low y w x node f
+pub starting : {m n : ℕ} {g : List ℕ} {two : Bool} {low : ℕ} {y w x : List ℕ} (node : Node) (f : Found) → Tables m n g two low y w x → rows_of node.rows ≡ identity 8 → FirstPlaces n node.after → RowsFrom 0 m (rows_of node.rows) node.rest.bytes →
+    node.placed ≡ 0 → node.fresh ≡ true → length (keys_of f.keys) ≡ 8 → is_ready f.keys ≡ two → f.apart ≡ 120 → f.back ≡ m → length (rows_of f.symmetries.maps) ≡ 32 → f.symmetries.count ≡ 0 → Standing m n g two low y w x node f
 unfolding IsApart
-starting {m} {n} {g} node f tables rows first rest placed fresh keys ready apart back symmetries kept = record {
+starting {m} {n} {g} node f tables rows first rest placed fresh keys ready apart back symmetries count = record {
   tables = tables;
   placed-fits = omega (arith, placed);
   rows = rw rows (identity-whole 8 m tables.rows_fit);
@@ -68,12 +67,12 @@ starting {m} {n} {g} node f tables rows first rest placed fresh keys ready apart
   follows = λ e. absurd (true≢false (sym fresh ∙ e));
   pairs = inl apart;
   back = back;
-  symmetries = record { few = omega (arith, kept); size = symmetries; each = λ s h. absurd (omega (arith, kept)) };
+  symmetries = record { few = omega (arith, count); size = symmetries; each = λ s h. absurd (omega (arith, count)) };
 }
 
 -- ---- the columns
 
-module _ (n l : ℕ) (a : List ℕ) (n16 : n ≤ 16) (lists : Lists n a l) (c : ColumnPermutation) (h : Lists (tabulate 0 16 (column_at l)) n c) where
+module _ (n l : ℕ) (a : List ℕ) (n16 : n ≤ 16) (lists : Lists n a l) (c : ColumnPermutation) (h : ListsColumns (tabulate 0 16 (column_at l)) n c) where
   number_at : (j : ℕ) → j < 16 → get_or (column_numbers c) j 0 ≡ column_at l j
   number_at j j16 = rw h.numbers (at-tabulate 16 (column_at l) j 0 j16)
 

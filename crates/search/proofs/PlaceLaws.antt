@@ -1,9 +1,9 @@
 -- The steps of `place`, which follows the rows that can come next one after another.
 --
 --   Started, Following  ==  how the search stands before position t: once a row was followed, and before
+--   keys_with-ready, keys_with-are, keys_with-size  ==  keys with one at a position are ready as before, are those with it written, and are eight
 --   known-still     ==  what is known of the best stays, whatever else changed
 --   next-alike      ==  two rows that give the least next row give the same sorted rows
---   next-key-lower, next-key-same  ==  keys tell whether the best's next row comes before the least one, after it, or equals it
 --   cut             ==  where the best's next row is lower than all that can come next, the branch is searched
 --   following-first ==  at first
 --   following-skip  ==  past a row that is not followed
@@ -11,7 +11,7 @@
 --   followed-back   ==  what is returned where the search goes back to where a symmetry began
 --   following-next  ==  past a row whose branch was searched
 --   followed-all    ==  at the end: the branch is searched
-use Rattle.std.proofs.Common.{◌≡◌, ℕ, suc, ◌+◌, ◌<◌, ◌≤◌, Bool, true, false, ◌⊎◌, List, length, get_or, take, set, sym, refl, ap, ◌∙◌, inl, inr, true≢false, arith, get_or-set_other, get_or-take, get_or-set_same}
+use Rattle.std.proofs.Common.{◌≡◌, ℕ, suc, ◌+◌, ◌<◌, ◌≤◌, Bool, true, false, Option, None, Some, ◌⊎◌, List, length, get_or, take, set, sym, refl, ap, ◌∙◌, inl, inr, true≢false, arith, length-set, get_or-set_other, get_or-take, get_or-set_same}
 use native.Mathlib.Decide.{ℕ_discrete, dec_lt}
 use Rattle.permutations.specs.declared.rows.RowNumber.{RowNumber}
 use Rattle.permutations.specs.Permutations.{swapped}
@@ -35,7 +35,7 @@ use Rattle.search.specs.declared.node.Candidates.{Candidates}
 use Rattle.search.specs.declared.found.Found.{Found}
 use Rattle.search.specs.RowSets.{HasRow, RowsFrom, Thins}
 use Rattle.search.specs.Tables.{entry}
-use Rattle.search.specs.Search.{rows_of, Symmetries, CoveredRows, SpreadsWith, Known, Follows, Standing, NextRows, Cuts, Lowers, Alike, Outcome}
+use Rattle.search.specs.Search.{keys_of, is_ready, keys_with, keyed_at, rows_of, Symmetries, CoveredRows, SpreadsWith, Known, Follows, Standing, NextRows, Cuts, Lowers, Alike, Outcome}
 
 pub record Started (m n : ℕ) (g : List ℕ) (two : Bool) (low k : ℕ) (p : List ℕ) (fresh : Bool) (before : Found) (chosen t : ℕ) (now : Found) (covered : ℕ) : Type 0 where
   pub known : Known m n g two low now
@@ -50,19 +50,33 @@ pub record Started (m n : ℕ) (g : List ℕ) (two : Bool) (low k : ℕ) (p : Li
 pub record Following (m n : ℕ) (g : List ℕ) (two : Bool) (low k : ℕ) (p : List ℕ) (fresh : Bool) (before : Found) (chosen t : ℕ) (new : Bool) (now : Found) (covered : ℕ) : Type 0 where
   pub first : k ≤ t
   pub back : now.back ≡ m
-  pub keys-size : length now.keys ≡ 8
-  pub ready : two ≡ true → now.ready ≡ true
-  pub placed-keys : two ≡ true → (i : ℕ) → i < k → get_or now.keys i 0 ≡ key two n g low i p
-  pub next-key : two ≡ true → (u : ℕ) → IsNext m n g k p u → get_or now.keys k 0 ≡ key two n g low k (swapped p k u)
+  pub keys-size : length (keys_of now.keys) ≡ 8
+  pub ready : two ≡ true → is_ready now.keys ≡ true
+  pub placed-keys : two ≡ true → (i : ℕ) → i < k → get_or (keys_of now.keys) i 0 ≡ key two n g low i p
+  pub next-key : two ≡ true → (u : ℕ) → IsNext m n g k p u → get_or (keys_of now.keys) k 0 ≡ key two n g low k (swapped p k u)
   pub untried : new ≡ true → (s : ℕ) → k ≤ s → s < t → HasRow chosen (get_or p s 0) → ⊥
   pub uncovered : new ≡ true → (r : ℕ) → HasRow covered r → ⊥
   pub lowering : new ≡ true → fresh ≡ false → (u : ℕ) → IsNext m n g k p u → sorted_rows (suc k) n g (swapped p k u) ≺ sorted_rows (suc k) n g (rows_of before.best)
   pub started : new ≡ false → Started m n g two low k p fresh before chosen t now covered
   pub pairs : IsApart m n g now.apart
-  pub symmetries : Symmetries m n g (rows_of now.symmetries) now.kept
+  pub symmetries : Symmetries m n g (rows_of now.symmetries.maps) now.symmetries.count
+
+-- keys with one at a position
+module _ (i v : ℕ) where
+  pub keys_with-ready : (k : Option (List ℕ)) → is_ready (keys_with k i v) ≡ is_ready k
+  keys_with-ready (Some l) = refl
+  keys_with-ready None = refl
+
+  pub keys_with-are : (k : Option (List ℕ)) → is_ready k ≡ true → keys_of (keys_with k i v) ≡ set (keys_of k) i v
+  keys_with-are (Some l) e = refl
+  keys_with-are None e = absurd (true≢false (sym e))
+
+  pub keys_with-size : (k : Option (List ℕ)) → length (keys_of k) ≡ 8 → length (keys_of (keys_with k i v)) ≡ 8
+  keys_with-size (Some l) e = length-set l i v ∙ e
+  keys_with-size None e = e
 
 -- whatever else changed, the best, its columns and the keys of its rows did not
-pub known-still : {m n : ℕ} {g : List ℕ} {two : Bool} {low : ℕ} (f r : Found) → r.best ≡ f.best → r.after ≡ f.after → r.keys ≡ f.keys → (r.ready ≡ true → f.ready ≡ true) →
+pub known-still : {m n : ℕ} {g : List ℕ} {two : Bool} {low : ℕ} (f r : Found) → r.best ≡ f.best → r.after ≡ f.after → keys_of r.keys ≡ keys_of f.keys → (is_ready r.keys ≡ true → is_ready f.keys ≡ true) →
     Known m n g two low f → Known m n g two low r
 known-still {m} {n} {g} {two} {low} f r b a keys ready h = record {
   rows = rw b h.rows;
@@ -163,7 +177,7 @@ module _ {m n : ℕ} {g : List ℕ} {two : Bool} {low : ℕ} {y w x : List ℕ} 
     first-order = swapped_rows first_next is-first.within
 
     -- of a best that is known and ready, where the search is not fresh
-    module _ (f : Follows m n g two low k p before) (z : fresh ≡ false) (ready : before.ready ≡ true) (known : ℕ) (e : known ≡ get_or before.keys k 0) where
+    module _ (f : Follows m n g two low k p before) (z : fresh ≡ false) (ready : is_ready before.keys ≡ true) (known : ℕ) (e : known ≡ get_or (keys_of before.keys) k 0) where
       held : List ℕ
       held = rows_of before.best
 
@@ -190,7 +204,7 @@ module _ {m n : ℕ} {g : List ℕ} {two : Bool} {low : ℕ} {y w x : List ℕ} 
       unfolding held
       key-equal l = equal-key (rows_of before.best) (swapped p k first_next) f.known.rows first-order leads (omega (arith, known-key, next-is))
 
-    pub cut : (known : ℕ) (b : Bool) → (fresh ≡ false → before.ready ≡ true) → known ≡ get_or before.keys k 0 → Cuts fresh known c.key b → b ≡ true → Outcome m n g two low k p fresh before before
+    pub cut : (known : ℕ) (b : Bool) → (fresh ≡ false → is_ready before.keys ≡ true) → known ≡ get_or (keys_of before.keys) k 0 → Cuts fresh known c.key b → b ≡ true → Outcome m n g two low k p fresh before before
     cut known b ready e cuts said = record {
       known = f.known;
       keys-size = s.keys-size;
@@ -212,19 +226,19 @@ module _ {m n : ℕ} {g : List ℕ} {two : Bool} {low : ℕ} {y w x : List ℕ} 
         f = s.follows z0
 
     -- the best as it was, but for the key of the next row, which is written where all keys are
-    module _ (chosen known : ℕ) (b new : Bool) (now : Found) (covered : ℕ) (ready : fresh ≡ false → before.ready ≡ true) (e : known ≡ get_or before.keys k 0) (cuts : Cuts fresh known c.key b) (uncut : b ≡ false)
-        (lowers : Lowers fresh known c.key new) (same-best : now.best ≡ before.best) (same_after : now.after ≡ before.after) (same-ready : now.ready ≡ before.ready) (same-apart : now.apart ≡ before.apart) (same_back : now.back ≡ before.back)
-        (same-symmetries : now.symmetries ≡ before.symmetries) (same_kept : now.kept ≡ before.kept)
-        (kept-keys : new ≡ false → now.keys ≡ before.keys) (written : two ≡ true → new ≡ true → now.keys ≡ set before.keys k c.key) (size : length now.keys ≡ 8) (none : (r : ℕ) → HasRow covered r → ⊥) where
+    module _ (chosen known : ℕ) (b new : Bool) (now : Found) (covered : ℕ) (ready : fresh ≡ false → is_ready before.keys ≡ true) (e : known ≡ get_or (keys_of before.keys) k 0) (cuts : Cuts fresh known c.key b) (uncut : b ≡ false)
+        (lowers : Lowers fresh known c.key new) (same-best : now.best ≡ before.best) (same_after : now.after ≡ before.after) (same-ready : is_ready now.keys ≡ is_ready before.keys) (same-apart : now.apart ≡ before.apart) (same_back : now.back ≡ before.back)
+        (same-symmetries : now.symmetries ≡ before.symmetries)
+        (kept-keys : new ≡ false → keys_of now.keys ≡ keys_of before.keys) (written : two ≡ true → new ≡ true → keys_of now.keys ≡ set (keys_of before.keys) k c.key) (size : length (keys_of now.keys) ≡ 8) (none : (r : ℕ) → HasRow covered r → ⊥) where
       stays-equal : new ≡ false → c.key ≡ known
       stays-equal z = omega (arith, (lowers.no z).1, cuts.no uncut (lowers.no z).0)
 
-      earlier-keys : two ≡ true → (b : Bool) → new ≡ b → (i : ℕ) → i < k → get_or now.keys i 0 ≡ key two n g low i p
-      earlier-keys z true v i ik = rw (written z v) (get_or-set_other before.keys k i c.key 0 (omega arith) ∙ s.keys z i ik)
+      earlier-keys : two ≡ true → (b : Bool) → new ≡ b → (i : ℕ) → i < k → get_or (keys_of now.keys) i 0 ≡ key two n g low i p
+      earlier-keys z true v i ik = rw (written z v) (get_or-set_other (keys_of before.keys) k i c.key 0 (omega arith) ∙ s.keys z i ik)
       earlier-keys z false v i ik = rw (kept-keys v) (s.keys z i ik)
 
-      this_key : two ≡ true → (b : Bool) → new ≡ b → (u : ℕ) → IsNext m n g k p u → get_or now.keys k 0 ≡ key two n g low k (swapped p k u)
-      this_key z true v u h = rw (written z v) (get_or-set_same before.keys k c.key 0 (omega (arith, s.keys-size, m8)) ∙ next.key-two z u h)
+      this_key : two ≡ true → (b : Bool) → new ≡ b → (u : ℕ) → IsNext m n g k p u → get_or (keys_of now.keys) k 0 ≡ key two n g low k (swapped p k u)
+      this_key z true v u h = rw (written z v) (get_or-set_same (keys_of before.keys) k c.key 0 (omega (arith, s.keys-size, m8)) ∙ next.key-two z u h)
       this_key z false v u h = rw (kept-keys v) (sym e ∙ sym (stays-equal v) ∙ next.key-two z u h)
 
       began : new ≡ false → Started m n g two low k p fresh before chosen k now covered
@@ -256,7 +270,7 @@ module _ {m n : ℕ} {g : List ℕ} {two : Bool} {low : ℕ} {y w x : List ℕ} 
         lowering = λ z v u h. rw (← (next-alike first_next u is-first h)) (key-after (s.follows v) v (ready v) known e (lowers.yes z v));
         started = began;
         pairs = rw same-apart s.pairs;
-        symmetries = rw (same-symmetries, same_kept) s.symmetries;
+        symmetries = rw same-symmetries s.symmetries;
       }
 
   module _ (chosen t : ℕ) (new : Bool) (now : Found) (covered : ℕ) (tm : t < m) (h : Following m n g two low k p fresh before chosen t new now covered) where
@@ -330,7 +344,7 @@ module _ {m n : ℕ} {g : List ℕ} {two : Bool} {low : ℕ} {y w x : List ℕ} 
       begins-last l b = b k (omega arith) ∙ q-next
 
       -- the node with it placed
-      pub followed-stands : (deeper : Node) → rows_of deeper.rows ≡ swapped p k t → deeper.placed ≡ suc k → Refined node.after (entry y (get_or p t 0)) deeper.after → RowsFrom (suc k) m (swapped p k t) deeper.rest.0 → deeper.fresh ≡ new →
+      pub followed-stands : (deeper : Node) → rows_of deeper.rows ≡ swapped p k t → deeper.placed ≡ suc k → Refined node.after (entry y (get_or p t 0)) deeper.after → RowsFrom (suc k) m (swapped p k t) deeper.rest.bytes → deeper.fresh ≡ new →
           Standing m n g two low y w x deeper now
       unfolding q Small
       followed-stands deeper rows placed refined rest same-fresh = record {
@@ -358,7 +372,7 @@ module _ {m n : ℕ} {g : List ℕ} {two : Bool} {low : ℕ} {y w x : List ℕ} 
               (λ c cn. rw q-next (s.tables.by_rows.holds (get_or p t 0) c row_within cn))
               (λ c c16. s.places.holds c c16 ∙ places-agree k n g p q (λ i ik. sym (q-stays i ik)) c) refined
 
-          keys-are : two ≡ true → (i : ℕ) → i < suc k → Dec (i ≡ k) → get_or now.keys i 0 ≡ key two n g low i q
+          keys-are : two ≡ true → (i : ℕ) → i < suc k → Dec (i ≡ k) → get_or (keys_of now.keys) i 0 ≡ key two n g low i q
           keys-are z i ik (yes e) = rw e (h.next-key z t is-next)
           keys-are z i ik (no e) = h.placed-keys z i (omega arith) ∙ sym (earlier-key i (omega arith))
 
@@ -485,10 +499,10 @@ module _ {m n : ℕ} {g : List ℕ} {two : Bool} {low : ℕ} {y w x : List ℕ} 
                         copied v z.0 z.1 (omega (arith, z.2)) (z.4 ∙ ap (λ (l : List ℕ). get_or l k 0) (sym e.1)) (still e.0 z.0 (d.covers z.0 z.1 z.2 z.3))
 
         -- the same best, from which the search goes on
-        pub following-next : (r : Found) → r.best ≡ f.best → r.after ≡ f.after → r.keys ≡ f.keys → r.ready ≡ f.ready → r.apart ≡ f.apart → r.symmetries ≡ f.symmetries → r.kept ≡ f.kept → r.back ≡ m →
+        pub following-next : (r : Found) → r.best ≡ f.best → r.after ≡ f.after → keys_of r.keys ≡ keys_of f.keys → is_ready r.keys ≡ is_ready f.keys → r.apart ≡ f.apart → r.symmetries ≡ f.symmetries → r.back ≡ m →
             (covered' : ℕ) → SpreadsWith m n g k p covered (get_or p t 0) covered' → k ≤ f.back → Following m n g two low k p fresh before chosen (t + 1) false r covered'
         unfolding best q CoveredRows
-        following-next r same-best same_after same_keys same-ready same-apart same-symmetries same_kept back covered' spread kb = record {
+        following-next r same-best same_after same_keys same-ready same-apart same-symmetries back covered' spread kb = record {
           first = omega arith;
           back = back;
           keys-size = rw same_keys out.keys-size;
@@ -509,7 +523,7 @@ module _ {m n : ℕ} {g : List ℕ} {two : Bool} {low : ℕ} {y w x : List ℕ} 
             rows = rw same-best (spread.covers (sorted_rows m n g (rows_of f.best)) rows (λ u ku um z. again u um z));
           };
           pairs = rw same-apart out.pairs;
-          symmetries = rw (same-symmetries, same_kept) out.symmetries;
+          symmetries = rw same-symmetries out.symmetries;
         }
           where
             covers : (u : ℕ) → k ≤ u → u < t + 1 → HasRow chosen (get_or p u 0) → Dec (u ≡ t) → Covers m n g (suc k) (swapped p k u) (sorted_rows m n g (rows_of f.best))
@@ -530,7 +544,7 @@ module _ {m n : ℕ} {g : List ℕ} {two : Bool} {low : ℕ} {y w x : List ℕ} 
                 go true v = absurd (h.uncovered v (get_or p u 0) nz)
                 go false v = still v u ((h.started v).rows u ku um nz)
 
-  pub followed-all : (c : Candidates) → NextRows m n g two low y node c → (chosen t : ℕ) (new : Bool) (now : Found) (covered : ℕ) → m ≤ t → Thins m n g k p c.rows.0 chosen →
+  pub followed-all : (c : Candidates) → NextRows m n g two low y node c → (chosen t : ℕ) (new : Bool) (now : Found) (covered : ℕ) → m ≤ t → Thins m n g k p c.rows.bytes chosen →
       Following m n g two low k p fresh before chosen t new now covered → Outcome m n g two low k p fresh before now
   unfolding Next
   followed-all c next chosen t new now covered mt thins h = go new refl

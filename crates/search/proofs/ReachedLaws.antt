@@ -4,7 +4,7 @@
 --   reached-copy  ==  an arrangement that equals the best: where the two row orders part, and the symmetries known
 --   last-equal    ==  where one row is left and the best's last row is the least, the two arrangements are equal
 --   last-copy     ==  so that the branch is searched
-use Rattle.std.proofs.Common.{◌≡◌, ℕ, suc, ◌+◌, ◌<◌, ◌≤◌, Bool, true, false, List, get_or, take, sym, refl, ap, ◌∙◌, inl, inr, true≢false, arith, get_or-take}
+use Rattle.std.proofs.Common.{◌≡◌, ℕ, suc, ◌+◌, ◌<◌, ◌≤◌, Bool, true, false, List, get_or, take, sym, refl, ap, ◌∙◌, inl, inr, true≢false, arith, get_or-take, length}
 use native.Mathlib.Decide.{ℕ_discrete}
 use Rattle.permutations.specs.declared.rows.RowNumber.{RowNumber}
 use Rattle.permutations.specs.Permutations.{swapped}
@@ -19,7 +19,7 @@ use Rattle.branches.proofs.RefinedLaws.{places-agree}
 use Rattle.branches.proofs.ApartLaws.{apart-is}
 use Rattle.search.specs.declared.node.Node.{Node}
 use Rattle.search.specs.declared.found.Found.{Found}
-use Rattle.search.specs.Search.{rows_of, Follows, Standing, Matched, Alike, Outcome}
+use Rattle.search.specs.Search.{keys_of, is_ready, keys_with, keyed_at, rows_of, Follows, Standing, Matched, Alike, Outcome}
 use Rattle.search.proofs.PlaceLaws.{Following, Started, known-still}
 
 -- an arrangement by the order p that equals the best's, of which so much is found
@@ -46,12 +46,12 @@ module _ {m n : ℕ} {g : List ℕ} {two : Bool} {low : ℕ} {y w x : List ℕ} 
     places : PlacesBy m n g p node.after
     places = rw end at s.places
 
-    pub reached-new : node.fresh ≡ true → (f : Found) → f.best ≡ node.rows → f.after ≡ node.after → f.keys ≡ before.keys → f.ready ≡ two → f.back ≡ before.back → f.symmetries ≡ before.symmetries → f.kept ≡ before.kept →
+    pub reached-new : node.fresh ≡ true → (f : Found) → f.best ≡ node.rows → f.after ≡ node.after → (two ≡ true → keys_of f.keys ≡ keys_of before.keys) → length (keys_of f.keys) ≡ 8 → is_ready f.keys ≡ two → f.back ≡ before.back → f.symmetries ≡ before.symmetries →
         f.apart ≡ sum_to 16 (λ c. get_or node.after c 0) → Outcome m n g two low node.placed p node.fresh before f
     unfolding Begins IsApart
-    reached-new z f b c k r l v u e = record {
-      known = record { rows = rw b s.rows; keys = λ t i im. rw (k, b) (s.keys (sym r ∙ t) i (omega (arith, end))); places = rw (b, c) places };
-      keys-size = rw k s.keys-size;
+    reached-new z f b c k kz r l v e = record {
+      known = record { rows = rw b s.rows; keys = λ t i im. rw (k (sym r ∙ t), b) (s.keys (sym r ∙ t) i (omega (arith, end))); places = rw (b, c) places };
+      keys-size = kz;
       ready = λ t. r ∙ t;
       leading = ap (λ (o : List RowNumber). sorted_rows node.placed n g (rows_of o)) b;
       lower = λ t. absurd (true≢false (sym z ∙ t));
@@ -60,7 +60,7 @@ module _ {m n : ℕ} {g : List ℕ} {two : Bool} {low : ℕ} {y w x : List ℕ} 
       alike = λ t. absurd (omega (arith, end, l, s.back));
       back = omega (arith, l, s.back);
       pairs = inr (e ∙ apart-is m n g (take m p) node.after s.tables.columns-fit s.rows.permutation (record { size = places.size; holds = λ d d16. places.holds d d16 ∙ places-agree m n g p (take m p) (λ i im. sym (get_or-take m p i 0 im)) d }));
-      symmetries = rw (v, u) s.symmetries;
+      symmetries = rw v s.symmetries;
     }
 
     pub reached-copy : node.fresh ≡ false → (f : Found) → Matched m n g p before f → Outcome m n g two low node.placed p node.fresh before f

@@ -2,23 +2,24 @@
 --
 --   rows-exchanged  ==  the numbers of an array's rows after the rows at two positions are exchanged
 --   lists-own       ==  where all columns have the same number, each is listed at its own place
-use Rattle.std.proofs.Common.{◌≡◌, ℕ, ◌-◌, ◌<◌, ◌≤◌, List, get_or, set, sym, ap, ◌∙◌, arith}
+use Rattle.std.proofs.Common.{◌≡◌, ℕ, ◌-◌, ◌<◌, ◌≤◌, List, [], ◌∷◌, length, not-suc-le-zero, get_or, set, sym, ap, ◌∙◌, arith}
+use Rattle.std.specs.List.{swap}
 use Rattle.permutations.specs.declared.rows.RowNumber.{RowNumber}
 use Rattle.permutations.specs.Rows.{row_number}
 use Rattle.permutations.specs.Permutations.{swapped, identity}
-use Rattle.permutations.proofs.ArrayLaws.{map-set}
+use Rattle.permutations.proofs.ArrayLaws.{map-set, map_at}
 use Rattle.permutations.proofs.ListLaws.{tabulate-is}
 use Rattle.permutations.proofs.PermutationLaws.{at-identity, identity-permutation}
 use Rattle.search.specs.ColumnLists.{column_at, columns_of, Lists}
 use Rattle.search.specs.Search.{rows_of}
-use Rattle.search.proofs.SymmetryLaws.{row_at}
 
-pub rows-exchanged : (l : List RowNumber) (k t : ℕ) → rows_of (set (set l k (get_or l t record { 0 = 0 })) t (get_or l k record { 0 = 0 })) ≡ swapped (rows_of l) k t
+pub rows-exchanged : (l : List RowNumber) (k t : ℕ) → k < length l → t < length l → rows_of (swap l k t) ≡ swapped (rows_of l) k t
 unfolding swapped
-rows-exchanged l k t =
-    map-set row_number (set l k (get_or l t record { 0 = 0 })) t (get_or l k record { 0 = 0 })
-    ∙ ap (λ (r : List ℕ). set r t (row_number (get_or l k record { 0 = 0 }))) (map-set row_number l k (get_or l t record { 0 = 0 }))
-    ∙ rw (row_at l k, row_at l t)
+rows-exchanged [] k t kb tb = absurd (not-suc-le-zero kb)
+rows-exchanged (d ∷ l) k t kb tb =
+    map-set row_number (set (d ∷ l) k (get_or (d ∷ l) t d)) t (get_or (d ∷ l) k d)
+    ∙ ap (λ (r : List ℕ). set r t (row_number (get_or (d ∷ l) k d))) (map-set row_number (d ∷ l) k (get_or (d ∷ l) t d))
+    ∙ rw (map_at row_number (d ∷ l) k d kb, map_at row_number (d ∷ l) t d tb)
 
 pub lists-own : (n : ℕ) (a : List ℕ) (l : ℕ) → n ≤ 16 → ((c : ℕ) → c < n → get_or a c 0 ≡ 16 - n) → ((j : ℕ) → j < 16 → column_at l j ≡ j) → Lists n a l
 unfolding columns_of

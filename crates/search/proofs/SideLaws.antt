@@ -1,40 +1,21 @@
 -- What the tests of pairs of columns say together.
 --
---   never               ==  what a test that answers no would say
---   crossed             ==  what the levels read say of two columns
---   oriented-turned, oriented-kept  ==  and of their order
 --   exchanged, turned   ==  crossed columns, oriented for one row, and for the other
 --   apart-turned        ==  two pairs are apart, whichever stands first
---   ascend-first, ascend-second, ascend-third  ==  each way to pair four columns that ascend
---   tried-neither, tried-first, tried-second  ==  the outcomes of a trial of pairs
 --   sides-neither, sides-equal  ==  neither row is over the other, or they are equal
 --   one_side, two-sides ==  which row is over the other, by one pair of columns and by two
 --   over-fewer          ==  a row is over another where fewer other rows are
 --   sides-others        ==  which row is over the other, by all other rows of a set
 --   first-over          ==  the second row is over the first
-use Rattle.std.proofs.Common.{◌≡◌, ℕ, ◌<◌, ◌≤◌, true, false, ◌⊎◌, ◌↔◌, List, get_or, sym, refl, ap, ◌∙◌, inl, inr, true≢false, arith}
+use Rattle.std.proofs.Common.{◌≡◌, ℕ, ◌<◌, true, Option, None, Some, ◌⊎◌, ◌↔◌, List, sym, ap, inl, inr, arith}
 use Rattle.search.specs.declared.pairs.Covered.{Covered}
-use Rattle.search.specs.declared.pairs.Covered.TheVariants.{Neither, First, Second}
+use Rattle.search.specs.declared.pairs.Covered.TheVariants.{First, Second}
 use Rattle.search.specs.RowSets.{HasRow}
 use Rattle.search.specs.Tables.{entry}
-use Rattle.search.specs.Domination.{differs, differences, Crossed, Oriented, NoneHigher, Tried, Ascend, Apart, Exchanged, OverAmong, equal, by_one, by_two, Others, Over, Sides}
+use Rattle.search.specs.Domination.{differs, differences, Crossed, Oriented, NoneHigher, Tried, Apart, Exchanged, OverAmong, equal, by_one, by_two, Others, Over, Sides}
 use Rattle.search.proofs.DifferenceLaws.{differ-yes, none_differ, two-differ, four-differ}
 
 -- ---- columns
-
-pub never : {P : Type 0} → false ≡ true → P
-never e = absurd (true≢false (sym e))
-
-pub crossed : (y v : List ℕ) (a b c d : ℕ) {p q r s t u : ℕ} → get_or v c 0 ≡ get_or v d 0 → p ≡ entry y a c → q ≡ entry y b c → (p ≡ q → ⊥) → r ≡ entry y a c → s ≡ entry y b d → r ≡ s →
-    t ≡ entry y b c → u ≡ entry y a d → t ≡ u → Crossed y v a b c d
-crossed y v a b c d e p q ne r s f t u g = record { untold = e; differ = λ z. ne (p ∙ z ∙ sym q); there = sym r ∙ f ∙ s; back = sym t ∙ g ∙ u }
-
-module _ (y : List ℕ) (b c d : ℕ) {p q : ℕ} (ep : p ≡ entry y b d) (eq : q ≡ entry y b c) where
-  pub oriented-turned : p < q → Oriented y b c d d c
-  oriented-turned l = record { either = inr (refl, refl); ordered = rw (← ep, ← eq) (omega arith) }
-
-  pub oriented-kept : q ≤ p → Oriented y b c d c d
-  oriented-kept l = record { either = inl (refl, refl); ordered = rw (← ep, ← eq) l }
 
 module _ (y v : List ℕ) (a b c d p q : ℕ) (c16 : c < 16) (d16 : d < 16) (h : Crossed y v a b c d) (o : Oriented y b c d p q) where
   pub exchanged : Exchanged y v a b p q
@@ -87,42 +68,19 @@ apart-first {y} {b} {c} {d} {e} {f} {p} {q} o h = go o.either
 pub apart-turned : {y : List ℕ} {b c d e f p q r s : ℕ} → Oriented y b c d p q → Oriented y b e f r s → Apart c d e f → Apart p q r s
 apart-turned o i h = flipped (apart-first i (flipped (apart-first o h)))
 
-module _ {c d e f : ℕ} (h : Ascend c d e f) where
-  pub ascend-first : Apart c d e f
-  ascend-first = record { first-first = λ z. omega arith; first-second = λ z. omega arith; second-first = λ z. omega arith; second-second = λ z. omega arith }
-
-  pub ascend-second : Apart c e d f
-  ascend-second = record { first-first = λ z. omega arith; first-second = λ z. omega arith; second-first = λ z. omega arith; second-second = λ z. omega arith }
-
-  pub ascend-third : Apart c f d e
-  ascend-third = record { first-first = λ z. omega arith; first-second = λ z. omega arith; second-first = λ z. omega arith; second-second = λ z. omega arith }
-
 -- ---- outcomes
 
-neither-first : Neither ≡ First → ⊥
-neither-first e = let z : ◌≡◌ {A = ℕ} 0 1 = cc in omega arith
+neither : {r : Covered} → None ≡ Some r → ⊥
+neither e = let z : ◌≡◌ {A = ℕ} 0 1 = cc in omega arith
 
-neither-second : Neither ≡ Second → ⊥
-neither-second e = let z : ◌≡◌ {A = ℕ} 0 1 = cc in omega arith
-
-first-second : First ≡ Second → ⊥
+first-second : Some First ≡ Some Second → ⊥
 first-second e = let z : ◌≡◌ {A = ℕ} 0 1 = cc in omega arith
 
-module _ (w : List ℕ) (X : ℕ → Type 0) (c d e f : ℕ) where
-  pub tried-neither : Tried w X c d e f Neither
-  tried-neither = record { first = λ z. absurd (neither-first z); second = λ z. absurd (neither-second z) }
-
-  pub tried-first : NoneHigher w X d c → NoneHigher w X f e → Tried w X c d e f First
-  tried-first g h = record { first = λ z. (g, h); second = λ z. absurd (first-second z) }
-
-  pub tried-second : NoneHigher w X c d → NoneHigher w X e f → Tried w X c d e f Second
-  tried-second g h = record { first = λ z. absurd (first-second (sym z)); second = λ z. (g, h) }
-
 module _ (y w v : List ℕ) (X : ℕ → Type 0) (a b : ℕ) where
-  pub sides-neither : Sides y w v X a b Neither
-  sides-neither = record { first = λ z. absurd (neither-first z); second = λ z. absurd (neither-second z) }
+  pub sides-neither : Sides y w v X a b None
+  sides-neither = record { first = λ z. absurd (neither z); second = λ z. absurd (neither z) }
 
-  pub sides-equal : differences y a b ≡ 0 → Sides y w v X a b Second
+  pub sides-equal : differences y a b ≡ 0 → Sides y w v X a b (Some Second)
   sides-equal h = record { first = λ z. absurd (first-second (sym z)); second = λ z. equal (none_differ y a b h) }
 
   -- the columns of a pair differ, and so do the rows there
@@ -136,7 +94,7 @@ module _ (y w v : List ℕ) (X : ℕ → Type 0) (a b : ℕ) where
     high-differs : differs y a b d ≡ true
     high-differs = differ-yes y a b d (λ e. omega (arith, e, h.back, h.lower))
 
-  pub one_side : (c d : ℕ) (r : Covered) → differences y a b ≡ 2 → Exchanged y v a b c d → Tried w X c d c d r → Sides y w v X a b r
+  pub one_side : (c d : ℕ) (r : Option Covered) → differences y a b ≡ 2 → Exchanged y v a b c d → Tried w X c d c d r → Sides y w v X a b r
   one_side c d r two h t = record {
     first = λ z. by_one d c (turned y v a b c d h) (t.first z).0 (λ j j16 nd nc. sym (alone j j16 nc nd));
     second = λ z. by_one c d h (t.second z).0 alone;
@@ -145,7 +103,7 @@ module _ (y w v : List ℕ) (X : ℕ → Type 0) (a b : ℕ) where
       alone : (j : ℕ) → j < 16 → (j ≡ c → ⊥) → (j ≡ d → ⊥) → entry y a j ≡ entry y b j
       alone = two-differ y a b c d h.first-within h.second-within (unlike c d h) (low-differs c d h) (high-differs c d h) two
 
-  pub two-sides : (c d e f : ℕ) (r : Covered) → differences y a b ≡ 4 → Exchanged y v a b c d → Exchanged y v a b e f → Apart c d e f → Tried w X c d e f r → Sides y w v X a b r
+  pub two-sides : (c d e f : ℕ) (r : Option Covered) → differences y a b ≡ 4 → Exchanged y v a b c d → Exchanged y v a b e f → Apart c d e f → Tried w X c d e f r → Sides y w v X a b r
   two-sides c d e f r four h i o t = record {
     first = λ z. by_two d c f e (turned y v a b c d h) (turned y v a b e f i) other (t.first z).0 (t.first z).1 (λ j j16 nd nc nf ne. sym (alone j j16 nc nd ne nf));
     second = λ z. by_two c d e f h i o (t.second z).0 (t.second z).1 alone;
@@ -167,7 +125,7 @@ over-fewer fewer (equal h) = equal h
 over-fewer fewer (by_one c d h n o) = by_one c d h (λ x z. n x (fewer x z)) o
 over-fewer fewer (by_two c d e f h i p n q o) = by_two c d e f h i p (λ x z. n x (fewer x z)) (λ x z. q x (fewer x z)) o
 
-pub sides-others : {y w v : List ℕ} (s t o : ℕ) {a b : ℕ} {r : Covered} → ((x : ℕ) → HasRow t x ↔ (HasRow s x × (x ≡ a → ⊥))) → ((x : ℕ) → HasRow o x ↔ (HasRow t x × (x ≡ b → ⊥))) →
+pub sides-others : {y w v : List ℕ} (s t o : ℕ) {a b : ℕ} {r : Option Covered} → ((x : ℕ) → HasRow t x ↔ (HasRow s x × (x ≡ a → ⊥))) → ((x : ℕ) → HasRow o x ↔ (HasRow t x × (x ≡ b → ⊥))) →
     Sides y w v (HasRow o) a b r → Sides y w v (Others s a b) a b r
 unfolding Others
 sides-others s t o {a = a} {b = b} one two h = record { first = λ z. over-fewer fewer (h.first z); second = λ z. over-fewer fewer (h.second z) }

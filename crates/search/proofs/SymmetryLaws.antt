@@ -5,13 +5,13 @@
 --   symmetry-of     ==  two row orders with the same sorted rows give a symmetry
 --   symmetry-agree  ==  only the images of the rows matter
 --   Carrying p r a kept i b  ==  b is a with the images of the first i rows of p, which r has, written as symmetry `kept`
---   carrying-none, carrying-next, carrying-all  ==  a symmetry written row by row
+--   carrying-next, carrying-all  ==  a symmetry written row by row
 --   FixesUpTo l s p i  ==  the symmetry s of l moves none of the first i rows of p
---   fixes-none, fixes-next, fixes-not, fixes-all  ==  the rows placed compared with their images, one by one
+--   fixes-next          ==  the rows placed compared with their images, one by one
 --   reached-none, reached-next  ==  the images of the rows of a set put into it, row by row
 --   spreads-refl, spreads-images  ==  what covers the rows of a set covers their images
---   spreads-none, spreads-with  ==  what covers the rows of a set, and one row more, covers their images
-use Rattle.std.proofs.Common.{◌≡◌, ℕ, suc, ◌+◌, ◌*◌, ◌<◌, ◌≤◌, Bool, true, false, ◌⊎◌, ◌↔◌, List, length, get_or, take, set, sym, refl, ap, ◌∙◌, inl, inr, ⊎_elim, true≢false, not-suc-le-zero, arith, length-set, get_or-set_other, get_or-take, get_or-set_same}
+--   spreads-with  ==  what covers the rows of a set, and one row more, covers their images
+use Rattle.std.proofs.Common.{◌≡◌, ℕ, suc, ◌+◌, ◌*◌, ◌<◌, ◌≤◌, Bool, true, ◌⊎◌, ◌↔◌, List, length, get_or, take, set, sym, refl, ap, ◌∙◌, inl, inr, ⊎_elim, arith, length-set, get_or-set_other, get_or-take, get_or-set_same}
 use native.Mathlib.Decide.{ℕ_discrete, dec_lt}
 use lib.ListN.{get_or-map}
 use Rattle.permutations.specs.declared.rows.RowNumber.{RowNumber}
@@ -35,7 +35,7 @@ use Rattle.search.specs.Symmetries.{Fixes, Reached, reached-marked, reached-imag
 -- ---- the rows of an array
 
 pub row_at : (l : List RowNumber) (i : ℕ) → row_number (get_or l i record { 0 = 0 }) ≡ get_or (rows_of l) i 0
-row_at l i = sym (get_or-l i record { 0 = 0 })
+row_at l i = sym (get_or-map row_number l i record { 0 = 0 })
 
 pub row_below : (m : ℕ) (l : List RowNumber) (i : ℕ) → m ≤ 8 → i < m → IsPadded 8 m (rows_of l) → row_number (get_or l i record { 0 = 0 }) < 8
 row_below m l i m8 im o = omega (arith, row_at l i, at-whole 8 m (rows_of l) o i im)
@@ -144,9 +144,6 @@ pub record Carrying (p r a : List ℕ) (kept i : ℕ) (b : List ℕ) : Type 0 wh
   pub earlier : (j : ℕ) → j < kept * 8 → get_or b j 0 ≡ get_or a j 0
   pub carried : (j : ℕ) → j < i → get_or b (kept * 8 + get_or p j 0) 0 ≡ get_or r j 0
 
-pub carrying-none : (p r a : List ℕ) (kept : ℕ) → length a ≡ 32 → Carrying p r a kept 0 a
-carrying-none p r a kept e = record { size = e; earlier = λ j h. refl; carried = λ j h. absurd (not-suc-le-zero h) }
-
 pub carrying-next : (m : ℕ) (p r a : List ℕ) (kept i : ℕ) (b : List ℕ) (x v : ℕ) → m ≤ 8 → kept < 4 → i < m → IsPadded 8 m p →
     x ≡ get_or p i 0 → v ≡ get_or r i 0 → Carrying p r a kept i b → Carrying p r a kept (i + 1) (set b (kept * 8 + x) v)
 carrying-next m p r a kept i b x v m8 k4 im o ex ev h = record {
@@ -182,21 +179,12 @@ carrying-all m n g p r a kept i b m8 k4 mi op or e y h = record { few = omega ar
 pub record FixesUpTo (l : List ℕ) (s : ℕ) (p : List ℕ) (i : ℕ) : Type 0 where
   pub fixed : (j : ℕ) → j < i → get_or l (s * 8 + get_or p j 0) 0 ≡ get_or p j 0
 
-pub fixes-none : (l : List ℕ) (s : ℕ) (p : List ℕ) → FixesUpTo l s p 0
-fixes-none l s p = record { fixed = λ j h. absurd (not-suc-le-zero h) }
-
 pub fixes-next : (l : List ℕ) (s : ℕ) (p : List ℕ) (i x : ℕ) → x ≡ get_or p i 0 → get_or l (s * 8 + x) 0 ≡ x → FixesUpTo l s p i → FixesUpTo l s p (i + 1)
 fixes-next l s p i x e f h = record { fixed = λ j ji. go j ji (ℕ_discrete j i) }
   where
     go : (j : ℕ) → j < i + 1 → Dec (j ≡ i) → get_or l (s * 8 + get_or p j 0) 0 ≡ get_or p j 0
     go j ji (yes z) = rw (z, ← e) f
     go j ji (no nz) = h.fixed j (omega arith)
-
-pub fixes-not : (l : List ℕ) (s : ℕ) (p : List ℕ) (k : ℕ) → Fixes l s p k false
-fixes-not l s p k = record { fixed = λ e. absurd (true≢false (sym e)) }
-
-pub fixes-all : (l : List ℕ) (s : ℕ) (p : List ℕ) (k i : ℕ) → k ≤ i → FixesUpTo l s p i → Fixes l s p k true
-fixes-all l s p k i ki h = record { fixed = λ e j jk. h.fixed j (omega arith) }
 
 -- ---- the images of the rows of a set
 
@@ -215,9 +203,6 @@ reached-next m l s a b x v c xm has e cs more h = record { set = cs; reached = �
 
 pub spreads-refl : (m n : ℕ) (g : List ℕ) (k : ℕ) (p : List ℕ) (a : ℕ) → IsRowSet a → Spreads m n g k p a a
 spreads-refl m n g k p a e = record { set = e; covers = λ r c. c }
-
-pub spreads-none : (m n : ℕ) (g : List ℕ) (k : ℕ) (p : List ℕ) (a row : ℕ) → IsRowSet a → SpreadsWith m n g k p a row a
-spreads-none m n g k p a row e = record { set = e; covers = λ r c h. c }
 
 pub spreads-with : (m n : ℕ) (g : List ℕ) (k : ℕ) (p : List ℕ) (a row b c : ℕ) → ((x : ℕ) → HasRow b x ↔ (HasRow a x ⊎ (x ≡ row))) →
     Spreads m n g k p b c → SpreadsWith m n g k p a row c

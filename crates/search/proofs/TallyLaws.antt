@@ -6,10 +6,8 @@
 --   level-word    ==  a word of a table of levels is one of levels
 --   levels-cap    ==  levels are at most 15
 --   counted-sum   ==  the bytes of a count to which the column at place u is added
---   counted-done  ==  how many columns were counted, also where s is past e
 --   level-words   ==  the words of a table by columns have levels in their bytes
 use Rattle.std.proofs.Common.{◌≡◌, ℕ, zero, suc, ◌+◌, ◌-◌, ◌*◌, ◌<◌, ◌≤◌, Bool, true, false, leb, List, get_or, sym, refl, ap, ◌∙◌, ap₂, arith}
-use native.Mathlib.Decide.{dec_le}
 use Rattle.permutations.specs.Sums.{sum_to, indicator, count}
 use Rattle.branches.specs.Sifting.{at_most}
 use Rattle.search.specs.RowSets.{lane}
@@ -61,13 +59,6 @@ pub counted-sum : (v : ℕ) (ws : List ℕ) (l s u c n m : ℕ) → s ≤ u → 
 counted-sum v ws l s u c n m su ul e hn hm i b =
     lane-add i n m (λ j k. omega (arith, hn j (omega arith), tally-le v ws l j s (u - s), hm j (omega arith), at_most_one-le v (lane j (get_or ws c 0))))
     ∙ ap₂ (λ (p q : ℕ). p + q) (hn i b) (hm i b) ∙ sym (tally-next v ws l i s u c su e)
-
-pub counted-done : (s e u : ℕ) → s ≤ u → e ≤ u → (s ≤ e → u ≤ e) → (e ≤ s → u ≤ s) → u - s ≡ e - s
-counted-done s e u su eu f g = go (dec_le s e)
-  where
-    go : Dec (s ≤ e) → u - s ≡ e - s
-    go (yes h) = omega (arith, f h)
-    go (no h) = omega (arith, g (omega arith))
 
 pub level-words : (y w : List ℕ) → ((i : ℕ) → get_or y i 0 ≤ 15) → ByColumns y w → LevelWords w
 unfolding LevelWords

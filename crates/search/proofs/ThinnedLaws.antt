@@ -7,9 +7,9 @@
 --   row_count s, fewer-rows  ==  how many rows a set has; a part without one of its rows has fewer
 --   has-below        ==  the rows of a set are below 8
 --   Held y w v s t a out todo  ==  where row a of the set t is held against others: of t the set out is left, with row a and those still to do
---   held_start, held_next, held-second, held_first, held-less  ==  at the start, and where row a is held against one more: neither is over the other, row a is, the other is; fewer are to do
+--   held_start, held-second, held_first, held-less  ==  at the start, and where row a is held against one more: row a is over it, or it over row a; fewer are to do
 --   Undone y w v s t left todo  ==  of the set t the set left is left, with those still to do
---   undone-start, undone-against, undone-less, undone-next  ==  at the start, where a row is held against those to do, and after it
+--   undone-start, undone-less, undone-next  ==  at the start, with fewer to do, and after a row
 --   thinned-thins    ==  what is left is as good, for the rows left of a grid
 use Rattle.std.proofs.Common.{◌≡◌, ℕ, ◌<◌, ◌≤◌, Bool, eqb, ◌↔◌, List, get_or, sym, refl, ◌∙◌, get_or-take, eq-eqb, ne_eqb, eqb-true}
 use native.Mathlib.Decide.{ℕ_discrete}
@@ -99,9 +99,6 @@ module _ {y w v : List ℕ} {s t a out todo : ℕ} (h : Held y w v s t a out tod
   pub held-less : row_count next < row_count todo
   held-less = without-less todo next b hb has
 
-  pub held_next : IsRowSet next → Held y w v s t a out next
-  held_next set = record { thinned = h.thinned; set = set; has = h.has; apart = λ z. h.apart ((has a).0 z).0; among = λ x z. h.among x ((has x).0 z).0 }
-
   pub held-second : (r : ℕ) → IsRowSet next → Over y w v s a b → IsRowSet r → Without r out b → Held y w v s t a r next
   held-second r set o some left = record {
     thinned = thinned-drop y w v s t out r a b h.thinned o h.has (h.among b hb) unlike some left;
@@ -125,9 +122,6 @@ pub undone-start : (y w v : List ℕ) (s t : ℕ) → IsRowSet t → Undone y w 
 undone-start y w v s t set = record { thinned = thinned-same y w v s t set; set = set; among = λ x h. h }
 
 module _ {y w v : List ℕ} {s t left todo : ℕ} (h : Undone y w v s t left todo) (a rest : ℕ) (ha : HasRow todo a) (has : Without rest todo a) where
-  pub undone-against : HasRow left a × (HasRow rest a → ⊥) × ((x : ℕ) → HasRow rest x → HasRow left x)
-  undone-against = (h.among a ha, (λ z. ((has a).0 z).1 refl), (λ x z. h.among x ((has x).0 z).0))
-
   module _ (r next : ℕ) (both : (x : ℕ) → HasRow next x ↔ (HasRow rest x × HasRow r x)) where
     pub undone-less : row_count next < row_count todo
     undone-less = fewer-rows todo next a (λ x z. ((has x).0 ((both x).0 z).0).0) ha (λ z. ((has a).0 ((both a).0 z).0).1 refl)

@@ -2,9 +2,7 @@
 --
 --   thins-itself    ==  a set of rows is as good as itself
 --   node-left       ==  the rows left at a node
---   not_chosen, chosen-not  ==  whether a row is followed, from whether it is chosen, and whether it is covered
 --   some_next       ==  the set of the rows that give the least next row is not empty
---   keyed_at f k key ==  f with a key written at row k
 --   Begun           ==  all that holds before the loop, of what is found so far, whatever was the best before it
 --   begun_kept, begun-written, begun-either  ==  so it is: where no key is written, where the next one is, and in either case
 --   begun-order, begun-equal, begun-copy  ==  where one row is left that makes no difference, the best's row order is one of all rows, the two arrangements are equal, and the branch is searched
@@ -12,8 +10,7 @@
 --   Turn            ==  all that holds before a turn of the loop, whatever was the best before it
 --   turn-row, turn-row-below  ==  the number of the row at position t, and that it is below 8
 --   turn-first, turn-skip, turn-stands, turn-back, turn-next, turn-all  ==  the steps of PlaceLaws, of a turn
-use Rattle.std.proofs.Common.{◌≡◌, ℕ, suc, ◌+◌, ◌<◌, ◌≤◌, Bool, true, false, not, ◌⊎◌, List, get_or, set, sym, refl, ◌∙◌, inl, inr, true≢false, length-set}
-use borrow.Author.Tests.{not-false}
+use Rattle.std.proofs.Common.{◌≡◌, ℕ, suc, ◌+◌, ◌<◌, ◌≤◌, Bool, true, false, ◌⊎◌, List, get_or, set, sym, refl, ◌∙◌, inl, inr, true≢false, length-set}
 use Rattle.permutations.specs.declared.rows.RowNumber.{RowNumber}
 use Rattle.permutations.specs.Permutations.{swapped}
 use Rattle.permutations.specs.Padded.{IsPadded}
@@ -23,12 +20,12 @@ use Rattle.branches.specs.SortedRows.{sorted_rows}
 use Rattle.search.specs.declared.node.Node.{Node}
 use Rattle.search.specs.declared.node.Candidates.{Candidates}
 use Rattle.search.specs.declared.found.Found.{Found}
-use Rattle.search.specs.RowSets.{IsRowSet, HasRow, Tells, Thins}
+use Rattle.search.specs.RowSets.{IsRowSet, HasRow, Thins}
 use Rattle.search.specs.Domination.{Left}
-use Rattle.search.specs.Search.{rows_of, SpreadsWith, Standing, AtNode, NextRows, Deeper, IsFollowed, Matched, Cuts, Lowers, Outcome}
+use Rattle.search.specs.Search.{keys_of, is_ready, keys_with, keyed_at, rows_of, SpreadsWith, Standing, AtNode, NextRows, Deeper, IsFollowed, Matched, Cuts, Lowers, Outcome}
 use Rattle.search.proofs.RowSetLaws.{none-set, none-of-zero}
 use Rattle.search.proofs.SymmetryLaws.{row_at, row_below}
-use Rattle.search.proofs.PlaceLaws.{Following, outcome-for, following-first, following-skip, followed-stands, followed-back, following-next, followed-all}
+use Rattle.search.proofs.PlaceLaws.{keys_with-ready, keys_with-are, keys_with-size, Following, outcome-for, following-first, following-skip, followed-stands, followed-back, following-next, followed-all}
 use Rattle.search.proofs.ReachedLaws.{last-equal, last-copy}
 
 -- ---- the rows chosen
@@ -37,7 +34,7 @@ pub thins-itself : {m n : ℕ} {g : List ℕ} {k : ℕ} {p : List ℕ} {s : ℕ}
 unfolding Next
 thins-itself set = record { set = set; fewer = λ x h. h; as-good = λ t kt tm h. (t, kt, tm, h, λ r c. c) }
 
-pub node-left : {m n : ℕ} {g : List ℕ} {two : Bool} {low : ℕ} {y w x : List ℕ} {node : Node} → AtNode m n g two low y w x node → Left m n g y w node.placed (rows_of node.rows) node.after node.rest.0
+pub node-left : {m n : ℕ} {g : List ℕ} {two : Bool} {low : ℕ} {y w x : List ℕ} {node : Node} → AtNode m n g two low y w x node → Left m n g y w node.placed (rows_of node.rows) node.after node.rest.bytes
 node-left s = record {
   rows_fit = s.tables.rows_fit;
   columns-fit = s.tables.columns-fit;
@@ -51,19 +48,10 @@ node-left s = record {
   left = s.rest;
 }
 
-pub not_chosen : {chosen covered row : ℕ} {b : Bool} → Tells b (HasRow chosen row) → b ≡ false → IsFollowed chosen covered row false
-not_chosen h z = record { has = λ e. absurd (true≢false (sym e)); passed_over = λ e v. absurd (h.no z v) }
-
-pub chosen-not : {chosen covered row : ℕ} {b d : Bool} → Tells b (HasRow chosen row) → b ≡ true → Tells d (HasRow covered row) → IsFollowed chosen covered row (not d)
-chosen-not {d = d} h z u = record { has = λ e. h.yes z; passed_over = λ e v. u.yes (not-false d e) }
-
-pub some_next : {m n : ℕ} {g : List ℕ} {two : Bool} {low : ℕ} {y : List ℕ} {node : Node} {c : Candidates} → NextRows m n g two low y node c → c.rows.0 ≡ 0 → ⊥
-some_next {c = c} h e = none-of-zero c.rows.0 _ e (h.every h.some.0 h.some.1)
+pub some_next : {m n : ℕ} {g : List ℕ} {two : Bool} {low : ℕ} {y : List ℕ} {node : Node} {c : Candidates} → NextRows m n g two low y node c → c.rows.bytes ≡ 0 → ⊥
+some_next {c = c} h e = none-of-zero c.rows.bytes _ e (h.every h.some.0 h.some.1)
 
 -- ---- before the loop
-
-abbrev pub keyed_at : Found → ℕ → ℕ → Found
-keyed_at f k key = record { best = f.best; after = f.after; keys = set f.keys k key; symmetries = f.symmetries; back = f.back; kept = f.kept; apart = f.apart; ready = f.ready }
 
 pub record Begun (m n : ℕ) (g : List ℕ) (two : Bool) (low : ℕ) (y w x : List ℕ) (node : Node) (c : Candidates) (old : Found) (new : Bool) (now : Found) : Type 0 where
   pub before : Found
@@ -75,7 +63,7 @@ pub record Begun (m n : ℕ) (g : List ℕ) (two : Bool) (low : ℕ) (y w x : Li
   pub following : (chosen : ℕ) → Following m n g two low node.placed (rows_of node.rows) node.fresh before chosen node.placed new now 0
 
 module _ {m n : ℕ} {g : List ℕ} {two : Bool} {low : ℕ} {y w x : List ℕ} {node : Node} {c : Candidates} {before old : Found} {known : ℕ} {b new written : Bool} (s : Standing m n g two low y w x node before) (km : node.placed < m)
-    (next : NextRows m n g two low y node c) (same : before.best ≡ old.best) (ready : node.fresh ≡ false → before.ready ≡ true) (e : known ≡ get_or before.keys node.placed 0) (cuts : Cuts node.fresh known c.key b)
+    (next : NextRows m n g two low y node c) (same : before.best ≡ old.best) (ready : node.fresh ≡ false → is_ready before.keys ≡ true) (e : known ≡ get_or (keys_of before.keys) node.placed 0) (cuts : Cuts node.fresh known c.key b)
     (uncut : b ≡ false) (lowers : Lowers node.fresh known c.key new) (writes : (written ≡ true → new ≡ true) × (two ≡ true → new ≡ true → written ≡ true)) where
   pub begun_kept : written ≡ false → Begun m n g two low y w x node c old new before
   begun_kept z = record {
@@ -85,7 +73,7 @@ module _ {m n : ℕ} {g : List ℕ} {two : Bool} {low : ℕ} {y w x : List ℕ} 
     next = next;
     same-best = same;
     kept-best = refl;
-    following = λ chosen. following-first s km c next chosen known b new before 0 ready e cuts uncut lowers refl refl refl refl refl refl refl
+    following = λ chosen. following-first s km c next chosen known b new before 0 ready e cuts uncut lowers refl refl refl refl refl refl
         (λ v. refl) (λ v u. absurd (true≢false (sym (writes.1 v u) ∙ z))) s.keys-size (λ r. none-of-zero 0 r refl);
   }
 
@@ -97,8 +85,8 @@ module _ {m n : ℕ} {g : List ℕ} {two : Bool} {low : ℕ} {y w x : List ℕ} 
     next = next;
     same-best = same;
     kept-best = refl;
-    following = λ chosen. following-first s km c next chosen known b new (keyed_at before node.placed c.key) 0 ready e cuts uncut lowers refl refl refl refl refl refl refl
-        (λ v. absurd (true≢false (sym (writes.0 z) ∙ v))) (λ v u. refl) (length-set before.keys node.placed c.key ∙ s.keys-size) (λ r. none-of-zero 0 r refl);
+    following = λ chosen. following-first s km c next chosen known b new (keyed_at before node.placed c.key) 0 ready e cuts uncut lowers refl refl (keys_with-ready _ _ before.keys) refl refl refl
+        (λ v. absurd (true≢false (sym (writes.0 z) ∙ v))) (λ v u. keys_with-are _ _ before.keys (s.ready v)) (keys_with-size _ _ before.keys s.keys-size) (λ r. none-of-zero 0 r refl);
   }
 
   pub begun-either : {now : Found} → ((written ≡ true) × (now ≡ keyed_at before node.placed c.key)) ⊎ ((written ≡ false) × (now ≡ before)) → Begun m n g two low y w x node c old new now
@@ -121,20 +109,20 @@ module _ {m n : ℕ} {g : List ℕ} {two : Bool} {low : ℕ} {y w x : List ℕ} 
 -- ---- the loop
 
 abbrev pub back_at : Found → ℕ → Found
-back_at f m = record { best = f.best; after = f.after; keys = f.keys; symmetries = f.symmetries; back = m; kept = f.kept; apart = f.apart; ready = f.ready }
+back_at f m = record { best = f.best; after = f.after; keys = f.keys; symmetries = f.symmetries; back = m; apart = f.apart }
 
 pub record Turn (m n : ℕ) (g : List ℕ) (two : Bool) (low : ℕ) (y w x : List ℕ) (node : Node) (c : Candidates) (chosen : ℕ) (best : List RowNumber) (t : ℕ) (new : Bool) (now : Found) (covered : ℕ) : Type 0 where
   pub before : Found
   pub stands : Standing m n g two low y w x node before
   pub within : node.placed < m
   pub next : NextRows m n g two low y node c
-  pub thins : Thins m n g node.placed (rows_of node.rows) c.rows.0 chosen
+  pub thins : Thins m n g node.placed (rows_of node.rows) c.rows.bytes chosen
   pub same-best : before.best ≡ best
   pub set : IsRowSet covered
   pub following : Following m n g two low node.placed (rows_of node.rows) node.fresh before chosen t new now covered
 
 pub turn-first : {m n : ℕ} {g : List ℕ} {two : Bool} {low : ℕ} {y w x : List ℕ} {node : Node} {c : Candidates} {chosen : ℕ} {old : Found} {new : Bool} {now : Found} → Begun m n g two low y w x node c old new now →
-    Thins m n g node.placed (rows_of node.rows) c.rows.0 chosen → Turn m n g two low y w x node c chosen now.best node.placed new now 0
+    Thins m n g node.placed (rows_of node.rows) c.rows.bytes chosen → Turn m n g two low y w x node c chosen now.best node.placed new now 0
 turn-first {chosen = chosen} h thins = record {
   before = h.before;
   stands = h.stands;
@@ -201,7 +189,7 @@ module _ {m n : ℕ} {g : List ℕ} {two : Bool} {low : ℕ} {y w x : List ℕ} 
         pub turn-next : k ≤ out.back → (covered' : ℕ) → SpreadsWith m n g k p covered (row_number (get_or node.rows t record { 0 = 0 })) covered' → Turn m n g two low y w x node c chosen best (t + 1) false (back_at out m) covered'
         turn-next l covered' spread =
             turned (t + 1) false (back_at out m) covered' spread.set
-            (following-next h.stands h.within chosen t new now covered tm h.following marked is-next out came (back_at out m) refl refl refl refl refl refl refl refl covered' (rw turn-row at spread) l)
+            (following-next h.stands h.within chosen t new now covered tm h.following marked is-next out came (back_at out m) refl refl refl refl refl refl refl covered' (rw turn-row at spread) l)
 
 pub turn-all : {m n : ℕ} {g : List ℕ} {two : Bool} {low : ℕ} {y w x : List ℕ} {node : Node} {c : Candidates} {chosen : ℕ} {best : List RowNumber} {t : ℕ} {new : Bool} {now : Found} {covered : ℕ} → m ≤ t →
     Turn m n g two low y w x node c chosen best t new now covered → (old : Found) → best ≡ old.best → Outcome m n g two low node.placed (rows_of node.rows) node.fresh old now

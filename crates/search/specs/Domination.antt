@@ -7,25 +7,29 @@
 --   Crossed y v a b c d     ==  columns c and d have equal numbers in v; rows a and b differ in c, and a has in c what b has in d, and the other way round
 --   Oriented y b c d p q    ==  p and q are c and d, and row b has no higher level in p than in q
 --   NoneHigher w X c d      ==  no row of X has a higher level in column d than in c
---   Tried w X c d e f r     ==  r is `Second` only where none has a higher level in d than in c, nor in f than in e, and `First` only where the other way round
+--   Tried w X c d e f r     ==  r says `Second` only where none has a higher level in d than in c, nor in f than in e, and `First` only where the other way round
 --   Ascend c d e f          ==  the four columns ascend
 --   Apart c d e f           ==  neither c nor d is e or f
 --   Exchanged y v a b c d   ==  columns c and d have equal numbers in v; a has in c what b has in d, and the other way round, and b has the lower level in c
 --   OverAmong y w v X a b   ==  row a equals row b, or they differ in one or two such pairs of columns alone, and no row of X has a higher level in the second of a pair than in the first
 --   Others s a b x          ==  row x is of the set s, and neither a nor b
 --   Over y w v s a b        ==  so for all other rows of s
---   Sides y w v X a b r     ==  r is `First` only where b is over a, and `Second` only where a is over b
+--   Sides y w v X a b r     ==  r says `First` only where b is over a, and `Second` only where a is over b
+--   IsPair r                ==  the two rows of r, and its words, are within their bounds
+--   pair_differences r, PairSides r s  ==  in how many columns the two rows of r differ, and `Sides` of them
 --   Covering y w v s t u x  ==  row u is row x, or over a row of t that covers x so
 --   Thinned y w v s t r     ==  the set r has rows of t, and for each row of t one that covers it
 --   Left m n g y w k p v s  ==  the tables y and w are those of the grid g, v are the places by the first k rows of the order p, and s has the rows left
-use Rattle.std.specs.Prelude.{◌≡◌, ℕ, ◌*◌, ◌<◌, ◌≤◌, Bool, not, ◌⊎◌, List, length, ◌==◌, ◌≢◌, slice_index, slice_index_or}
+use Rattle.std.specs.Prelude.{◌≡◌, ℕ, ◌*◌, ◌<◌, ◌≤◌, Bool, not, Option, Some, ◌⊎◌, List, length, ◌==◌, ◌≢◌, slice_index, slice_index_or}
 use Rattle.permutations.specs.Padded.{IsPadded}
 use Rattle.permutations.specs.Sums.{count}
 use Rattle.branches.specs.Keys.{Small}
 use Rattle.branches.specs.SortedRows.{PlacesBy}
 use Rattle.search.specs.declared.pairs.Covered.{Covered}
+use Rattle.search.specs.declared.pairs.RowPair.{RowPair}
 use Rattle.search.specs.declared.pairs.Covered.TheVariants.{First, Second}
 use Rattle.search.specs.RowSets.{lane, IsRowSet, HasRow, RowsFrom}
+use Rattle.search.specs.ColumnLists.{LevelWords}
 use Rattle.search.specs.Tables.{entry, ByRows, ByColumns}
 
 unfoldable pub differs : List ℕ → ℕ → ℕ → ℕ → Bool
@@ -47,9 +51,9 @@ pub record Oriented (y : List ℕ) (b c d p q : ℕ) : Type 0 where
 unfoldable pub NoneHigher : List ℕ → (ℕ → Type 0) → ℕ → ℕ → Type 0
 NoneHigher w X c d = (x : ℕ) → X x → lane x (slice_index w d) ≤ lane x (slice_index w c)
 
-pub record Tried (w : List ℕ) (X : ℕ → Type 0) (c d e f : ℕ) (r : Covered) : Type 0 where
-  pub first : r ≡ First → NoneHigher w X d c × NoneHigher w X f e
-  pub second : r ≡ Second → NoneHigher w X c d × NoneHigher w X e f
+pub record Tried (w : List ℕ) (X : ℕ → Type 0) (c d e f : ℕ) (r : Option Covered) : Type 0 where
+  pub first : r ≡ Some First → NoneHigher w X d c × NoneHigher w X f e
+  pub second : r ≡ Some Second → NoneHigher w X c d × NoneHigher w X e f
 
 pub record Ascend (c d e f : ℕ) : Type 0 where
   pub first : c < d
@@ -82,9 +86,20 @@ Others s a b x = HasRow s x × (x ≢ a) × (x ≢ b)
 abbrev pub Over : List ℕ → List ℕ → List ℕ → ℕ → ℕ → ℕ → Type 0
 Over y w v s a b = OverAmong y w v (Others s a b) a b
 
-pub record Sides (y w v : List ℕ) (X : ℕ → Type 0) (a b : ℕ) (r : Covered) : Type 0 where
-  pub first : r ≡ First → OverAmong y w v X b a
-  pub second : r ≡ Second → OverAmong y w v X a b
+pub record Sides (y w v : List ℕ) (X : ℕ → Type 0) (a b : ℕ) (r : Option Covered) : Type 0 where
+  pub first : r ≡ Some First → OverAmong y w v X b a
+  pub second : r ≡ Some Second → OverAmong y w v X a b
+
+pub record IsPair (r : RowPair) : Type 0 where
+  pub words : LevelWords r.tables.now.words
+  pub first : r.first.0 < 8
+  pub second : r.second.0 < 8
+
+abbrev pub pair_differences : RowPair → ℕ
+pair_differences r = differences r.tables.now.levels r.first.0 r.second.0
+
+abbrev pub PairSides : RowPair → Option Covered → Type 0
+PairSides r s = Sides r.tables.now.levels r.tables.now.words r.after.now (HasRow r.others.bytes) r.first.0 r.second.0 s
 
 pub data Covering (y w v : List ℕ) (s t : ℕ) : ℕ → ℕ → Type 0 where
   itself : (x : ℕ) → Covering y w v s t x x

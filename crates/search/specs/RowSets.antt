@@ -7,6 +7,9 @@
 --   RowsFrom k m p s  ==  s has the rows at positions k to m of the order p, and no others
 --   Thins m n g k p s r  ==  r has rows of s, and for each row of s, at a position of p from k on, one whose branch is as good
 use Rattle.std.specs.Prelude.{◌≡◌, ℕ, zero, suc, ◌/◌, ◌%◌, ◌^◌, ◌<◌, ◌≤◌, Bool, true, false, ◌⊎◌, List, slice_index}
+use Rattle.std.proofs.Props.{props}
+use Rattle.std.proofs.Common.{inl, inr, ap, arith}
+use Rattle.std.proofs.Math.Nat.{ℕ_set}
 use Rattle.branches.specs.Branches.{Next}
 
 unfoldable pub lane : ℕ → ℕ → ℕ
@@ -33,3 +36,13 @@ pub record Thins (m n : ℕ) (g : List ℕ) (k : ℕ) (p : List ℕ) (s r : ℕ)
   pub set : IsRowSet r
   pub fewer : (x : ℕ) → HasRow r x → HasRow s x
   pub as-good : (t : ℕ) → k ≤ t → t < m → HasRow s (slice_index p t) → (u : ℕ) × (k ≤ u) × (u < m) × HasRow r (slice_index p u) × Next m n g k p u t
+
+-- a set of rows is told by its word alone
+flag-prop : (a : ℕ) → IsProp ((a ≡ 0) ⊎ (a ≡ 128))
+flag-prop a (inl p) (inl q) = ap inl (ℕ_set _ _ p q)
+flag-prop a (inr p) (inr q) = ap inr (ℕ_set _ _ p q)
+flag-prop a (inl p) (inr q) = absurd (omega (arith, p, q))
+flag-prop a (inr p) (inl q) = absurd (omega (arith, p, q))
+
+pub row-set-prop : (s : ℕ) → IsProp (IsRowSet s)
+row-set-prop s = Prim.hlevel (props, flag-prop)

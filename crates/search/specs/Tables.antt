@@ -7,13 +7,17 @@
 --   ByColumns y w       ==  w holds those of y by columns
 --   ByBits m n g low x  ==  x holds 1 for each cell with the higher value, by columns, and 0 elsewhere
 --   Tables ..           ==  the tables of a grid
+--   is_two low          ==  whether a grid has two values at most, of which `low` is the lower
+--   low_of low          ==  that value, or 0
+--   HasTables t         ==  t holds the tables of its grid
 --   first_place n c     ==  how many of 16 columns come after column c before any row is placed: those from n on, and of these the later ones
 --   FirstPlaces n a     ==  a holds them
 --   RowKeys x a s       ==  s holds for each row the sum of its numbers in the table x by bits, each times 2 to the power that a has for its column
-use Rattle.std.specs.Prelude.{◌≡◌, ℕ, ◌+◌, ◌-◌, ◌*◌, ◌^◌, ◌<◌, ◌≤◌, Bool, true, false, List, length, nat_lt, slice_index}
+use Rattle.std.specs.Prelude.{◌≡◌, ℕ, ◌+◌, ◌-◌, ◌*◌, ◌^◌, ◌<◌, ◌≤◌, Bool, true, false, Option, Some, None, List, length, nat_lt, slice_index}
 use Rattle.permutations.specs.Sums.{sum_to}
 use Rattle.grids.specs.Grids.{cell}
 use Rattle.branches.specs.Keys.{level, bit, Valued}
+use Rattle.search.specs.declared.tables.GridTables.{GridTables}
 use Rattle.search.specs.RowSets.{lane}
 
 abbrev pub entry : List ℕ → ℕ → ℕ → ℕ
@@ -43,6 +47,17 @@ pub record Tables (m n : ℕ) (g : List ℕ) (two : Bool) (low : ℕ) (y w x : L
   pub by_rows : ByRows m n g y
   pub by-columns : ByColumns y w
   pub by_bits : two ≡ true → ByBits m n g low x
+
+abbrev pub is_two : Option ℕ → Bool
+is_two (Some low) = true
+is_two None = false
+
+abbrev pub low_of : Option ℕ → ℕ
+low_of (Some low) = low
+low_of None = 0
+
+abbrev pub HasTables : GridTables → Type 0
+HasTables t = Tables t.m t.n t.grid.now (is_two t.low) (low_of t.low) t.levels t.words t.bits
 
 unfoldable pub first_place : ℕ → ℕ → ℕ
 first_place n c = elim (nat_lt c n) [ true ↦ 16 - n | false ↦ 15 - c ]

@@ -56,12 +56,12 @@ pub fn lowest(keys: &[u16; 8], rows: [RowNumber; 8], m: usize, k: usize) -> u16
 // The rows from position k on that have a key.
 pub fn with_key(keys: &[u16; 8], rows: [RowNumber; 8], m: usize, k: usize, key: u16) -> RowSet
     requires { (k ≤ m) × (m ≤ 8) × RowsWithin (map row_number rows) }
-    ensures { WithKey m k (map row_number rows) keys.now key result.0 }
+    ensures { WithKey m k (map row_number rows) keys.now key result.bytes }
 {
     let mut out = 0u64;
     for t in k..m {
         let row = rows[t];
         out |= ((keys[row.0 as usize] == key) as u64) << (8 * row.0 as u64 + 7);
     }
-    RowSet(out)
+    RowSet { bytes: out }
 }

@@ -1,13 +1,14 @@
 // A node of the search.
-ghost use Rattle.std.specs.Prelude.{◌≡◌, ℕ, ◌-◌, ◌<◌, ◌≤◌, true, false, slice_index};
+ghost use Rattle.std.specs.Prelude.{◌≡◌, ℕ, ◌-◌, ◌<◌, ◌≤◌, true, false, IfSome, slice_index};
 ghost use Rattle.permutations.specs.Permutations.{swapped};
 ghost use Rattle.branches.specs.SortedRows.{After, Places, Refined};
 ghost use Rattle.search.specs.ColumnLists.{Lists};
-ghost use Rattle.search.specs.Tables.{entry};
-ghost use Rattle.search.specs.Search.{rows_of, AtNode, Leaves, NextRows, Deeper};
+ghost use Rattle.search.specs.Tables.{entry, is_two, HasTables};
+ghost use Rattle.search.specs.Search.{rows_of, IsNode, Leaves, GivesNext, Deeper};
 
 use crate::columns::ColumnList;
 use crate::row_sets::RowSet;
+use crate::tables::GridTables;
 use crate::{columns, keys, sifting};
 use permutations::rows::RowNumber;
 
@@ -22,42 +23,33 @@ pub struct Node {
     pub fresh: bool,
 }
 
-// The rows that give the least next row, and its key. Where `made` says so, `after` is that of the node with the row `first` placed.
+// How many columns come after each with one row more placed.
+#[derive(Clone, Copy)]
+pub struct Refinement {
+    pub row: RowNumber,
+    pub after: [u8; 16],
+}
+
+// The rows that give the least next row, and its key; and the refinement by one of the rows, where it was made for the key. The key is 0
+// where the node is fresh in a grid of more than two values: nothing is asked of it there, and an option would make each reader ask.
 #[derive(Clone, Copy)]
 pub struct Candidates {
     pub rows: RowSet,
     pub key: u64,
-    pub made: bool,
-    pub first: RowNumber,
-    pub after: [u8; 16],
+    pub made: Option<Refinement>,
 }
 
 // The rows with the least key, in a grid of two values.
-fn by_keys(
-    grid: &[u8],
-    levels: &[u8; 128],
-    words: &[u64; 16],
-    bits: &[u16; 128],
-    m: usize,
-    n: usize,
-    two: bool,
-    low: u8,
-    node: Node,
-) -> Candidates
-    requires { AtNode m n grid.now two low levels.now words.now bits.now node × (two ≡ true) }
-    ensures { NextRows m n grid.now two low levels.now node result }
+fn by_keys(tables: &GridTables, node: Node) -> Candidates
+    requires { IsNode tables.now node × (is_two tables.now.low ≡ true) }
+    ensures { GivesNext tables.now node result }
 {
-    let after = node.after;
-    let order = node.rows;
-    let keys = keys::row_keys(bits, after);
-    let least = keys::lowest(&keys, order, m, node.placed);
-    let rows = keys::with_key(&keys, order, m, node.placed, least);
+    let keys = keys::row_keys(&tables.bits, node.after);
+    let least = keys::lowest(&keys, node.rows, tables.m, node.placed);
     Candidates {
-        rows,
-        key: least as u64,
-        made: false,
-        first: RowNumber(0),
-        after,
+        rows: keys::with_key(&keys, node.rows, tables.m, node.placed, least),
+        key: u64::from(least),
+        made: None,
     }
 }
 
@@ -73,106 +65,61 @@ fn columns_at(n: usize, placed: usize, after: [u8; 16]) -> ColumnList
 }
 
 // The rows that sifting leaves.
-fn left(
-    grid: &[u8],
-    levels: &[u8; 128],
-    words: &[u64; 16],
-    bits: &[u16; 128],
-    m: usize,
-    n: usize,
-    two: bool,
-    low: u8,
-    node: Node,
-) -> RowSet
-    requires { AtNode m n grid.now two low levels.now words.now bits.now node }
-    ensures { Leaves m n grid.now node result.0 }
+fn left(tables: &GridTables, node: Node) -> RowSet
+    requires { IsNode tables.now node }
+    ensures { Leaves tables.now.m tables.now.n tables.now.grid.now node result.bytes }
 {
-    if m - node.placed == 1 {
+    if tables.m - node.placed == 1 {
         return node.rest;
     }
-    let after = node.after;
-    let columns = columns_at(n, node.placed, after);
-    sifting::sifted(words, n, columns, after, node.rest)
+    let columns = columns_at(tables.n, node.placed, node.after);
+    sifting::sifted(&tables.words, tables.n, columns, node.after, node.rest)
 }
 
 // The rows that sifting leaves, in any grid, and the key of the least next row where it is held against the best's.
-fn by_sifting(
-    grid: &[u8],
-    levels: &[u8; 128],
-    words: &[u64; 16],
-    bits: &[u16; 128],
-    m: usize,
-    n: usize,
-    two: bool,
-    low: u8,
-    node: Node,
-) -> Candidates
-    requires { AtNode m n grid.now two low levels.now words.now bits.now node × (two ≡ false) }
-    ensures { NextRows m n grid.now two low levels.now node result }
+fn by_sifting(tables: &GridTables, node: Node) -> Candidates
+    requires { IsNode tables.now node × (is_two tables.now.low ≡ false) }
+    ensures { GivesNext tables.now node result }
 {
-    let rows = left(grid, levels, words, bits, m, n, two, low, node);
-    let after = node.after;
+    let rows = left(tables, node);
     if node.fresh {
         return Candidates {
             rows,
             key: 0,
-            made: false,
-            first: RowNumber(0),
-            after,
+            made: None,
         };
     }
-    let first = rows.first();
-    let further = columns::refined(levels, n, first, after);
-    let columns = columns::listed(n, further);
-    let key = keys::digits(levels, n, first, columns);
+    let row = rows.first();
+    let after = columns::refined(&tables.levels, tables.n, row, node.after);
+    let columns = columns::listed(tables.n, after);
     Candidates {
         rows,
-        key,
-        made: true,
-        first,
-        after: further,
+        key: keys::digits(&tables.levels, tables.n, row, columns),
+        made: Some(Refinement { row, after }),
     }
 }
 
 // The rows that give the least next row.
-pub fn next_rows(
-    grid: &[u8],
-    levels: &[u8; 128],
-    words: &[u64; 16],
-    bits: &[u16; 128],
-    m: usize,
-    n: usize,
-    two: bool,
-    low: u8,
-    node: Node,
-) -> Candidates
-    requires { AtNode m n grid.now two low levels.now words.now bits.now node }
-    ensures { NextRows m n grid.now two low levels.now node result }
+pub fn next_rows(tables: &GridTables, node: Node) -> Candidates
+    requires { IsNode tables.now node }
+    ensures { GivesNext tables.now node result }
 {
-    if two {
-        return by_keys(grid, levels, words, bits, m, n, two, low, node);
+    if tables.is_two() {
+        by_keys(tables, node)
+    } else {
+        by_sifting(tables, node)
     }
-    by_sifting(grid, levels, words, bits, m, n, two, low, node)
 }
 
 // How many columns come after each with one row more placed.
-fn refined_by(
-    levels: &[u8; 128],
-    n: usize,
-    after: [u8; 16],
-    next: Candidates,
-    row: RowNumber,
-) -> [u8; 16]
-    requires { (row.0 < 8) × (n ≤ 16) × ((i : ℕ) → slice_index levels.now i ≤ 15) × Places n after × (next.made ≡ true → Refined after (entry levels.now next.first.0) next.after) }
-    ensures { Refined after (entry levels.now row.0) result }
+fn refined_by(tables: &GridTables, after: [u8; 16], next: Candidates, row: RowNumber) -> [u8; 16]
+    requires { HasTables tables.now × (row.0 < 8) × Places tables.now.n after × IfSome next.made (λ made. Refined after (entry tables.now.levels made.row.0) made.after) }
+    ensures { Refined after (entry tables.now.levels row.0) result }
 {
-    if next.made {
-        if next.first.0 == row.0 {
-            let made = next.after;
-            return made;
-        }
+    match next.made {
+        Some(made) if made.row.0 == row.0 => made.after,
+        _ => columns::refined(&tables.levels, tables.n, row, after),
     }
-    columns::refined(levels, n, row, after)
 }
 
 // The order with the rows at two positions exchanged.
@@ -181,38 +128,25 @@ fn exchanged(rows: [RowNumber; 8], k: usize, t: usize) -> [RowNumber; 8]
     ensures { rows_of result ≡ swapped (rows_of rows) k t }
 {
     let mut out = rows;
-    let moved = rows[k];
-    out[k] = rows[t];
-    out[t] = moved;
+    out.swap(k, t);
     out
 }
 
 // The node with the row at position t placed too.
 pub fn deeper(
-    grid: &[u8],
-    levels: &[u8; 128],
-    words: &[u64; 16],
-    bits: &[u16; 128],
-    m: usize,
-    n: usize,
-    two: bool,
-    low: u8,
+    tables: &GridTables,
     node: Node,
     next: Candidates,
     t: usize,
     row: RowNumber,
     fresh: bool,
 ) -> Node
-    requires { AtNode m n grid.now two low levels.now words.now bits.now node × NextRows m n grid.now two low levels.now node next × (node.placed ≤ t) × (t < m) × (row.0 ≡ slice_index (rows_of node.rows) t) }
-    ensures { Deeper m levels.now node t fresh result }
+    requires { IsNode tables.now node × GivesNext tables.now node next × (node.placed ≤ t) × (t < tables.now.m) × (row.0 ≡ slice_index (rows_of node.rows) t) }
+    ensures { Deeper tables.now.m tables.now.levels node t fresh result }
 {
-    let order = node.rows;
-    let after = node.after;
-    let rows = exchanged(order, node.placed, t);
-    let further = refined_by(levels, n, after, next, row);
     Node {
-        rows,
-        after: further,
+        rows: exchanged(node.rows, node.placed, t),
+        after: refined_by(tables, node.after, next, row),
         rest: node.rest.without(row),
         placed: node.placed + 1,
         fresh,

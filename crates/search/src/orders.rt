@@ -1,18 +1,20 @@
 // The orders of the least arrangement.
 ghost use Rattle.std.specs.Prelude.{◌≡◌, ◌*◌, ◌≤◌, true, length};
 ghost use Rattle.permutations.specs.Lists.{tabulate};
-ghost use Rattle.permutations.specs.Numbered.{Lists};
+ghost use Rattle.permutations.specs.Columns.{ListsColumns};
 ghost use Rattle.branches.specs.Keys.{Small};
 ghost use Rattle.search.specs.ColumnLists.{column_at};
-ghost use Rattle.search.specs.Tables.{ByRows, ByBits};
-ghost use Rattle.search.specs.Search.{rows_of, Standing, Outcome};
+ghost use Rattle.search.specs.Tables.{is_two, HasTables};
+ghost use Rattle.search.specs.Search.{keys_of, is_ready, Stands, Finds};
 ghost use Rattle.search.specs.Orders.{LeastOrders};
 
 use crate::columns::ColumnList;
 use crate::found::Found;
 use crate::node::Node;
 use crate::row_sets::RowSet;
-use crate::{columns, placing, settled, tables, values};
+use crate::symmetries::KnownSymmetries;
+use crate::tables::GridTables;
+use crate::{columns, placing, settled};
 use permutations::columns::{ColumnNumber, ColumnPermutation};
 use permutations::rows::{RowNumber, RowPermutation};
 
@@ -23,45 +25,21 @@ pub struct Orders {
     pub columns: ColumnPermutation,
 }
 
-// The table by bits where the grid has two values; else nothing but 0.
-fn bits_of(grid: &[u8], levels: &[u8; 128], m: usize, n: usize, two: bool, low: u8) -> [u16; 128]
-    requires { (m ≤ 8) × (n ≤ 16) × (length grid.now ≡ m * n) × Small grid.now × (low ≤ 15) × ByRows m n grid.now levels.now }
-    ensures { two ≡ true → ByBits m n grid.now low result }
-{
-    if two {
-        return tables::by_bits(grid, levels, m, n, low);
-    }
-    [0u16; 128]
-}
-
 // What the search finds from its start: where no row tells columns apart, the rows need only be sorted.
-fn begun(
-    grid: &[u8],
-    levels: &[u8; 128],
-    words: &[u64; 16],
-    bits: &[u16; 128],
-    m: usize,
-    n: usize,
-    two: bool,
-    low: u8,
-    node: Node,
-    found: Found,
-) -> Found
-    requires { Standing m n grid.now two low levels.now words.now bits.now node found × (node.placed ≡ 0) }
-    ensures { Outcome m n grid.now two low node.placed (rows_of node.rows) node.fresh found result }
+fn begun(tables: &GridTables, node: Node, found: Found) -> Found
+    requires { Stands tables.now node found × (node.placed ≡ 0) }
+    ensures { Finds tables.now node found result }
 {
-    if 0 < m {
-        let after = node.after;
-        if settled::is_settled(m, n, two, 0, after, found.apart) {
-            return settled::completed(grid, levels, words, bits, m, n, two, low, node, found);
-        }
+    if 0 < tables.m && settled::is_settled(tables, 0, node.after, found.apart) {
+        settled::completed(tables, node, found)
+    } else {
+        placing::place(tables, node, found)
     }
-    placing::place(grid, levels, words, bits, m, n, two, low, node, found)
 }
 
 // The columns of a list.
 fn columns_of(list: ColumnList, n: usize) -> ColumnPermutation
-    ensures { Lists (tabulate 0 16 (column_at list.0)) n result }
+    ensures { ListsColumns (tabulate 0 16 (column_at list.0)) n result }
 {
     let mut at = [ColumnNumber(0); 16];
     for (j, column) in at.iter_mut().enumerate() {
@@ -70,46 +48,55 @@ fn columns_of(list: ColumnList, n: usize) -> ColumnPermutation
     ColumnPermutation { at, size: n }
 }
 
-// The orders of the least arrangement.
-pub fn least_orders(grid: &[u8], m: usize, n: usize) -> Orders
-    requires { (m ≤ 8) × (n ≤ 16) × (length grid.now ≡ m * n) × Small grid.now }
-    ensures { LeastOrders m n grid.now result }
+// The keys before there is a best: in a grid of two values they are always made.
+fn first_keys(tables: &GridTables) -> Option<[u64; 8]>
+    ensures { (length (keys_of result) ≡ 8) × (is_ready result ≡ is_two tables.now.low) }
 {
-    let levels = tables::by_rows(grid, m, n);
-    let words = tables::by_columns(&levels);
-    let values = values::classify(grid);
-    let two = values.two;
-    let low = values.low;
-    let bits = bits_of(grid, &levels, m, n, two, low);
-    let identity = RowPermutation::identity(m);
+    if tables.is_two() { Some([0; 8]) } else { None }
+}
+
+// The orders of the least arrangement, by the grid's tables.
+fn searched(tables: &GridTables) -> Orders
+    requires { HasTables tables.now }
+    ensures { LeastOrders tables.now.m tables.now.n tables.now.grid.now result }
+{
+    let identity = RowPermutation::identity(tables.m);
     let rows = identity.at;
-    let after = columns::first_places(n);
+    let after = columns::first_places(tables.n);
     let node = Node {
         rows,
         after,
-        rest: RowSet::first_rows(m),
+        rest: RowSet::first_rows(tables.m),
         placed: 0,
         fresh: true,
     };
-    let keys = [0u64; 8];
-    let symmetries = [RowNumber(0); 32];
+    let symmetries = KnownSymmetries {
+        maps: [RowNumber(0); 32],
+        count: 0,
+    };
+    let keys = first_keys(tables);
     let start = Found {
         best: rows,
         after,
         keys,
         symmetries,
-        back: m as u8,
-        kept: 0,
-        apart: 120,
-        ready: two,
+        back: tables.m as u8,
+        apart: settled::ALL_PAIRS,
     };
-    let found = begun(grid, &levels, &words, &bits, m, n, two, low, node, start);
-    let best = found.best;
-    let last = found.after;
-    let list = columns::listed(n, last);
-    let columns = columns_of(list, n);
+    let found = begun(tables, node, start);
+    let list = columns::listed(tables.n, found.after);
+    let at = found.best;
     Orders {
-        rows: RowPermutation { at: best, size: m },
-        columns,
+        rows: RowPermutation { at, size: tables.m },
+        columns: columns_of(list, tables.n),
     }
+}
+
+// The orders of the least arrangement.
+pub fn least_orders(grid: &[u8], m: usize, n: usize) -> Orders
+    requires { (m ≤ 8) × (n ≤ 16) × (length grid.now ≡ m * n) × Small grid.now }
+    ensures { LeastOrders m n grid.now result }
+{
+    let tables = GridTables::of(grid, m, n);
+    searched(&tables)
 }

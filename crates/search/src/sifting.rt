@@ -32,24 +32,25 @@ fn counted(words: &[u64; 16], columns: ColumnList, s: usize, e: usize, v: u64) -
 
 // Of the rows left, those with a count above i.
 fn kept(count: u64, i: u64, left: RowSet) -> RowSet
-    requires { (i < 16) × ((x : ℕ) → x < 8 → lane x count ≤ 16) × IsRowSet left.0 }
-    ensures set { IsRowSet result.0 }
-    ensures has { (x : ℕ) → HasRow result.0 x ↔ (HasRow left.0 x × (i < lane x count)) }
+    requires { (i < 16) × ((x : ℕ) → x < 8 → lane x count ≤ 16) }
+    ensures { (x : ℕ) → HasRow result.bytes x ↔ (HasRow left.bytes x × (i < lane x count)) }
 {
-    RowSet((count + 0x0101_0101_0101_0101 * (127 - i)) & left.0)
+    RowSet {
+        bytes: (count + 0x0101_0101_0101_0101 * (127 - i)) & left.bytes,
+    }
 }
 
 // Of the rows of `rest`, those whose sorted cells at the places s to e are least.
 fn sifted_block(words: &[u64; 16], columns: ColumnList, s: usize, e: usize, rest: RowSet) -> RowSet
-    requires { (s ≤ e) × (e ≤ 16) × LevelWords words.now × IsRowSet rest.0 × (rest.0 ≢ 0) }
-    ensures leads { LeadsTo s (e - s) (e - s) (levels_of words.now columns.0 s) rest.0 result.0 }
-    ensures set { IsRowSet result.0 }
-    ensures some { result.0 ≢ 0 }
+    requires { (s ≤ e) × (e ≤ 16) × LevelWords words.now × (rest.bytes ≢ 0) }
+    ensures leads { LeadsTo s (e - s) (e - s) (levels_of words.now columns.0 s) rest.bytes result.bytes }
+    ensures some { result.bytes ≢ 0 }
 {
     let mut left = rest;
     let mut v = 0u64;
     let mut i = 0;
     let mut count = counted(words, columns, s, e, 0);
+    // A turn does not always take a place: where no row is kept, the next value is tried.
     while i < e - s {
         if left.is_lone() {
             return left;
@@ -74,13 +75,13 @@ pub fn sifted(
     after: [u8; 16],
     rest: RowSet,
 ) -> RowSet
-    requires { (n ≤ 16) × BlockEnds n (end_of columns.0 after) × LevelWords words.now × IsRowSet rest.0 × (rest.0 ≢ 0) }
-    ensures sifts { Sifts n (end_of columns.0 after) (levels_of words.now columns.0) (HasRow rest.0) n (HasRow result.0) }
-    ensures set { IsRowSet result.0 }
-    ensures some { result.0 ≢ 0 }
+    requires { (n ≤ 16) × BlockEnds n (end_of columns.0 after) × LevelWords words.now × (rest.bytes ≢ 0) }
+    ensures sifts { Sifts n (end_of columns.0 after) (levels_of words.now columns.0) (HasRow rest.bytes) n (HasRow result.bytes) }
+    ensures some { result.bytes ≢ 0 }
 {
     let mut left = rest;
     let mut s = 0;
+    // The step is the width of a block.
     while s < n {
         if left.is_lone() {
             return left;

@@ -1,16 +1,10 @@
 // Which values a grid has. No loop is left early, so that many cells are looked at together.
 ghost use Rattle.std.specs.Prelude.{◌≡◌, ℕ, ◌<◌, ◌≤◌, true, ◌⊎◌, length, slice_index};
 ghost use Rattle.grids.specs.Order.{rank};
-ghost use Rattle.branches.specs.Keys.{Small, TwoValued};
+ghost use Rattle.branches.specs.Keys.{Small, Valued};
+ghost use Rattle.search.specs.Tables.{is_two, low_of};
 
 use grids::cells;
-
-// Whether the cells have two values at most, and the lower one.
-#[derive(Clone, Copy)]
-pub struct Values {
-    pub two: bool,
-    pub low: u8,
-}
 
 // The lower of two values.
 fn lower(a: u8, b: u8) -> u8
@@ -73,16 +67,19 @@ fn has_only(grid: &[u8], low: u8, high: u8) -> bool
     either
 }
 
-// Whether a grid has two values at most, and the lower one.
-pub fn classify(grid: &[u8]) -> Values
+// The lower of a grid's values, where it has two at most.
+pub fn lower_of_two(grid: &[u8]) -> Option<u8>
     requires { Small grid.now }
-    ensures { (result.low ≤ 15) × (result.two ≡ true → TwoValued grid.now result.low) }
+    ensures { (low_of result ≤ 15) × Valued (is_two result) grid.now (low_of result) }
 {
-    if grid.len() == 0 {
-        return Values { two: true, low: 0 };
+    if grid.is_empty() {
+        return Some(0);
     }
     let low = lowest(grid);
     let high = highest(grid);
-    let two = has_only(grid, low, high);
-    Values { two, low }
+    if has_only(grid, low, high) {
+        Some(low)
+    } else {
+        None
+    }
 }

@@ -14,11 +14,10 @@ use native.Mathlib.Omega.{arith}
 use borrow.Author.Tests.{lt-ltb, le-ltb}
 use lib.ListN.{length, get_or, take}
 use lib.Seq.{get_or-take}
-use Rattle.permutations.specs.Rows.{RowPermutation}
-use Rattle.permutations.specs.Columns.{ColumnPermutation}
+use Rattle.permutations.specs.declared.rows.RowPermutation.{RowPermutation}
+use Rattle.permutations.specs.declared.columns.ColumnPermutation.{ColumnPermutation}
 use Rattle.permutations.specs.Permutations.{identity}
-use Rattle.permutations.specs.Rows.{row_numbers}
-use Rattle.permutations.specs.Numbered.{Lists}
+use Rattle.permutations.specs.Rows.{row_numbers, ListsRows}
 use Rattle.permutations.specs.Columns.{column_numbers}
 use Rattle.permutations.proofs.SwapLaws.{identity-whole}
 use Rattle.grids.specs.Grids.{cell, arrangement, OneClass}

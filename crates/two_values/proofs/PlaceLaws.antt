@@ -23,11 +23,10 @@ use native.Mathlib.Omega.{arith}
 use native.Mathlib.Numerals.{add-one}
 use lib.ListN.{length, get_or, set, take, length-set}
 use lib.Seq.{get_or-take, get_or-set_same, get_or-set_other}
-use Rattle.permutations.specs.Rows.{RowPermutation}
+use Rattle.permutations.specs.declared.rows.RowPermutation.{RowPermutation}
 use Rattle.permutations.specs.Permutations.{swapped}
 use Rattle.permutations.specs.Padded.{IsPadded}
-use Rattle.permutations.specs.Rows.{row_numbers}
-use Rattle.permutations.specs.Numbered.{Lists}
+use Rattle.permutations.specs.Rows.{row_numbers, ListsRows}
 use Rattle.permutations.proofs.SwapLaws.{at-whole, swapped-whole}
 use Rattle.grids.specs.Order.{◌≼◌, ◌≺◌}
 use Rattle.grids.specs.Grids.{cell, arrangement}

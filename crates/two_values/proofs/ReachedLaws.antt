@@ -10,7 +10,7 @@ use Prim.Native.Nat.{ℕ, ◌<◌}
 use native.Mathlib.Omega.{arith}
 use lib.ListN.{get_or, take}
 use lib.Seq.{get_or-take}
-use Rattle.permutations.specs.Rows.{RowPermutation}
+use Rattle.permutations.specs.declared.rows.RowPermutation.{RowPermutation}
 use Rattle.permutations.specs.Rows.{row_numbers}
 use Rattle.grids.proofs.OrderLaws.{≼_refl}
 use Rattle.branches.specs.Branches.{Begins}

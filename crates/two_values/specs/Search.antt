@@ -22,7 +22,7 @@
 --   Alike m n g k p best back  ==  a row order of the branch has the best's arrangement, begins with the best's first `back` rows, and goes on with another
 --   Outcome ..           ==  the search of the branch found f
 use Rattle.std.specs.Prelude.{◌≡◌, List, Bool, true, false, ◌⊎◌, ℕ, suc, ◌+◌, ◌*◌, ◌≤◌, ◌<◌, length, get_or, set}
-use Rattle.permutations.specs.Rows.{RowPermutation}
+use Rattle.permutations.specs.declared.rows.RowPermutation.{RowPermutation}
 use Rattle.permutations.specs.Permutations.{IsPermutation, swapped}
 use Rattle.permutations.specs.Rows.{row_numbers, IsRowPermutation}
 use Rattle.grids.specs.Order.{◌≼◌}

@@ -51,7 +51,7 @@ fn common(a: RowPermutation, b: RowPermutation, count: usize) -> usize
     ensures { CommonRows (row_numbers a) (row_numbers b) count result }
 {
     for i in 0..count {
-        if a.number(i).0 != b.number(i).0 {
+        if a.row(i).0 != b.row(i).0 {
             return i;
         }
     }

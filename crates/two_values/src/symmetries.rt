@@ -30,7 +30,7 @@ fn fixes(symmetries: &[u8; 32], s: usize, rows: RowPermutation, k: usize) -> boo
     ensures { Fixes symmetries.now s (row_numbers rows) k result }
 {
     for i in 0..k {
-        let row = rows.number(i);
+        let row = rows.row(i);
         if symmetries[s * 8 + row.0 as usize] != row.0 {
             return false;
         }

@@ -5,12 +5,12 @@ use Rattle.general_search.proofs.CountLaws.{rows_none, rows_next}
 use Rattle.general_search.proofs.terminal_search.all_counts.Goals as goal
 
 pub loop-t-init : goal.loop-t-init
-loop-t-init c = (omega arith, refl, rows_none _ _ _ _)
+loop-t-init c = (refl, rows_none _ _ _ _)
 
 pub loop-t-preserved : goal.loop-t-preserved
 loop-t-preserved c =
     let l = c.loop-t in
-    (omega arith, length-set l.out _ _ ∙ l.invariant.1, rows_next _ _ _ _ _ _ _ (omega arith) c.number.ensures c.counts.ensures l.invariant.2)
+    (length-set l.out _ _ ∙ l.invariant.0, rows_next _ _ _ _ _ _ _ (omega arith) c.row.ensures c.counts.ensures l.invariant.1)
 
 pub returns : goal.returns
-returns c = let l = c.loop-t in let e : l.t ≡ c.args.m = omega arith in rw e at l.invariant.2
+returns c = let l = c.loop-t in let e : l.t ≡ c.args.m = omega arith in rw e at l.invariant.1

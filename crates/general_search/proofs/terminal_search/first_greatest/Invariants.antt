@@ -1,11 +1,6 @@
--- `first_greatest` meets its contract. The loop's invariant: the greatest of the first t numbers stands first at `first`. The measure is what is
--- left of m.
-use Prim.Native.Nat.{◌-◌, ◌≤◌}
+-- `first_greatest` meets its contract. The loop's invariant: the greatest of the first t numbers stands first at `first`.
 use Rattle.general_search.specs.Counts.{FirstGreatest}
 use Rattle.general_search.proofs.terminal_search.first_greatest.Given as goal
 
 abbrev pub invariant-loop-t : goal.invariant-loop-t
-invariant-loop-t l = (l.t ≤ l.m) × FirstGreatest l.t l.all l.first
-
-abbrev pub decreases-loop-t : goal.decreases-loop-t
-decreases-loop-t l = l.m - l.t
+invariant-loop-t l = FirstGreatest l.t l.all l.first

@@ -11,7 +11,7 @@ pub returns-then-count-ne4 : goal.returns-then-count-ne4
 returns-then-count-ne4 c = sides-neither _ _ _ _ _ _
 
 pub returns-then-count-eq2 : goal.returns-then-count-eq2
-returns-then-count-eq2 c = sides-others _ _ _ c.without.ensures.has c.without-others.ensures.has c.by_one.ensures
+returns-then-count-eq2 c = sides-others _ _ _ c.without.ensures c.without-2.ensures c.by_one.ensures
 
 pub returns-then-not-ascend : goal.returns-then-not-ascend
 returns-then-not-ascend c = sides-neither _ _ _ _ _ _
@@ -19,10 +19,7 @@ returns-then-not-ascend c = sides-neither _ _ _ _ _ _
 pub by_four-requires : goal.by_four-requires
 by_four-requires c =
     let p = c.requires in (
-      p.0,
-      c.without-others.ensures.set,
-      p.2,
-      p.3,
+      record { words = p.0; first = p.1; second = p.2 },
       c.first_column-c.ensures,
       c.first_column-d.ensures,
       c.first_column-e.ensures,
@@ -36,4 +33,4 @@ by_four-requires c =
     )
 
 pub returns : goal.returns
-returns c = sides-others _ _ _ c.without.ensures.has c.without-others.ensures.has c.by_four.ensures
+returns c = sides-others _ _ _ c.without.ensures c.without-2.ensures c.by_four.ensures

@@ -3,7 +3,7 @@ use Rattle.search.proofs.ThinnedLaws.{row_count, Held}
 use Rattle.search.proofs.domination.held_against.Given as goal
 
 abbrev pub invariant-loop-b : goal.invariant-loop-b
-invariant-loop-b l = Held l.levels l.words l.after l.rest.0 l.initial.out.0 l.a.0 l.out.0 l.todo.0
+invariant-loop-b l = Held l.tables.levels l.tables.words l.after l.rest.bytes l.initial.out.bytes l.a.0 l.out.bytes l.todo.bytes
 
 abbrev pub decreases-loop-b : goal.decreases-loop-b
-decreases-loop-b l = row_count l.todo.0
+decreases-loop-b l = row_count l.todo.bytes

@@ -3,7 +3,7 @@ use Rattle.search.proofs.ThinnedLaws.{row_count, Undone}
 use Rattle.search.proofs.domination.undominated.Given as goal
 
 abbrev pub invariant-loop-a : goal.invariant-loop-a
-invariant-loop-a l = Undone l.levels l.words l.after l.rest.0 l.rows.0 l.left.0 l.todo.0
+invariant-loop-a l = Undone l.tables.levels l.tables.words l.after l.rest.bytes l.rows.bytes l.left.bytes l.todo.bytes
 
 abbrev pub decreases-loop-a : goal.decreases-loop-a
-decreases-loop-a l = row_count l.todo.0
+decreases-loop-a l = row_count l.todo.bytes

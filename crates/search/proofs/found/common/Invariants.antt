@@ -1,5 +1,4 @@
 -- `common` meets its contract. The loop's invariant: the two orders begin with i rows in common.
-use Rattle.std.proofs.Common.{◌-◌}
 use Rattle.search.specs.Search.{rows_of}
 use Rattle.search.proofs.FoundLaws.{CommonUpTo}
 use Rattle.search.proofs.found.common.Given as goal

@@ -1,4 +1,4 @@
-use Rattle.std.proofs.Common.{◌≡◌, ℕ, ◌+◌, ◌*◌, get_or, refl, ap, arith}
+use Rattle.std.proofs.Common.{ℕ, ◌+◌, ◌*◌, get_or, refl, ap, arith}
 use Rattle.branches.specs.Keys.{number}
 use Rattle.search.specs.ColumnLists.{column_at}
 use Rattle.search.proofs.KeySteps.{column-most, digit-next, number-room}
@@ -13,21 +13,9 @@ overflow_mul-number c =
     let l = c.loop-j in
     omega (arith, l.invariant, number-room l.j (λ i. get_or c.args.levels.now (c.args.row.0 * 16 + column_at c.args.columns.0 i) 0) (λ i. c.requires.2 _) (omega arith))
 
-pub overflow_cast-number : goal.overflow_cast-number
-overflow_cast-number c =
-    omega (arith, c.column_at-column.ensures, column-most c.args.columns.0 c.loop-j.j)
-
-pub overflow_add-number : goal.overflow_add-number
-overflow_add-number c =
-    omega (arith, c.column_at-column.ensures, column-most c.args.columns.0 c.loop-j.j)
-
 pub bounds-levels-start : goal.bounds-levels-start
 bounds-levels-start c =
     omega (arith, c.column_at-column.ensures, column-most c.args.columns.0 c.loop-j.j)
-
-pub overflow_cast-number-in-loop-j : goal.overflow_cast-number-in-loop-j
-overflow_cast-number-in-loop-j c =
-    omega (arith, c.requires.2 (c.args.row.0 * 16 + c.column_at-column.result.0))
 
 pub overflow_add-number-in-loop-j : goal.overflow_add-number-in-loop-j
 overflow_add-number-in-loop-j c =
@@ -39,6 +27,3 @@ loop-j-preserved c =
     let l = c.loop-j in
     let e = c.column_at-column.ensures in
     digit-next l.j (λ i. get_or c.args.levels.now (c.args.row.0 * 16 + column_at c.args.columns.0 i) 0) _ _ l.invariant (ap (λ (z : ℕ). get_or c.args.levels.now (c.args.row.0 * 16 + z) 0) e)
-
-pub returns : goal.returns
-returns c = let l = c.loop-j in let e : l.j ≡ c.args.n = omega arith in rw e at l.invariant

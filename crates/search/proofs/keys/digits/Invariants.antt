@@ -1,5 +1,5 @@
 -- `digits` meets its contract. The loop's invariant: the number of the digits before j.
-use Rattle.std.proofs.Common.{◌≡◌, ◌+◌, ◌-◌, ◌≤◌, get_or}
+use Rattle.std.proofs.Common.{◌≡◌, ◌+◌, get_or}
 use Rattle.branches.specs.Keys.{number}
 use Rattle.search.specs.ColumnLists.{column_at}
 use Rattle.search.proofs.keys.digits.Given as goal

@@ -1,10 +1,6 @@
-use Rattle.std.proofs.Common.{◌≡◌, arith}
+use Rattle.std.proofs.Common.{arith}
 use Rattle.search.proofs.KeySteps.{row_within, key-at, lowest-one, lowest-next}
 use Rattle.search.proofs.keys.lowest.Goals as goal
-
-pub overflow_cast-least : goal.overflow_cast-least
-overflow_cast-least c =
-    omega (arith, row_within c.args.rows c.requires.2 c.args.k (omega arith) (record { 0 = 0 }))
 
 pub bounds-keys-rows : goal.bounds-keys-rows
 bounds-keys-rows c =
@@ -24,9 +20,3 @@ loop-t-preserved c =
     let l = c.loop-t in
     let key = key-at c.args.rows c.requires.2 l.t (omega arith) (record { 0 = 0 }) c.args.keys.now in
     lowest-next l.invariant _ key (omega arith) _ c.min-least.ensures
-
-pub returns : goal.returns
-returns c =
-    let l = c.loop-t in
-    let e : l.t ≡ c.args.m = omega arith in
-    rw e at l.invariant

@@ -1,19 +1,10 @@
 use Rattle.std.proofs.Common.{◌≡◌, refl, arith}
 use lib.ListN.{get_or-replicate}
-use Rattle.search.proofs.LoopLaws.{summed-none, summed-cell, summed_turn, shifted-exact, shifted_fits, keys-summed}
+use Rattle.search.proofs.LoopLaws.{summed-none, summed-cell, shifted-exact, shifted_fits, keys-summed}
 use Rattle.search.proofs.keys.row_keys.Goals as goal
 
 pub loop-c-init : goal.loop-c-init
 loop-c-init c = summed-none 8 _ _ _ refl (λ x b. get_or-replicate 8 x 0 0 b)
-
-pub overflow_cast-power : goal.overflow_cast-power
-overflow_cast-power c = omega (arith, c.requires.1 c.loop-c.c)
-
-pub loop-r-init : goal.loop-r-init
-loop-r-init c = c.loop-c.invariant
-
-pub overflow_shl-out : goal.overflow_shl-out
-overflow_shl-out c = omega (arith, c.requires.1 c.loop-c.c)
 
 pub overflow_add-out-in-loop-r : goal.overflow_add-out-in-loop-r
 overflow_add-out-in-loop-r c =
@@ -30,9 +21,6 @@ pub loop-r-preserved : goal.loop-r-preserved
 loop-r-preserved c =
     let l = c.loop-r.invariant in
     summed-cell l _ (omega arith) (shifted-exact c.args.bits.now c.args.after c.requires.0 c.requires.1 _ _)
-
-pub loop-c-preserved : goal.loop-c-preserved
-loop-c-preserved c = summed_turn c.loop-r.invariant (λ x b xw. absurd (omega arith))
 
 pub returns : goal.returns
 returns c = let l = c.loop-c in let e : l.c ≡ 16 = omega arith in keys-summed _ _ _ (rw e at l.invariant)

@@ -1,5 +1,4 @@
 -- `row_keys` meets its contract. The loops' invariant: the sums of c turns, and of a turn more before r.
-use Rattle.std.proofs.Common.{◌-◌, ◌≤◌}
 use Rattle.search.proofs.LoopLaws.{SummedTo, shifted}
 use Rattle.search.proofs.keys.row_keys.Given as goal
 

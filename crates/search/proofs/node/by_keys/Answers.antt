@@ -13,12 +13,12 @@ lowest-least-requires c =
     let s = c.requires.0 in
     (s.placed-fits, s.tables.rows_fit, rows-within s)
 
-pub with_key-rows-requires : goal.with_key-rows-requires
-with_key-rows-requires c =
+pub with_key-requires : goal.with_key-requires
+with_key-requires c =
     let s = c.requires.0 in
     (omega (arith, s.placed-fits), s.tables.rows_fit, rows-within s)
 
 pub returns : goal.returns
 returns c =
     let p = c.requires in
-    keys-next p.0 p.1 _ c.row_keys-keys.ensures _ c.lowest-least.ensures _ c.with_key-rows.ensures _ refl refl refl
+    keys-next p.0 p.1 _ c.row_keys-keys.ensures _ c.lowest-least.ensures _ c.with_key.ensures _ refl c.from.ensures refl

@@ -4,34 +4,23 @@ use Rattle.search.proofs.RowSetLaws.{row_within}
 use Rattle.search.proofs.NodeLaws.{after_is, fresh-next, known_next, first-after}
 use Rattle.search.proofs.node.by_sifting.Goals as goal
 
-pub left-rows-requires : goal.left-rows-requires
-left-rows-requires c = c.requires.0
-
 pub returns-then-node : goal.returns-then-node
 returns-then-node c =
     let p = c.requires in
     fresh-next p.0 p.1 c.if-node.true _ c.left-rows.ensures _ refl refl
 
-pub first-first-requires : goal.first-first-requires
-first-first-requires c = let h = c.left-rows.ensures in (h.set, h.some)
-
-pub refined-further-requires : goal.refined-further-requires
-refined-further-requires c =
+pub refined-after-requires : goal.refined-after-requires
+refined-after-requires c =
     let s = c.requires.0 in
-    (row_within _ _ c.first-first.ensures, s.tables.columns-fit, s.tables.by_rows.small, after_is s)
+    (row_within _ _ c.first-row.ensures, s.tables.columns-fit, s.tables.by_rows.small, after_is s)
 
 pub listed-columns-requires : goal.listed-columns-requires
 listed-columns-requires c =
     let p = c.requires in
-    (p.0.tables.columns-fit, first-after p.0 p.1 _ c.left-rows.ensures _ c.first-first.ensures _ c.refined-further.ensures)
-
-pub digits-key-requires : goal.digits-key-requires
-digits-key-requires c =
-    let s = c.requires.0 in
-    (row_within _ _ c.first-first.ensures, s.tables.columns-fit, s.tables.by_rows.small)
+    (p.0.tables.columns-fit, first-after p.0 p.1 _ c.left-rows.ensures _ c.first-row.ensures _ c.refined-after.ensures)
 
 pub returns : goal.returns
 returns c =
     let p = c.requires in
-    known_next p.0 p.1 _ c.left-rows.ensures _ c.first-first.ensures _ c.refined-further.ensures
-    _ c.listed-columns.ensures _ c.digits-key.ensures _ refl refl refl refl
+    known_next p.0 p.1 _ c.left-rows.ensures _ c.first-row.ensures _ c.refined-after.ensures
+    _ c.listed-columns.ensures _ c.digits.ensures _ refl refl _ refl refl refl

@@ -4,9 +4,3 @@ use Rattle.search.proofs.node.columns_at.Goals as goal
 
 pub returns-then-placed-eq0 : goal.returns-then-placed-eq0
 returns-then-placed-eq0 c = let p = c.requires in lists-own _ _ _ p.0 (p.2 c.if-placed-eq0.true) c.own.ensures
-
-pub listed-requires : goal.listed-requires
-listed-requires c = let p = c.requires in (p.0, p.1)
-
-pub returns : goal.returns
-returns c = c.listed.ensures

@@ -1,14 +1,10 @@
 -- `left` meets its contract: where one row is left it is the least, and else the rows are sifted.
-use Rattle.std.proofs.Common.{arith}
 use Rattle.search.proofs.TallyLaws.{level-words}
 use Rattle.search.proofs.NodeLaws.{rest_some, leaves-lone, list-ends, leaves-sifted, columns-after, columns-first}
 use Rattle.search.proofs.node.left.Goals as goal
 
-pub overflow_sub-m : goal.overflow_sub-m
-overflow_sub-m c = omega (arith, c.requires.placed-fits)
-
-pub returns-then-m-node-eq1 : goal.returns-then-m-node-eq1
-returns-then-m-node-eq1 c = leaves-lone c.requires c.if-m-node-eq1.true
+pub returns-then-tables-node-eq1 : goal.returns-then-tables-node-eq1
+returns-then-tables-node-eq1 c = leaves-lone c.requires c.if-tables-node-eq1.true
 
 pub columns_at-columns-requires : goal.columns_at-columns-requires
 columns_at-columns-requires c =
@@ -18,9 +14,9 @@ columns_at-columns-requires c =
 pub sifted-requires : goal.sifted-requires
 sifted-requires c =
     let s = c.requires in
-    (s.tables.columns-fit, list-ends s _ c.columns_at-columns.ensures, level-words _ _ s.tables.by_rows.small s.tables.by-columns, s.rest.set, rest_some s)
+    (s.tables.columns-fit, list-ends s _ c.columns_at-columns.ensures, level-words _ _ s.tables.by_rows.small s.tables.by-columns, rest_some s)
 
 pub returns : goal.returns
 returns c =
     let e = c.sifted.ensures in
-    leaves-sifted c.requires _ c.columns_at-columns.ensures _ e.set e.some e.sifts
+    leaves-sifted c.requires _ c.columns_at-columns.ensures _ c.sifted.result.is_set e.some e.sifts

@@ -1,5 +1,5 @@
 -- `differences` meets its contract. The loop's invariant: in how many of the first c columns the rows differ.
-use Rattle.std.proofs.Common.{◌≡◌, ◌-◌, ◌≤◌}
+use Rattle.std.proofs.Common.{◌≡◌}
 use Rattle.search.proofs.DifferenceLaws.{counted}
 use Rattle.search.proofs.pairs.differences.Given as goal
 

@@ -7,22 +7,22 @@ use Rattle.search.proofs.placing.+place.Goals as goal
 use Rattle.search.proofs.placing.+place.Goals.{then-is_written, else-is_written, then-is_followed+else-now-k, else-is_followed}
 
 pub is_settled-requires : goal.is_settled-requires
-is_settled-requires t c = let s = c.requires in after_small s.tables.columns-fit s.places
+is_settled-requires t c = let s = c.requires in (s.placed-fits, after_small s.tables.columns-fit s.places)
 
 pub returns-then-is_cut : goal.returns-then-is_cut
 returns-then-is_cut t c =
     let s = c.requires in
     let ready = c.with_keys-now.ensures in
     outcome-for _ _ _ ready.best
-    (cut ready.stands (omega (arith, s.placed-fits, c.if-k-m.false)) _ c.next_rows-next.ensures _ _ ready.ready refl c.is_cut.ensures c.if-is_cut.true)
+    (cut ready.stands (omega (arith, s.placed-fits, c.if-k-tables.false)) _ c.next_rows-next.ensures _ _ ready.ready c.key-known.ensures c.is_cut.ensures c.if-is_cut.true)
 
 pub matched-requires : goal.matched-requires
 matched-requires t c =
     let s = c.requires in
     let ready = c.with_keys-now.ensures in
     let h =
-    begun-either {old = c.args.found} ready.stands (omega (arith, s.placed-fits, c.if-k-m.false)) c.next_rows-next.ensures ready.best ready.ready refl c.is_cut.ensures c.if-is_cut.false c.is_lower-fresh.ensures c.is_written.ensures {now = c.if-is_written.now}
-    (elim c.if-is_written.branch [ then-is_written w ↦ inl (w.if-is_written.true, w.now-is) | else-is_written w ↦ inr (w.if-is_written.false, w.now-is) ]) in
+    begun-either {old = c.args.found} ready.stands (omega (arith, s.placed-fits, c.if-k-tables.false)) c.next_rows-next.ensures ready.best ready.ready c.key-known.ensures c.is_cut.ensures c.if-is_cut.false c.is_lower-fresh.ensures c.is_written.ensures {now = c.if-is_written.now}
+    (elim c.if-is_written.branch [ then-is_written w ↦ inl (w.if-is_written.true, w.now-is ∙ w.with_key-now.ensures) | else-is_written w ↦ inr (w.if-is_written.false, w.now-is) ]) in
     let last = c.is_last.ensures c.if-is_last.true in
     (h.stands.tables.rows_fit, h.stands.rows, begun-order h last.0 last.1, (h.following 0).symmetries, begun-equal h last.0 last.1)
 
@@ -31,8 +31,8 @@ returns-then-is_last t c =
     let s = c.requires in
     let ready = c.with_keys-now.ensures in
     let h =
-    begun-either {old = c.args.found} ready.stands (omega (arith, s.placed-fits, c.if-k-m.false)) c.next_rows-next.ensures ready.best ready.ready refl c.is_cut.ensures c.if-is_cut.false c.is_lower-fresh.ensures c.is_written.ensures {now = c.if-is_written.now}
-    (elim c.if-is_written.branch [ then-is_written w ↦ inl (w.if-is_written.true, w.now-is) | else-is_written w ↦ inr (w.if-is_written.false, w.now-is) ]) in
+    begun-either {old = c.args.found} ready.stands (omega (arith, s.placed-fits, c.if-k-tables.false)) c.next_rows-next.ensures ready.best ready.ready c.key-known.ensures c.is_cut.ensures c.if-is_cut.false c.is_lower-fresh.ensures c.is_written.ensures {now = c.if-is_written.now}
+    (elim c.if-is_written.branch [ then-is_written w ↦ inl (w.if-is_written.true, w.now-is ∙ w.with_key-now.ensures) | else-is_written w ↦ inr (w.if-is_written.false, w.now-is) ]) in
     let last = c.is_last.ensures c.if-is_last.true in
     begun-copy h last.0 last.1 _ c.matched.ensures
 
@@ -41,18 +41,18 @@ chosen-rows-requires t c =
     let s = c.requires in
     let ready = c.with_keys-now.ensures in
     let h =
-    begun-either {old = c.args.found} ready.stands (omega (arith, s.placed-fits, c.if-k-m.false)) c.next_rows-next.ensures ready.best ready.ready refl c.is_cut.ensures c.if-is_cut.false c.is_lower-fresh.ensures c.is_written.ensures {now = c.if-is_written.now}
-    (elim c.if-is_written.branch [ then-is_written w ↦ inl (w.if-is_written.true, w.now-is) | else-is_written w ↦ inr (w.if-is_written.false, w.now-is) ]) in
-    (standing-node h.stands h.within, h.next.set, some_next h.next, h.next.left)
+    begun-either {old = c.args.found} ready.stands (omega (arith, s.placed-fits, c.if-k-tables.false)) c.next_rows-next.ensures ready.best ready.ready c.key-known.ensures c.is_cut.ensures c.if-is_cut.false c.is_lower-fresh.ensures c.is_written.ensures {now = c.if-is_written.now}
+    (elim c.if-is_written.branch [ then-is_written w ↦ inl (w.if-is_written.true, w.now-is ∙ w.with_key-now.ensures) | else-is_written w ↦ inr (w.if-is_written.false, w.now-is) ]) in
+    (standing-node h.stands h.within, some_next h.next, h.next.left)
 
 pub loop-t-init : goal.loop-t-init
 loop-t-init t c =
     let s = c.requires in
     let ready = c.with_keys-now.ensures in
     let h =
-    begun-either {old = c.args.found} ready.stands (omega (arith, s.placed-fits, c.if-k-m.false)) c.next_rows-next.ensures ready.best ready.ready refl c.is_cut.ensures c.if-is_cut.false c.is_lower-fresh.ensures c.is_written.ensures {now = c.if-is_written.now}
-    (elim c.if-is_written.branch [ then-is_written w ↦ inl (w.if-is_written.true, w.now-is) | else-is_written w ↦ inr (w.if-is_written.false, w.now-is) ]) in
-    (turn-first h c.chosen-rows.ensures, h)
+    begun-either {old = c.args.found} ready.stands (omega (arith, s.placed-fits, c.if-k-tables.false)) c.next_rows-next.ensures ready.best ready.ready c.key-known.ensures c.is_cut.ensures c.if-is_cut.false c.is_lower-fresh.ensures c.is_written.ensures {now = c.if-is_written.now}
+    (elim c.if-is_written.branch [ then-is_written w ↦ inl (w.if-is_written.true, w.now-is ∙ w.with_key-now.ensures) | else-is_written w ↦ inr (w.if-is_written.false, w.now-is) ]) in
+    (rw c.empty-covered.ensures (turn-first h c.chosen-rows.ensures), h)
 
 pub is_followed-requires : goal.is_followed-requires
 is_followed-requires t c = turn-row-below c.loop-t-test.true c.loop-t.invariant.0
@@ -78,7 +78,7 @@ pub covered_with-covered-requires : goal.covered_with-covered-requires
 covered_with-covered-requires t c =
     let h = c.loop-t.invariant.0 in
     let s = h.stands in
-    (s.tables.rows_fit, h.within, s.rows, c.place-now.ensures.symmetries, h.set, turn-row-below c.loop-t-test.true h)
+    (s.tables.rows_fit, h.within, s.rows, c.place-now.ensures.symmetries, turn-row-below c.loop-t-test.true h)
 
 pub loop-t-preserved : goal.loop-t-preserved
 loop-t-preserved t c =

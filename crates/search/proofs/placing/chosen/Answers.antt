@@ -4,18 +4,18 @@ use Rattle.search.proofs.ThinnedLaws.{thinned-thins}
 use Rattle.search.proofs.TurnLaws.{thins-itself, node-left}
 use Rattle.search.proofs.placing.chosen.Goals as goal
 
-pub returns-then-kept-ne0 : goal.returns-then-kept-ne0
-returns-then-kept-ne0 c = thins-itself c.requires.1
+pub returns-then-known-ne0 : goal.returns-then-known-ne0
+returns-then-known-ne0 c = thins-itself c.args.rows.is_set
 
 pub returns-then-is_lone : goal.returns-then-is_lone
-returns-then-is_lone c = thins-itself c.requires.1
+returns-then-is_lone c = thins-itself c.args.rows.is_set
 
 pub undominated-requires : goal.undominated-requires
 undominated-requires c =
     let s = c.requires in
-    (level-words _ _ s.0.tables.by_rows.small s.0.tables.by-columns, s.0.rest.set, s.1)
+    (level-words _ _ s.0.tables.by_rows.small s.0.tables.by-columns)
 
 pub returns : goal.returns
 returns c =
     let s = c.requires in
-    thinned-thins _ _ _ _ _ _ _ _ _ (node-left s.0) _ s.3 _ c.undominated.ensures
+    thinned-thins _ _ _ _ _ _ _ _ _ (node-left s.0) _ s.2 _ c.undominated.ensures

@@ -1,7 +1,6 @@
-use Rattle.std.proofs.Common.{◌-◌, ◌<◌, sym, ap, ◌∙◌, arith}
-use Rattle.search.specs.Sifting.{tally}
+use Rattle.std.proofs.Common.{◌-◌, ◌<◌, sym, ◌∙◌, arith}
 use Rattle.search.proofs.LaneLaws.{lane-zero}
-use Rattle.search.proofs.TallyLaws.{tally-zero, column-small, level-word, counted-sum, counted-done}
+use Rattle.search.proofs.TallyLaws.{tally-zero, column-small, level-word, counted-sum}
 use Rattle.search.proofs.sifting.counted.Goals as goal
 
 pub loop-u-init : goal.loop-u-init
@@ -9,12 +8,6 @@ loop-u-init c = (
   omega arith,
   (λ i l. lane-zero i ∙ sym (tally-zero c.args.v c.args.words.now c.args.columns.0 i c.args.s (c.args.s - c.args.s) (omega arith))),
 )
-
-pub column_at-column-requires : goal.column_at-column-requires
-column_at-column-requires c = omega (arith, c.requires.1)
-
-pub offset_bounds-words-column : goal.offset_bounds-words-column
-offset_bounds-words-column c = record { fits = omega (arith, c.column_at-column.ensures, column-small c.args.columns.0 c.loop-u.u) }
 
 pub bounds-words-column : goal.bounds-words-column
 bounds-words-column c = omega (arith, c.column_at-column.ensures, column-small c.args.columns.0 c.loop-u.u)
@@ -24,11 +17,6 @@ at_most-count-requires c =
     let small : c.column_at-column.result.0 < 16 = omega (arith, c.column_at-column.ensures, column-small c.args.columns.0 c.loop-u.u) in
     (level-word _ _ c.requires.3 small, c.requires.2)
 
-pub overflow_add-count : goal.overflow_add-count
-overflow_add-count c =
-    let l = c.loop-u in
-    record { fits = omega (arith, l.invariant.0, c.at_most-count.ensures.small, c.requires.1) }
-
 pub loop-u-preserved : goal.loop-u-preserved
 loop-u-preserved c =
     let l = c.loop-u in
@@ -37,9 +25,3 @@ loop-u-preserved c =
       omega (arith, l.invariant.0, c.at_most-count.ensures.small),
       counted-sum a.v a.words.now a.columns.0 a.s l.u c.column_at-column.result.0 l.count c.at_most-count.result (omega arith) u16 c.column_at-column.ensures l.invariant.1 c.at_most-count.ensures.lanes,
     )
-
-pub returns : goal.returns
-returns c =
-    let l = c.loop-u in
-    let a = c.args in
-    λ i k. l.invariant.1 i k ∙ ap (tally a.v a.words.now a.columns.0 i a.s) (counted-done a.s a.e l.u (omega arith) (omega arith) (λ h. omega arith) (λ h. omega arith))

@@ -5,53 +5,15 @@ use Rattle.search.proofs.SiftedLaws.{sifts-none, sifts-block, sifts-lone, starts
 use Rattle.search.proofs.sifting.sifted.Goals as goal
 
 pub loop-s-init : goal.loop-s-init
-loop-s-init c = (omega arith, starts_none _, c.requires.3, c.requires.4, sifts-none _ _ _ _)
-
-pub is_lone-requires : goal.is_lone-requires
-is_lone-requires c = (c.loop-s.invariant.2, c.loop-s.invariant.3)
+loop-s-init c = (omega arith, starts_none _, c.requires.3, sifts-none _ _ _ _)
 
 pub returns-then-is_lone : goal.returns-then-is_lone
 returns-then-is_lone c =
     let l = c.loop-s in
-    record { sifts = sifts-lone _ _ _ _ _ _ l.invariant.0 l.invariant.2 l.invariant.3 (c.is_lone.ensures c.if-is_lone.true) l.invariant.4; set = l.invariant.2; some = l.invariant.3 }
-
-pub column_at-column-requires : goal.column_at-column-requires
-column_at-column-requires c = omega (arith, c.requires.0)
+    record { sifts = sifts-lone _ _ _ _ _ _ l.invariant.0 l.left.is_set l.invariant.2 (c.is_lone.ensures c.if-is_lone.true) l.invariant.3; some = l.invariant.2 }
 
 pub bounds-after-column : goal.bounds-after-column
 bounds-after-column c = omega (arith, c.column_at-column.ensures, column-small c.args.columns.0 c.loop-s.s)
-
-pub overflow_cast-e-in-loop-s : goal.overflow_cast-e-in-loop-s
-overflow_cast-e-in-loop-s c =
-    let l = c.loop-s in
-    let a = c.args in
-    let sn : l.s < a.n = omega arith in
-    let same : get_or a.after c.column_at-column.result.0 0 ≡ get_or a.after (column_at a.columns.0 l.s) 0 = ap (λ (z : ℕ). get_or a.after z 0) c.column_at-column.ensures in
-    record { fits = omega (arith, c.requires.1.further l.s sn) }
-
-pub overflow_sub-e : goal.overflow_sub-e
-overflow_sub-e c =
-    let l = c.loop-s in
-    let a = c.args in
-    let sn : l.s < a.n = omega arith in
-    let same : get_or a.after c.column_at-column.result.0 0 ≡ get_or a.after (column_at a.columns.0 l.s) 0 = ap (λ (z : ℕ). get_or a.after z 0) c.column_at-column.ensures in
-    omega (arith, c.requires.1.further l.s sn)
-
-pub sifted_block-left-requires : goal.sifted_block-left-requires
-sifted_block-left-requires c =
-    let l = c.loop-s in
-    let a = c.args in
-    let sn : l.s < a.n = omega arith in
-    let same : get_or a.after c.column_at-column.result.0 0 ≡ get_or a.after (column_at a.columns.0 l.s) 0 = ap (λ (z : ℕ). get_or a.after z 0) c.column_at-column.ensures in
-    (omega (arith, c.requires.1.further l.s sn), omega arith, c.requires.2, l.invariant.2, l.invariant.3)
-
-pub loop-s-smaller : goal.loop-s-smaller
-loop-s-smaller c =
-    let l = c.loop-s in
-    let a = c.args in
-    let sn : l.s < a.n = omega arith in
-    let same : get_or a.after c.column_at-column.result.0 0 ≡ get_or a.after (column_at a.columns.0 l.s) 0 = ap (λ (z : ℕ). get_or a.after z 0) c.column_at-column.ensures in
-    omega (arith, c.requires.1.further l.s sn)
 
 pub loop-s-preserved : goal.loop-s-preserved
 loop-s-preserved c =
@@ -65,13 +27,12 @@ loop-s-preserved c =
     let k = c.sifted_block-left in (
       omega (arith, c.requires.1.within l.s sn),
       starts-next _ _ c.requires.1 _ _ sn es l.invariant.1,
-      k.ensures.set,
       k.ensures.some,
-      sifts-block _ _ c.requires.1 _ _ sn es (levels_of a.words.now a.columns.0) _ _ _ l.invariant.1 l.invariant.4 k.ensures.leads,
+      sifts-block _ _ c.requires.1 _ _ sn es (levels_of a.words.now a.columns.0) _ _ _ l.invariant.1 l.invariant.3 k.ensures.leads,
     )
 
 pub returns : goal.returns
 returns c =
     let l = c.loop-s in
     let e : l.s ≡ c.args.n = omega arith in
-    record { sifts = rw e at l.invariant.4; set = l.invariant.2; some = l.invariant.3 }
+    record { sifts = rw e at l.invariant.3; some = l.invariant.2 }

@@ -1,7 +1,7 @@
 -- `sifted` meets its contract. The invariant: a block starts at s, and the rows left lead up to s.
 use Rattle.std.proofs.Common.{◌≡◌, ◌-◌, ◌≤◌}
 use Rattle.branches.specs.Sifting.{Starts, Sifts}
-use Rattle.search.specs.RowSets.{IsRowSet, HasRow}
+use Rattle.search.specs.RowSets.{HasRow}
 use Rattle.search.specs.ColumnLists.{end_of, levels_of}
 use Rattle.search.proofs.sifting.sifted.Given as goal
 
@@ -9,9 +9,8 @@ abbrev pub invariant-loop-s : goal.invariant-loop-s
 invariant-loop-s l =
     (l.s ≤ l.n)
     × Starts (end_of l.columns.0 l.after) l.s
-    × IsRowSet l.left.0
-    × (l.left.0 ≡ 0 → ⊥)
-    × Sifts l.n (end_of l.columns.0 l.after) (levels_of l.words l.columns.0) (HasRow l.initial.left.0) l.s (HasRow l.left.0)
+    × (l.left.bytes ≡ 0 → ⊥)
+    × Sifts l.n (end_of l.columns.0 l.after) (levels_of l.words l.columns.0) (HasRow l.initial.left.bytes) l.s (HasRow l.left.bytes)
 
 abbrev pub decreases-loop-s : goal.decreases-loop-s
 decreases-loop-s l = l.n - l.s

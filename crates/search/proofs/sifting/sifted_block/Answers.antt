@@ -4,9 +4,6 @@ use Rattle.search.proofs.TallyLaws.{tally-is, levels-cap}
 use Rattle.search.proofs.SiftedLaws.{going_start, going-keep, going-skip, going-low, going-lone, at-most-le}
 use Rattle.search.proofs.sifting.sifted_block.Goals as goal
 
-pub counted-count-requires : goal.counted-count-requires
-counted-count-requires c = (c.requires.0, c.requires.1, omega arith, c.requires.2)
-
 pub loop-i-init : goal.loop-i-init
 loop-i-init c =
     let a = c.args in
@@ -14,19 +11,13 @@ loop-i-init c =
       omega arith,
       omega arith,
       (λ x l. c.counted-count.ensures x l ∙ tally-is 0 a.words.now a.columns.0 x a.s (a.e - a.s)),
-      going_start _ _ _ _ pre.3 pre.4,
+      going_start _ _ _ _ c.args.rest.is_set pre.3,
     )
-
-pub overflow_sub-e : goal.overflow_sub-e
-overflow_sub-e c = c.requires.0
-
-pub is_lone-requires : goal.is_lone-requires
-is_lone-requires c = (c.loop-i.invariant.3.set, c.loop-i.invariant.3.some)
 
 pub returns-then-is_lone : goal.returns-then-is_lone
 returns-then-is_lone c =
     let l = c.loop-i in
-    record { leads = going-lone _ _ _ _ _ _ _ l.invariant.0 l.invariant.3 (c.is_lone.ensures c.if-is_lone.true); set = l.invariant.3.set; some = l.invariant.3.some }
+    record { leads = going-lone _ _ _ _ _ _ _ l.invariant.0 l.invariant.3 (c.is_lone.ensures c.if-is_lone.true); some = l.invariant.3.some }
 
 pub kept-keep-requires : goal.kept-keep-requires
 kept-keep-requires c =
@@ -34,20 +25,16 @@ kept-keep-requires c =
     let a = c.args in (
       omega (arith, c.requires.1),
       (λ x b. omega (arith, l.invariant.2 x b, at-most-le (a.e - a.s) (levels_of a.words.now a.columns.0 a.s x) l.v, c.requires.1)),
-      l.invariant.3.set,
     )
-
-pub overflow_add-v : goal.overflow_add-v
-overflow_add-v c = record { fits = omega (arith, c.loop-i.invariant.1) }
 
 pub counted-count-requires-then-is_empty : goal.counted-count-requires-then-is_empty
 counted-count-requires-then-is_empty c =
     let l = c.loop-i in
     let a = c.args in
     let k = c.kept-keep in
-    let z : k.result.0 ≡ 0 = search rules in
+    let z : k.result.bytes ≡ 0 = search rules in
     let iw : l.i < a.e - a.s = omega arith in
-    let low : l.v < 15 = going-low _ _ _ _ _ _ _ _ _ iw l.invariant.3 k.ensures.has l.invariant.2 z (levels-cap a.words.now a.columns.0 a.s c.requires.2) in
+    let low : l.v < 15 = going-low _ _ _ _ _ _ _ _ _ iw l.invariant.3 k.ensures l.invariant.2 z (levels-cap a.words.now a.columns.0 a.s c.requires.2) in
     (c.requires.0, c.requires.1, omega arith, c.requires.2)
 
 pub loop-i-smaller-then-is_empty : goal.loop-i-smaller-then-is_empty
@@ -55,9 +42,9 @@ loop-i-smaller-then-is_empty c =
     let l = c.loop-i in
     let a = c.args in
     let k = c.kept-keep in
-    let z : k.result.0 ≡ 0 = search rules in
+    let z : k.result.bytes ≡ 0 = search rules in
     let iw : l.i < a.e - a.s = omega arith in
-    let low : l.v < 15 = going-low _ _ _ _ _ _ _ _ _ iw l.invariant.3 k.ensures.has l.invariant.2 z (levels-cap a.words.now a.columns.0 a.s c.requires.2) in
+    let low : l.v < 15 = going-low _ _ _ _ _ _ _ _ _ iw l.invariant.3 k.ensures l.invariant.2 z (levels-cap a.words.now a.columns.0 a.s c.requires.2) in
     omega arith
 
 pub loop-i-preserved-then-is_empty : goal.loop-i-preserved-then-is_empty
@@ -65,17 +52,14 @@ loop-i-preserved-then-is_empty c =
     let l = c.loop-i in
     let a = c.args in
     let k = c.kept-keep in
-    let z : k.result.0 ≡ 0 = search rules in
+    let z : k.result.bytes ≡ 0 = search rules in
     let iw : l.i < a.e - a.s = omega arith in
-    let low : l.v < 15 = going-low _ _ _ _ _ _ _ _ _ iw l.invariant.3 k.ensures.has l.invariant.2 z (levels-cap a.words.now a.columns.0 a.s c.requires.2) in (
+    let low : l.v < 15 = going-low _ _ _ _ _ _ _ _ _ iw l.invariant.3 k.ensures l.invariant.2 z (levels-cap a.words.now a.columns.0 a.s c.requires.2) in (
       l.invariant.0,
       omega arith,
       (λ x b. c.counted-count-then-is_empty.ensures x b ∙ tally-is (l.v + 1) a.words.now a.columns.0 x a.s (a.e - a.s)),
-      going-skip _ _ _ _ _ _ _ _ _ iw l.invariant.3 k.ensures.has l.invariant.2 z,
+      going-skip _ _ _ _ _ _ _ _ _ iw l.invariant.3 k.ensures l.invariant.2 z,
     )
-
-pub overflow_add-i : goal.overflow_add-i
-overflow_add-i c = record { fits = omega arith }
 
 pub loop-i-preserved : goal.loop-i-preserved
 loop-i-preserved c =
@@ -85,7 +69,7 @@ loop-i-preserved c =
       omega arith,
       l.invariant.1,
       l.invariant.2,
-      going-keep _ _ _ _ _ _ _ _ _ iw l.invariant.3 k.ensures.has l.invariant.2 k.ensures.set (search rules),
+      going-keep _ _ _ _ _ _ _ _ _ iw l.invariant.3 k.ensures l.invariant.2 k.result.is_set (search rules),
     )
 
 pub returns : goal.returns
@@ -93,4 +77,4 @@ returns c =
     let l = c.loop-i in
     let a = c.args in
     let e : l.i ≡ a.e - a.s = omega arith in
-    record { leads = rw e at l.invariant.3.leads; set = l.invariant.3.set; some = l.invariant.3.some }
+    record { leads = rw e at l.invariant.3.leads; some = l.invariant.3.some }

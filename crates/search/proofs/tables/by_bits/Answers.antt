@@ -1,20 +1,14 @@
 use Rattle.std.proofs.Common.{◌≡◌, refl, ◌∙◌, arith}
-use Rattle.search.proofs.TableLaws.{run_none, run-next, run-skip, bit-cell, bits-table}
+use Rattle.search.proofs.TableLaws.{run_none, run-next, bit-cell, bits-table}
 use Rattle.search.proofs.tables.by_bits.Goals as goal
 
 pub loop-c-init : goal.loop-c-init
 loop-c-init c = run_none _ _ refl
 
-pub loop-r-init : goal.loop-r-init
-loop-r-init c = let l = c.loop-c in run-skip l.invariant _ (omega arith) (λ i a b. absurd (omega arith))
-
 pub loop-r-preserved : goal.loop-r-preserved
 loop-r-preserved c =
     let l = c.loop-r in
     run-next l.invariant _ _ (omega arith) (omega arith) (c.from.ensures ∙ bit-cell _ _ _ _ (omega arith))
-
-pub loop-c-preserved : goal.loop-c-preserved
-loop-c-preserved c = let l = c.loop-r in run-skip l.invariant _ (omega arith) (λ i a b. absurd (omega arith))
 
 pub returns : goal.returns
 returns c =

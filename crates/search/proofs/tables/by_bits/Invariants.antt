@@ -1,5 +1,5 @@
 -- `by_bits` meets its contract. The loops' invariant: the cells before row r of column c are in the table.
-use Rattle.std.proofs.Common.{◌+◌, ◌-◌, ◌*◌, ◌≤◌}
+use Rattle.std.proofs.Common.{◌+◌, ◌*◌}
 use Rattle.search.proofs.TableLaws.{RunTo, bit_at}
 use Rattle.search.proofs.tables.by_bits.Given as goal
 

@@ -1,23 +1,10 @@
-use Rattle.std.proofs.Common.{◌≡◌, ◌+◌, ◌-◌, ◌*◌, refl, arith}
-use Rattle.search.proofs.LoopLaws.{turned-cell, turned_turn}
+use Rattle.std.proofs.Common.{◌≡◌, refl, arith}
+use Rattle.search.proofs.LoopLaws.{turned-cell}
 use Rattle.search.proofs.TableLaws.{words-none, word_next, columns-table}
 use Rattle.search.proofs.tables.by_columns.Goals as goal
 
 pub loop-r-init : goal.loop-r-init
 loop-r-init c = words-none _ _ refl
-
-pub loop-c-init : goal.loop-c-init
-loop-c-init c =
-    let l = c.loop-r in
-    let e : 8 - l.r ≡ 7 - (l.r - 1) = omega arith in
-    rw e at l.invariant
-
-pub loop-r-preserved : goal.loop-r-preserved
-loop-r-preserved c =
-    let l = c.loop-c in
-    let r = c.loop-r.r in
-    let e : (7 - (r - 1)) + 1 ≡ 8 - (r - 1) = omega arith in
-    rw e at (turned_turn l.invariant (λ x a b. absurd (omega arith)))
 
 pub loop-c-preserved : goal.loop-c-preserved
 loop-c-preserved c =

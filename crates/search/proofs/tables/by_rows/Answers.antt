@@ -1,16 +1,9 @@
-use Rattle.std.proofs.Common.{◌≡◌, ◌+◌, ◌*◌, ◌<◌, sym, refl, ◌∙◌, arith}
-use lib.Arith.{digits_lt}
+use Rattle.std.proofs.Common.{◌≡◌, sym, refl, ◌∙◌, arith}
 use Rattle.search.proofs.TableLaws.{run_none, run-next, run-skip, level-cell, row-past, rows-table}
 use Rattle.search.proofs.tables.by_rows.Goals as goal
 
 pub loop-i-init : goal.loop-i-init
 loop-i-init c = run_none _ _ refl
-
-pub loop-j-init : goal.loop-j-init
-loop-j-init c = run-skip c.loop-i.invariant _ (omega arith) (λ i a b. absurd (omega arith))
-
-pub bounds-grid-i : goal.bounds-grid-i
-bounds-grid-i c = omega (arith, c.requires.2, digits_lt {q = c.loop-i.i} {m = c.args.m} {r = c.loop-j.j} {c = c.args.n} (omega arith) (omega arith))
 
 pub loop-j-preserved : goal.loop-j-preserved
 loop-j-preserved c =

@@ -7,6 +7,3 @@ loop-value-init c = lowest-none _ c.requires.0 c.requires.1
 
 pub loop-value-preserved : goal.loop-value-preserved
 loop-value-preserved c = lowest-next c.loop-value.invariant (omega arith) c.requires.1 _ c.lower-low.ensures
-
-pub returns : goal.returns
-returns c = let l = c.loop-value.invariant in (l.small, λ i b. l.lowest i (omega arith))

@@ -3,4 +3,7 @@ use Rattle.search.proofs.RowSetLaws.{both-set, both-has}
 use Rattle.search.proofs.row_sets.RowSet.both.Goals as goal
 
 pub returns : goal.returns
-returns c = let p = c.requires in record { set = both-set _ _ p.0 p.1; has = both-has _ _ p.0 p.1 }
+returns c = both-has _ _ c.args.self.is_set c.args.other.is_set
+
+pub invariant_of-result : goal.invariant_of-result
+invariant_of-result c = record { is_set = both-set _ _ c.args.self.is_set c.args.other.is_set }

@@ -4,4 +4,4 @@ use Rattle.search.proofs.RowSetLaws.{lone_row}
 use Rattle.search.proofs.row_sets.RowSet.is_lone.Goals as goal
 
 pub returns : goal.returns
-returns c = λ e. lone_row _ c.requires.0 c.requires.1 (eqb-true _ _ e)
+returns c = λ e. lone_row _ c.args.self.is_set c.requires (eqb-true _ _ e)

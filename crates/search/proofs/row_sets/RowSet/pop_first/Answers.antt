@@ -3,4 +3,4 @@ use Rattle.search.proofs.ThinnedLaws.{has-below}
 use Rattle.search.proofs.row_sets.RowSet.pop_first.Goals as goal
 
 pub without-requires : goal.without-requires
-without-requires c = (c.requires, has-below _ _ c.first-row.ensures)
+without-requires c = has-below _ _ c.first-row.ensures

@@ -3,7 +3,7 @@ use Rattle.search.proofs.RowSetLaws.{with-set, with-has}
 use Rattle.search.proofs.row_sets.RowSet.with.Goals as goal
 
 pub returns : goal.returns
-returns c =
-    let p = c.requires in
-    let o = c.only.ensures in
-    record { set = with-set _ _ _ p.1 p.0 o.set o.has; has = with-has _ _ _ p.1 p.0 o.set o.has }
+returns c = with-has _ _ _ c.requires c.args.self.is_set c.only.result.is_set c.only.ensures
+
+pub invariant_of-result : goal.invariant_of-result
+invariant_of-result c = record { is_set = with-set _ _ _ c.requires c.args.self.is_set c.only.result.is_set c.only.ensures }

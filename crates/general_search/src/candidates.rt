@@ -1,0 +1,123 @@
+// The candidates of a branch: each places one row more, and sorts the columns by it.
+ghost use Rattle.std.specs.Prelude.{◌≡◌, ◌≤◌, ◌<◌};
+ghost use Rattle.permutations.specs.Rows.{row_numbers};
+ghost use Rattle.grids.specs.Comparisons.{compared};
+ghost use Rattle.general_search.specs.Search.{row_at, lesser_orders, EqualRows, Repeats, IsSearching, IsCandidate, IsBound, PartAt};
+
+use crate::blocks;
+use crate::search::Orders;
+use crate::state::{Bound, Branch, Search};
+use grids::comparisons::Comparison;
+use grids::{cells, comparisons};
+use permutations::columns::ColumnNumber;
+use permutations::rows::{RowNumber, RowPermutation};
+
+// The first of `count` positions at which two orders differ.
+pub fn parting(a: RowPermutation, b: RowPermutation, count: usize) -> Option<usize>
+    ensures { PartAt (row_numbers a) (row_numbers b) count result }
+{
+    (0..count).find(|i| a.row(*i).0 != b.row(*i).0)
+}
+
+// The candidate, if its comparison with the best found it less; else the best.
+pub fn lesser(found: Comparison, next: Orders, best: Orders) -> Orders
+    ensures { result ≡ lesser_orders found next best }
+{
+    if comparisons::is_less(found) {
+        next
+    } else {
+        best
+    }
+}
+
+impl Search<'_> {
+    // Whether two rows are equal.
+    fn equal_rows(&self, a: RowNumber, b: RowNumber) -> bool
+        ensures { EqualRows self.now.n self.now.grid.now a.0 b.0 result }
+    {
+        for j in 0..self.n {
+            let column = ColumnNumber(j as u8);
+            if cells::cell(self.grid, self.n, a, column)
+                != cells::cell(self.grid, self.n, b, column)
+            {
+                return false;
+            }
+        }
+        true
+    }
+
+    // Whether the row at position t equals one that can come next before it.
+    pub fn repeated(&self, branch: &Branch, t: usize) -> bool
+        ensures { Repeats self.now.n self.now.grid.now (row_numbers branch.now.placed.rows) branch.now.k t result }
+    {
+        let rows = branch.placed.rows;
+        let row = rows.row(t);
+        for s in branch.k..t {
+            if self.equal_rows(rows.row(s), row) {
+                return true;
+            }
+        }
+        false
+    }
+
+    // The candidate with the row at position t: the orders with that row placed next, and each block of columns sorted by it.
+    pub fn candidate(&self, branch: &Branch, t: usize) -> Orders
+        requires searching { (best : Orders) × IsSearching self.now branch.now best }
+        requires unplaced { (branch.now.k ≤ t) × (t < self.now.m) }
+        ensures { IsCandidate self.now branch.now t result }
+    {
+        let Orders { rows, columns } = branch.placed;
+        let columns = blocks::sorted(self.grid, self.n, rows.row(t), columns, branch.breaks);
+        let rows = if t == branch.k {
+            rows
+        } else {
+            rows.swapped(branch.k, t)
+        };
+        Orders { rows, columns }
+    }
+
+    // Row k of the arrangements by two pairs of orders.
+    pub fn compare_at(&self, k: usize, a: Orders, b: Orders) -> Comparison
+        ensures { result ≡ compared (row_at self.now.n self.now.grid.now k a) (row_at self.now.n self.now.grid.now k b) }
+    {
+        let x = a.rows.row(k);
+        let y = b.rows.row(k);
+        comparisons::compare_rows(self.grid, self.n, x, a.columns, y, b.columns)
+    }
+
+    // The least of the best and of all candidates, by their first k + 1 rows, and which candidates it comes before.
+    pub fn lowered(&self, branch: &Branch, best: Orders) -> Bound
+        requires { IsSearching self.now branch.now best }
+        ensures { IsBound self.now branch.now best result }
+    {
+        let mut low = Bound::unknown(best, branch.k);
+        for t in branch.k..self.m {
+            let next = self.candidate(branch, t);
+            let found = self.compare_at(branch.k, next, low.best);
+            if comparisons::is_greater(found) {
+                low.above[t] = true;
+            } else if comparisons::is_less(found) {
+                low.best = next;
+                low.from = t;
+                low.made = true;
+            }
+        }
+        low
+    }
+
+    // The bound to begin with. If the best begins with the rows placed and the next one, no other row was tried there, and it is lowered,
+    // where the search is to look ahead and more than two rows are left.
+    pub fn bounded(&self, branch: &Branch, best: Orders) -> Bound
+        requires { IsSearching self.now branch.now best }
+        ensures { IsBound self.now branch.now best result }
+    {
+        if self.ahead
+            && branch.k + 2 < self.m
+            && parting(best.rows, branch.placed.rows, branch.k + 1).is_none()
+        {
+            self.lowered(branch, best)
+        } else {
+            Bound::unknown(best, branch.k)
+        }
+    }
+}
