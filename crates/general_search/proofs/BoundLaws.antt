@@ -25,7 +25,7 @@ use Rattle.permutations.specs.Columns.{column_numbers}
 use Rattle.grids.specs.Order.{◌≼◌, ◌≺◌}
 use Rattle.grids.specs.Grids.{cell, arrangement}
 use Rattle.grids.proofs.OrderLaws.{≼_refl, ≼_trans, ≼-antisymm, ≺-≼}
-use Rattle.general_search.specs.declared.search.Orders.{Orders}
+use Rattle.permutations.specs.declared.orders.Orders.{Orders}
 use Rattle.general_search.specs.declared.state.Bound.{Bound}
 use Rattle.branches.specs.Branches.{Begins, Covers}
 use Rattle.general_search.specs.Search.{leading_rows, row_at, IsOrders, Searching, Candidate, Improves, Bounded}
@@ -33,14 +33,14 @@ use Rattle.branches.proofs.LeadingRows.{leading-is, leading-row, leading-decides
 use Rattle.branches.proofs.BranchLaws.{covers-lower}
 use Rattle.general_search.proofs.SearchLaws.{improves-refl, improves-trans, searching-better, candidate-lower, bound-below, bound-above}
 
-abbrev pub Branch : ℕ → ℕ → List ℕ → ℕ → Orders → ℕ → Orders → Type 0
+abbrev pub Branch : ℕ → ℕ → List ℕ → ℕ → Orders 8 → ℕ → Orders 8 → Type 0
 Branch m n g k placed s out = Covers m n g (suc k) (swapped (row_numbers placed.rows) k s) (leading_rows m n g out)
 
-abbrev pub NoLater : ℕ → List ℕ → ℕ → Orders → ℕ → Orders → Type 0
+abbrev pub NoLater : ℕ → List ℕ → ℕ → Orders 8 → ℕ → Orders 8 → Type 0
 NoLater n g k placed s out =
     (q : List ℕ) → IsPermutation n q → leading_rows (suc k) n g out ≼ arrangement (suc k) n (swapped (row_numbers placed.rows) k s) q g
 
-pub record Lowest (m n : ℕ) (g : List ℕ) (k t : ℕ) (placed : Orders) (breaks : List Bool) (best out : Orders) (from : ℕ) (above : List Bool) (made : Bool) : Type 0 where
+pub record Lowest (m n : ℕ) (g : List ℕ) (k t : ℕ) (placed : Orders 8) (breaks : List Bool) (best out : Orders 8) (from : ℕ) (above : List Bool) (made : Bool) : Type 0 where
   pub improves : Improves m n g k best out
   pub first : k ≤ from
   pub last : from ≤ t
@@ -51,7 +51,7 @@ pub record Lowest (m n : ℕ) (g : List ℕ) (k t : ℕ) (placed : Orders) (brea
   pub marked : (s : ℕ) → from ≤ s → s < t → (get_or above s false ≡ true) → Branch m n g k placed s out
   pub candidate : made ≡ true → Candidate m n g k from placed breaks out
 
-pub strictly-covers : (m n : ℕ) (g : List ℕ) (k : ℕ) (placed : Orders) (s : ℕ) (out : Orders) → k < m → NoLater n g k placed s out →
+pub strictly-covers : (m n : ℕ) (g : List ℕ) (k : ℕ) (placed : Orders 8) (s : ℕ) (out : Orders 8) → k < m → NoLater n g k placed s out →
     ((q : List ℕ) → IsPermutation n q → leading_rows (suc k) n g out ≡ arrangement (suc k) n (swapped (row_numbers placed.rows) k s) q g → ⊥) → Branch m n g k placed s out
 unfolding Covers Begins
 strictly-covers m n g k placed s out km h ne p op begins q oq =
@@ -70,7 +70,7 @@ none-marked s = go (dec_lt s 8)
     go (yes h) = get_or-replicate 8 s false false h
     go (no h) = get_or-eq_default none false (let e : length none ≡ 8 = length-replicate 8 false in omega arith)
 
-pub lowest-none : (m n : ℕ) (g : List ℕ) (k : ℕ) (placed : Orders) (breaks : List Bool) (best : Orders) (above : List Bool) → IsOrders m n best → length above ≡ 8 → ((s : ℕ) → get_or above s false ≡ false) →
+pub lowest-none : (m n : ℕ) (g : List ℕ) (k : ℕ) (placed : Orders 8) (breaks : List Bool) (best : Orders 8) (above : List Bool) → IsOrders m n best → length above ≡ 8 → ((s : ℕ) → get_or above s false ≡ false) →
     Lowest m n g k k placed breaks best best k above false
 lowest-none m n g k placed breaks best above o e z = record {
   improves = improves-refl m n g k best o;
@@ -84,7 +84,7 @@ lowest-none m n g k placed breaks best above o e z = record {
   candidate = λ y. absurd (true≢false (sym y));
 }
 
-pub bound-none : (m n : ℕ) (g : List ℕ) (k : ℕ) (placed : Orders) (breaks : List Bool) (best : Orders) (b : Bound) →
+pub bound-none : (m n : ℕ) (g : List ℕ) (k : ℕ) (placed : Orders 8) (breaks : List Bool) (best : Orders 8) (b : Bound) →
     (b.best ≡ best) × (b.from ≡ k) × (b.above ≡ none) × (b.made ≡ false) → IsOrders m n best → Bounded m n g k placed breaks best b
 bound-none m n g k placed breaks best b u o = record {
   improves = rw u.0 (improves-refl m n g k best o);
@@ -94,14 +94,14 @@ bound-none m n g k placed breaks best b u o = record {
   candidate = λ y. absurd (true≢false (sym y ∙ u.3));
 }
 
-pub bound-placed : (m n : ℕ) (g : List ℕ) (k : ℕ) (placed : Orders) (breaks : List Bool) (best : Orders) (b : Bound) → Searching m n g k placed breaks best → Bounded m n g k placed breaks best b →
+pub bound-placed : (m n : ℕ) (g : List ℕ) (k : ℕ) (placed : Orders 8) (breaks : List Bool) (best : Orders 8) (b : Bound) → Searching m n g k placed breaks best → Bounded m n g k placed breaks best b →
     Searching m n g k placed breaks b.best × Bounded m n g k placed breaks b.best b
 bound-placed m n g k placed breaks best b s h = (
   searching-better m n g k placed breaks best b.best s h.improves,
   record { improves = improves-refl m n g k b.best h.improves.orders; first = h.first; before = h.before; above = h.above; candidate = h.candidate },
 )
 
-pub lowest-bound : (m n : ℕ) (g : List ℕ) (k t : ℕ) (placed : Orders) (breaks : List Bool) (best : Orders) (b : Bound) → m ≤ t →
+pub lowest-bound : (m n : ℕ) (g : List ℕ) (k t : ℕ) (placed : Orders 8) (breaks : List Bool) (best : Orders 8) (b : Bound) → m ≤ t →
     Lowest m n g k t placed breaks best b.best b.from b.above b.made → Bounded m n g k placed breaks best b
 lowest-bound m n g k t placed breaks best b mt l = record {
   improves = l.improves;
@@ -112,7 +112,7 @@ lowest-bound m n g k t placed breaks best b mt l = record {
 }
 
 -- the candidate at position t is `next`
-module _ (m n : ℕ) (g : List ℕ) (k t : ℕ) (placed : Orders) (breaks : List Bool) (best out next : Orders) (from : ℕ) (above : List Bool) (made : Bool)
+module _ (m n : ℕ) (g : List ℕ) (k t : ℕ) (placed : Orders 8) (breaks : List Bool) (best out next : Orders 8) (from : ℕ) (above : List Bool) (made : Bool)
     (s : Searching m n g k placed breaks out) (c : Candidate m n g k t placed breaks next) (l : Lowest m n g k t placed breaks best out from above made) (km : k < m) where
   -- no column order does better with the candidate's rows
   least : NoLater n g k placed t next

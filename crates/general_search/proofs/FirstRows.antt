@@ -13,13 +13,14 @@ use Rattle.permutations.specs.Permutations.{IsPermutation, swapped}
 use Rattle.permutations.specs.Rows.{row_numbers}
 use Rattle.permutations.specs.Columns.{column_numbers}
 use Rattle.permutations.proofs.ListLaws.{length-tabulate, at-tabulate}
-use Rattle.grids.specs.declared.comparisons.Comparison.{Comparison}
+use Rattle.std.specs.declared.cmp.Ordering.{Ordering}
 use Rattle.grids.specs.Order.{rank, ◌≼◌, ◌≺◌}
-use Rattle.grids.specs.Comparisons.{is_less, compared}
+use Rattle.std.specs.Ordering.{is_lt}
+use Rattle.grids.specs.Comparisons.{compared}
 use Rattle.grids.specs.Grids.{cell, row, permuted_row, arrangement}
 use Rattle.grids.specs.Sorted.{permuted_column, Ascending}
 use Rattle.grids.proofs.OrderLaws.{≼_refl, ≼_trans, ≼-antisymm, ≺-≼, tabulate-at}
-use Rattle.general_search.specs.declared.search.Orders.{Orders}
+use Rattle.permutations.specs.declared.orders.Orders.{Orders}
 use Rattle.general_search.specs.declared.state.Bound.{Bound}
 use Rattle.general_search.specs.Counts.{counts, CountsRows, FirstGreatest, MarksLess}
 use Rattle.general_search.specs.Search.{leading_rows, row_at, lesser_orders, Searching, Candidate, Bounded}
@@ -30,7 +31,7 @@ use Rattle.general_search.proofs.BoundLaws.{Branch, strictly-covers}
 use Rattle.general_search.proofs.CountLaws.{counts-lower, counts-permuted, counts_whole}
 
 -- the row at position f is placed first, and its cells are sorted
-module _ (m n : ℕ) (g : List ℕ) (f : ℕ) (placed : Orders) (breaks : List Bool) (best leader : Orders) (s : Searching m n g 0 placed breaks best)
+module _ (m n : ℕ) (g : List ℕ) (f : ℕ) (placed : Orders 8) (breaks : List Bool) (best leader : Orders 8) (s : Searching m n g 0 placed breaks best)
     (c : Candidate m n g 0 f placed breaks leader) (fm : f < m) where
   abbrev p : List ℕ
   p = row_numbers placed.rows
@@ -82,14 +83,14 @@ module _ (m n : ℕ) (g : List ℕ) (f : ℕ) (placed : Orders) (breaks : List B
     apart : (r : List ℕ) → IsPermutation n r → leading_rows 1 n g leader ≡ arrangement 1 n (swapped p 0 t) r g → ⊥
     apart r o e = before r o (rw (← next, ← leading-row n g (row_numbers leader.rows) q (swapped p 0 t) r 0 e) (≼_refl (permuted_row n g x q)))
 
-    pub counts-cover : (out : Orders) → leading_rows 1 n g out ≼ leading_rows 1 n g leader → Branch m n g 0 placed t out
+    pub counts-cover : (out : Orders 8) → leading_rows 1 n g out ≼ leading_rows 1 n g leader → Branch m n g 0 placed t out
     counts-cover out h =
         strictly-covers m n g 0 placed t out (omega arith) (λ r o. ≼_trans (leading_rows 1 n g out) (leading_rows 1 n g leader) _ h (lead r o))
         (λ r o e. apart r o (≼-antisymm (leading_rows 1 n g leader) _ (lead r o) (rw e at h)))
 
   -- f is the first of the rows with the greatest counts, which `all` holds, and found is the comparison of its cells with the best's first row
-  module _ (all : List ℕ) (counted : CountsRows m n g p all) (greatest : FirstGreatest m all f) (found : Comparison) (e : found ≡ compared (row_at n g 0 leader) (row_at n g 0 best)) where
-    pub first-bound : (b : Bound) → b.best ≡ lesser_orders found leader best → b.from ≡ f → MarksLess all f b.above → b.made ≡ is_less found →
+  module _ (all : List ℕ) (counted : CountsRows m n g p all) (greatest : FirstGreatest m all f) (found : Ordering) (e : found ≡ compared (row_at n g 0 leader) (row_at n g 0 best)) where
+    pub first-bound : (b : Bound) → b.best ≡ lesser_orders found leader best → b.from ≡ f → MarksLess all f b.above → b.made ≡ is_lt found →
         Bounded m n g 0 placed breaks best b
     unfolding MarksLess CountsRows
     first-bound b o z marks w = record {

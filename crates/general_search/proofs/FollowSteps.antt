@@ -21,12 +21,13 @@ use Rattle.std.specs.Prelude.{Option, Some, None, IsTrue, IsSomeAnd, unwrap_or}
 use Rattle.permutations.specs.Permutations.{swapped}
 use Rattle.permutations.specs.Rows.{row_numbers}
 use Rattle.permutations.specs.Columns.{column_numbers}
-use Rattle.grids.specs.declared.comparisons.Comparison.{Comparison}
+use Rattle.std.specs.declared.cmp.Ordering.{Ordering}
 use Rattle.grids.specs.Order.{◌≺◌}
-use Rattle.grids.specs.Comparisons.{is_greater, compared}
+use Rattle.std.specs.Ordering.{is_gt}
+use Rattle.grids.specs.Comparisons.{compared}
 use Rattle.grids.proofs.OrderLaws.{≼_refl, ≺-≼}
 use Rattle.grids.proofs.ComparisonLaws.{greater-yes}
-use Rattle.general_search.specs.declared.search.Orders.{Orders}
+use Rattle.permutations.specs.declared.orders.Orders.{Orders}
 use Rattle.general_search.specs.declared.state.Found.{Found}
 use Rattle.general_search.specs.Blocks.{Split}
 use Rattle.branches.specs.Branches.{Covers}
@@ -37,7 +38,7 @@ use Rattle.branches.proofs.BranchLaws.{covers-lower, covers-cut, placed-stay}
 use Rattle.general_search.proofs.SymmetryLaws.{alike-fewer, alike-covered}
 use Rattle.general_search.proofs.SearchLaws.{improves-refl, improves-trans, improves-fewer, bound-below, lesser-improves, lesser-equal}
 
-pub followed-next : (m n : ℕ) (g : List ℕ) (k t : ℕ) (placed best out new : Orders) → Followed m n g k t placed best out → Improves m n g k out new →
+pub followed-next : (m n : ℕ) (g : List ℕ) (k t : ℕ) (placed best out new : Orders 8) → Followed m n g k t placed best out → Improves m n g k out new →
     Covers m n g (suc k) (swapped (row_numbers placed.rows) k t) (leading_rows m n g new) → Followed m n g k (t + 1) placed best new
 followed-next m n g k t placed best out new h i c = record { improves = improves-trans m n g k best out new h.improves i; covers = λ r a b. go r a b (ℕ_discrete r t) }
   where
@@ -47,12 +48,12 @@ followed-next m n g k t placed best out new h i c = record { improves = improves
         covers-lower m n g (suc k) (swapped (row_numbers placed.rows) k r) (leading_rows m n g out) (leading_rows m n g new) i.lower (h.covers r a (omega arith))
 
 -- what is returned where the row is followed
-goes-on-with : (m n : ℕ) (g : List ℕ) (k t : ℕ) (placed best : Orders) (jumps : Bool) (f : Found) → k ≤ back_to m f → Followed m n g k (t + 1) placed best f.best →
+goes-on-with : (m n : ℕ) (g : List ℕ) (k t : ℕ) (placed best : Orders 8) (jumps : Bool) (f : Found) → k ≤ back_to m f → Followed m n g k (t + 1) placed best f.best →
     FollowOutcome m n g k t placed best jumps f
 goes-on-with m n g k t placed best jumps f kb h = record { returns = λ b. absurd (omega arith); goes_on = λ b. h }
 
 -- the candidate at position t is `next`, and found is the comparison of its next row with the best's
-module _ (m n : ℕ) (g : List ℕ) (k t : ℕ) (placed : Orders) (breaks : List Bool) (best next : Orders) (found : Comparison) (s : Searching m n g k placed breaks best) (kt : k ≤ t)
+module _ (m n : ℕ) (g : List ℕ) (k t : ℕ) (placed : Orders 8) (breaks : List Bool) (best next : Orders 8) (found : Ordering) (s : Searching m n g k placed breaks best) (kt : k ≤ t)
     (tm : t < m) (h : Followed m n g k t placed best best) (c : Candidate m n g k t placed breaks next) (e : found ≡ compared (row_at n g k next) (row_at n g k best)) where
   km : k < m
   km = omega arith
@@ -60,7 +61,7 @@ module _ (m n : ℕ) (g : List ℕ) (k t : ℕ) (placed : Orders) (breaks : List
   begins : (i : ℕ) → i < k → get_or (row_numbers next.rows) i 0 ≡ get_or (row_numbers placed.rows) i 0
   begins i ik = rw c.rows (placed-stay m n g k (row_numbers placed.rows) s.rows_fit km s.orders.rows.whole t kt i ik)
 
-  pub follow-cut : (jumps b : Bool) (f : Found) → b ≡ is_greater found → b ≡ true → f.best ≡ best → back_to m f ≡ m → FollowOutcome m n g k t placed best jumps f
+  pub follow-cut : (jumps b : Bool) (f : Found) → b ≡ is_gt found → b ≡ true → f.best ≡ best → back_to m f ≡ m → FollowOutcome m n g k t placed best jumps f
   follow-cut jumps b f test y is-best is_m =
       goes-on-with m n g k t placed best jumps f (omega arith)
       (rw is-best
@@ -74,11 +75,11 @@ module _ (m n : ℕ) (g : List ℕ) (k t : ℕ) (placed : Orders) (breaks : List
       above = greater-yes (row_at n g k next) (row_at n g k best) found b e test y
 
   -- the best is now the lesser of the two, `new`
-  module _ (new : Orders) (o : new ≡ lesser_orders found next best) where
+  module _ (new : Orders 8) (o : new ≡ lesser_orders found next best) where
     better : Improves m n g k best new
     better = lesser-improves m n g k t placed breaks best next new found s c km e o
 
-    pub further : (b : Bool) → b ≡ is_greater found → b ≡ false → (breaks' : List Bool) → Split n g (get_or (row_numbers next.rows) k 0) breaks (column_numbers next.columns) breaks' →
+    pub further : (b : Bool) → b ≡ is_gt found → b ≡ false → (breaks' : List Bool) → Split n g (get_or (row_numbers next.rows) k 0) breaks (column_numbers next.columns) breaks' →
         Searching m n g (k + 1) next breaks' new
     further b test y breaks' split = rw add-one (record {
       placed-fits = km;

@@ -20,13 +20,14 @@ use native.Mathlib.Omega.{arith}
 use lib.ListN.{length, get_or, take, replicate, get_or-replicate}
 use lib.Seq.{get_or-take}
 use Rattle.permutations.specs.Permutations.{identity, swapped}
-use Rattle.permutations.specs.Rows.{row_numbers, ListsRows}
-use Rattle.permutations.specs.Columns.{column_numbers, ListsColumns}
+use Rattle.permutations.specs.Rows.{row_numbers}
+use Rattle.permutations.specs.Numbered.{Lists}
+use Rattle.permutations.specs.Columns.{column_numbers}
 use Rattle.permutations.proofs.SwapLaws.{identity-whole}
 use Rattle.grids.specs.Order.{◌≼◌}
 use Rattle.grids.specs.Grids.{cell, row, OneClass}
 use Rattle.grids.proofs.LeastLaws.{is-least}
-use Rattle.general_search.specs.declared.search.Orders.{Orders}
+use Rattle.permutations.specs.declared.orders.Orders.{Orders}
 use Rattle.general_search.specs.declared.state.Branch.{Branch}
 use Rattle.general_search.specs.declared.state.Bound.{Bound}
 use Rattle.general_search.specs.declared.state.Found.{Found}
@@ -40,7 +41,7 @@ use Rattle.general_search.proofs.SymmetryLaws.{alike-last}
 use Rattle.general_search.proofs.SearchLaws.{improves-refl, improves-trans}
 use Rattle.general_search.proofs.FollowSteps.{followed-next}
 
-pub placed-all : (m n : ℕ) (g : List ℕ) (k : ℕ) (placed : Orders) (breaks : List Bool) (best : Orders) → k ≡ m → Searching m n g k placed breaks best → Searched m n g k placed best best
+pub placed-all : (m n : ℕ) (g : List ℕ) (k : ℕ) (placed : Orders 8) (breaks : List Bool) (best : Orders 8) → k ≡ m → Searching m n g k placed breaks best → Searched m n g k placed best best
 placed-all m n g k placed breaks best e s = record {
   improves = improves-refl m n g k best s.best-orders;
   covers = rw e
@@ -49,7 +50,7 @@ placed-all m n g k placed breaks best e s = record {
 }
 
 -- the last row is placed, and the columns are sorted by it
-pub placed-last : (m n : ℕ) (g : List ℕ) (k : ℕ) (placed : Orders) (breaks : List Bool) (best next out : Orders) → suc k ≡ m → Searching m n g k placed breaks best →
+pub placed-last : (m n : ℕ) (g : List ℕ) (k : ℕ) (placed : Orders 8) (breaks : List Bool) (best next out : Orders 8) → suc k ≡ m → Searching m n g k placed breaks best →
     Candidate m n g k k placed breaks next → Improves m n g k best out → leading_rows (suc k) n g out ≼ leading_rows (suc k) n g next → Searched m n g k placed best out
 placed-last m n g k placed breaks best next out e s c i l = record {
   improves = i;
@@ -65,10 +66,10 @@ placed-last m n g k placed breaks best next out e s c i l = record {
         (covers-placed m n g (row_numbers next.rows) (column_numbers next.columns) (row_numbers next.rows) (column_numbers next.columns) c.orders.columns.whole
         (rw e at c.ascending) refl))
 
-pub followed-bound : (m n : ℕ) (g : List ℕ) (k : ℕ) (placed : Orders) (breaks : List Bool) (best : Orders) (b : Bound) → Bounded m n g k placed breaks best b → Followed m n g k b.from placed b.best b.best
+pub followed-bound : (m n : ℕ) (g : List ℕ) (k : ℕ) (placed : Orders 8) (breaks : List Bool) (best : Orders 8) (b : Bound) → Bounded m n g k placed breaks best b → Followed m n g k b.from placed b.best b.best
 followed-bound m n g k placed breaks best b h = record { improves = improves-refl m n g k b.best h.improves.orders; covers = h.before }
 
-module _ (m n : ℕ) (g : List ℕ) (k t : ℕ) (placed : Orders) (breaks : List Bool) (best out : Orders) (s : Searching m n g k placed breaks best)
+module _ (m n : ℕ) (g : List ℕ) (k t : ℕ) (placed : Orders 8) (breaks : List Bool) (best out : Orders 8) (s : Searching m n g k placed breaks best)
     (h : Followed m n g k t placed best out) where
   pub followed-all : m ≤ t → Searched m n g k placed best out
   followed-all mt = go (dec_lt k m)
@@ -101,12 +102,12 @@ module _ (m n : ℕ) (g : List ℕ) (k t : ℕ) (placed : Orders) (breaks : List
   pub followed-self : Followed m n g k t placed out out
   followed-self = record { improves = improves-refl m n g k out h.improves.orders; covers = h.covers }
 
-  pub followed-better : (new : Orders) → Followed m n g k (t + 1) placed out new → Followed m n g k (t + 1) placed best new
+  pub followed-better : (new : Orders 8) → Followed m n g k (t + 1) placed out new → Followed m n g k (t + 1) placed best new
   followed-better new f = record { improves = improves-trans m n g k best out new h.improves f.improves; covers = f.covers }
 
 -- ---- what the search of a branch returns
 
-pub outcome-better : (m n : ℕ) (g : List ℕ) (k : ℕ) (placed best mid : Orders) (jumps : Bool) (f : Found) → Improves m n g k best mid → BranchOutcome m n g k placed mid jumps f → BranchOutcome m n g k placed best jumps f
+pub outcome-better : (m n : ℕ) (g : List ℕ) (k : ℕ) (placed best mid : Orders 8) (jumps : Bool) (f : Found) → Improves m n g k best mid → BranchOutcome m n g k placed mid jumps f → BranchOutcome m n g k placed best jumps f
 outcome-better m n g k placed best mid jumps f i o = record {
   improves = improves-trans m n g k best mid f.best i o.improves;
   covers = o.covers;
@@ -114,7 +115,7 @@ outcome-better m n g k placed best mid jumps f i o = record {
   stays = o.stays;
 }
 
-pub outcome-searched : (m n : ℕ) (g : List ℕ) (k : ℕ) (placed best : Orders) (jumps : Bool) (f : Found) → k ≤ back_to m f → Searched m n g k placed best f.best →
+pub outcome-searched : (m n : ℕ) (g : List ℕ) (k : ℕ) (placed best : Orders 8) (jumps : Bool) (f : Found) → k ≤ back_to m f → Searched m n g k placed best f.best →
     BranchOutcome m n g k placed best jumps f
 outcome-searched m n g k placed best jumps f kb s = record {
   improves = s.improves;
@@ -124,7 +125,7 @@ outcome-searched m n g k placed best jumps f kb s = record {
 }
 
 -- the last row placed gives the best's arrangement
-pub outcome-alike : (m n : ℕ) (g : List ℕ) (k : ℕ) (placed : Orders) (breaks : List Bool) (best next : Orders) (jumps : Bool) (f : Found) → suc k ≡ m → jumps ≡ true →
+pub outcome-alike : (m n : ℕ) (g : List ℕ) (k : ℕ) (placed : Orders 8) (breaks : List Bool) (best next : Orders 8) (jumps : Bool) (f : Found) → suc k ≡ m → jumps ≡ true →
     Searching m n g k placed breaks best → Candidate m n g k k placed breaks next → Searched m n g k placed best f.best → row_at n g k next ≡ row_at n g k f.best →
     InCommon (row_numbers next.rows) (row_numbers f.best.rows) m (back_to m f) → BranchOutcome m n g k placed best jumps f
 outcome-alike m n g k placed breaks best next jumps f e j s c h r common = record {
@@ -163,7 +164,7 @@ root-searching m n g b hm hn r = rw r.none-placed (record {
       columns = record { whole = rw r.columns.numbers (identity-whole 16 n hn); size = r.columns.size };
     }
 
-pub searched-least : (m n : ℕ) (g : List ℕ) (placed best out : Orders) → length g ≡ m * n → Searched m n g 0 placed best out → LeastOrders m n g out
+pub searched-least : (m n : ℕ) (g : List ℕ) (placed best out : Orders 8) → length g ≡ m * n → Searched m n g 0 placed best out → LeastOrders m n g out
 searched-least m n g placed best out e s = record {
   orders = s.improves.orders;
   gives = is-least m n g (leading_rows m n g out) e (covers-least m n g (row_numbers placed.rows) (leading_rows m n g out) class s.covers);
@@ -184,5 +185,5 @@ searched-least m n g placed best out e s = record {
       gives = leading-is n g (take m p) (take n q) p q m (λ i j im jn. ap₂ (λ (a b : ℕ). cell n g a b) (get_or-take m p i 0 im) (get_or-take n q j 0 jn));
     }
 
-pub outcome-least : (m n : ℕ) (g : List ℕ) (placed best : Orders) (jumps : Bool) (f : Found) → length g ≡ m * n → BranchOutcome m n g 0 placed best jumps f → LeastOrders m n g f.best
+pub outcome-least : (m n : ℕ) (g : List ℕ) (placed best : Orders 8) (jumps : Bool) (f : Found) → length g ≡ m * n → BranchOutcome m n g 0 placed best jumps f → LeastOrders m n g f.best
 outcome-least m n g placed best jumps f e o = searched-least m n g placed best f.best e (record { improves = o.improves; covers = o.covers (omega arith) })

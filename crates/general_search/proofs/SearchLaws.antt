@@ -17,16 +17,18 @@ use Prim.Native.Nat.{ℕ, suc, ◌≤◌, ◌<◌}
 use native.Mathlib.Omega.{arith}
 use lib.ListN.{get_or}
 use Rattle.permutations.specs.Permutations.{swapped}
-use Rattle.permutations.specs.Rows.{row_numbers, ListsRows}
+use Rattle.permutations.specs.Rows.{row_numbers}
+use Rattle.permutations.specs.Numbered.{Lists}
 use Rattle.permutations.specs.Columns.{column_numbers}
 use Rattle.permutations.proofs.SwapLaws.{swapped-whole}
-use Rattle.grids.specs.declared.comparisons.Comparison.{Comparison}
-use Rattle.grids.specs.declared.comparisons.Comparison.TheVariants.{Less, Equal, Greater}
+use Rattle.std.specs.declared.cmp.Ordering.{Ordering}
+use Rattle.std.specs.declared.cmp.Ordering.TheVariants.{Less, Equal, Greater}
 use Rattle.grids.specs.Order.{◌≼◌, ◌≺◌}
-use Rattle.grids.specs.Comparisons.{is_less, is_equal, is_greater, compared}
+use Rattle.std.specs.Ordering.{is_lt, is_eq, is_gt}
+use Rattle.grids.specs.Comparisons.{compared}
 use Rattle.grids.proofs.OrderLaws.{≼_refl, ≼_trans, ≺-≼}
 use Rattle.grids.proofs.ComparisonLaws.{compared-less, compared-equal, compared-greater}
-use Rattle.general_search.specs.declared.search.Orders.{Orders}
+use Rattle.permutations.specs.declared.orders.Orders.{Orders}
 use Rattle.general_search.specs.Blocks.{BlocksSorted}
 use Rattle.general_search.specs.Search.{leading_rows, row_at, lesser_orders, IsOrders, Searching, Candidate, Improves}
 use Rattle.general_search.proofs.BlockLaws.{sorted-ascending, sorted-leading}
@@ -35,24 +37,24 @@ use Rattle.branches.proofs.BranchLaws.{placed-stay, placed-next}
 
 -- ---- improving the best
 
-pub improves-refl : (m n : ℕ) (g : List ℕ) (k : ℕ) (o : Orders) → IsOrders m n o → Improves m n g k o o
+pub improves-refl : (m n : ℕ) (g : List ℕ) (k : ℕ) (o : Orders 8) → IsOrders m n o → Improves m n g k o o
 improves-refl m n g k o i = record { orders = i; lower = ≼_refl (leading_rows m n g o); leading = refl }
 
-pub improves-trans : (m n : ℕ) (g : List ℕ) (k : ℕ) (a b c : Orders) → Improves m n g k a b → Improves m n g k b c → Improves m n g k a c
+pub improves-trans : (m n : ℕ) (g : List ℕ) (k : ℕ) (a b c : Orders 8) → Improves m n g k a b → Improves m n g k b c → Improves m n g k a c
 improves-trans m n g k a b c i j = record {
   orders = j.orders;
   lower = ≼_trans (leading_rows m n g c) (leading_rows m n g b) (leading_rows m n g a) j.lower i.lower;
   leading = j.leading ∙ i.leading;
 }
 
-pub improves-fewer : (m n : ℕ) (g : List ℕ) (k : ℕ) (a b : Orders) → Improves m n g (suc k) a b → Improves m n g k a b
+pub improves-fewer : (m n : ℕ) (g : List ℕ) (k : ℕ) (a b : Orders 8) → Improves m n g (suc k) a b → Improves m n g k a b
 improves-fewer m n g k a b i = record {
   orders = i.orders;
   lower = i.lower;
   leading = leading-fewer n g (row_numbers b.rows) (column_numbers b.columns) (row_numbers a.rows) (column_numbers a.columns) k (suc k) (omega arith) i.leading;
 }
 
-pub searching-better : (m n : ℕ) (g : List ℕ) (k : ℕ) (placed : Orders) (breaks : List Bool) (best out : Orders) →
+pub searching-better : (m n : ℕ) (g : List ℕ) (k : ℕ) (placed : Orders 8) (breaks : List Bool) (best out : Orders 8) →
     Searching m n g k placed breaks best → Improves m n g k best out → Searching m n g k placed breaks out
 searching-better m n g k placed breaks best out s i = record {
   placed-fits = s.placed-fits;
@@ -66,8 +68,8 @@ searching-better m n g k placed breaks best out s i = record {
 
 -- ---- a candidate
 
-pub candidate-of : (m n : ℕ) (g : List ℕ) (k t : ℕ) (placed : Orders) (breaks : List Bool) (best next : Orders) → Searching m n g k placed breaks best → k ≤ t → t < m →
-    ListsRows (swapped (row_numbers placed.rows) k t) placed.rows.size next.rows →
+pub candidate-of : (m n : ℕ) (g : List ℕ) (k t : ℕ) (placed : Orders 8) (breaks : List Bool) (best next : Orders 8) → Searching m n g k placed breaks best → k ≤ t → t < m →
+    Lists (swapped (row_numbers placed.rows) k t) placed.rows.size next.rows →
     (x : ℕ) → x ≡ get_or (row_numbers placed.rows) t 0 → BlocksSorted n g x breaks placed.columns n next.columns → Candidate m n g k t placed breaks next
 candidate-of m n g k t placed breaks best next s kt tm r x e c' = record {
   orders = record {
@@ -93,7 +95,7 @@ candidate-of m n g k t placed breaks best next s kt tm r x e c' = record {
     begins : (i : ℕ) → i < k → get_or (row_numbers next.rows) i 0 ≡ get_or p i 0
     begins i ik = rw r.numbers (placed-stay m n g k p s.rows_fit (omega arith) s.orders.rows.whole t kt i ik)
 
-module _ (m n : ℕ) (g : List ℕ) (k t : ℕ) (placed : Orders) (breaks : List Bool) (best next : Orders) (s : Searching m n g k placed breaks best)
+module _ (m n : ℕ) (g : List ℕ) (k t : ℕ) (placed : Orders 8) (breaks : List Bool) (best next : Orders 8) (s : Searching m n g k placed breaks best)
     (c : Candidate m n g k t placed breaks next) where
   same-leading : leading_rows k n g next ≡ leading_rows k n g best
   same-leading = c.leading ∙ sym s.leading
@@ -121,32 +123,32 @@ module _ (m n : ℕ) (g : List ℕ) (k t : ℕ) (placed : Orders) (breaks : List
 
 -- ---- the lesser of a candidate and the best
 
-pub lesser-less : (found : Comparison) (t : Bool) (next best : Orders) → t ≡ is_less found → t ≡ true → next ≡ lesser_orders found next best
+pub lesser-less : (found : Ordering) (t : Bool) (next best : Orders 8) → t ≡ is_lt found → t ≡ true → next ≡ lesser_orders found next best
 lesser-less Less t next best e h = refl
 lesser-less Equal t next best e h = absurd (true≢false (sym h ∙ e))
 lesser-less Greater t next best e h = absurd (true≢false (sym h ∙ e))
 
-pub lesser-not : (found : Comparison) (t : Bool) (next best : Orders) → t ≡ is_less found → t ≡ false → best ≡ lesser_orders found next best
+pub lesser-not : (found : Ordering) (t : Bool) (next best : Orders 8) → t ≡ is_lt found → t ≡ false → best ≡ lesser_orders found next best
 lesser-not Less t next best e h = absurd (true≢false (sym e ∙ h))
 lesser-not Equal t next best e h = refl
 lesser-not Greater t next best e h = refl
 
-pub lesser-is : (found : Comparison) (next best out : Orders) → is_less found ≡ true → out ≡ lesser_orders found next best → out ≡ next
+pub lesser-is : (found : Ordering) (next best out : Orders 8) → is_lt found ≡ true → out ≡ lesser_orders found next best → out ≡ next
 lesser-is Less next best out h o = o
 lesser-is Equal next best out h o = absurd (true≢false (sym h))
 lesser-is Greater next best out h o = absurd (true≢false (sym h))
 
 -- found is the comparison of the candidate's next row with the best's
-module _ (m n : ℕ) (g : List ℕ) (k t : ℕ) (placed : Orders) (breaks : List Bool) (best next out : Orders) (found : Comparison) (s : Searching m n g k placed breaks best)
+module _ (m n : ℕ) (g : List ℕ) (k t : ℕ) (placed : Orders 8) (breaks : List Bool) (best next out : Orders 8) (found : Ordering) (s : Searching m n g k placed breaks best)
     (c : Candidate m n g k t placed breaks next) (km : k < m) (f : found ≡ compared (row_at n g k next) (row_at n g k best)) (o : out ≡ lesser_orders found next best) where
   -- what found says, and which of the two out is
   cases : ((row_at n g k next ≺ row_at n g k best) × (out ≡ next))
-      ⊎ (((row_at n g k next ≡ row_at n g k best) × (out ≡ best)) ⊎ ((row_at n g k best ≺ row_at n g k next) × (out ≡ best) × (is_greater found ≡ true)))
+      ⊎ (((row_at n g k next ≡ row_at n g k best) × (out ≡ best)) ⊎ ((row_at n g k best ≺ row_at n g k next) × (out ≡ best) × (is_gt found ≡ true)))
   cases = go found f o
     where
-      go : (x : Comparison) → x ≡ compared (row_at n g k next) (row_at n g k best) → out ≡ lesser_orders x next best →
+      go : (x : Ordering) → x ≡ compared (row_at n g k next) (row_at n g k best) → out ≡ lesser_orders x next best →
           ((row_at n g k next ≺ row_at n g k best) × (out ≡ next))
-          ⊎ (((row_at n g k next ≡ row_at n g k best) × (out ≡ best)) ⊎ ((row_at n g k best ≺ row_at n g k next) × (out ≡ best) × (is_greater x ≡ true)))
+          ⊎ (((row_at n g k next ≡ row_at n g k best) × (out ≡ best)) ⊎ ((row_at n g k best ≺ row_at n g k next) × (out ≡ best) × (is_gt x ≡ true)))
       go Less e h = inl (compared-less (row_at n g k next) (row_at n g k best) (sym e), h)
       go Equal e h = inr (inl (compared-equal (row_at n g k next) (row_at n g k best) (sym e), h))
       go Greater e h = inr (inr (compared-greater (row_at n g k next) (row_at n g k best) (sym e), h, refl))
@@ -157,7 +159,7 @@ module _ (m n : ℕ) (g : List ℕ) (k t : ℕ) (placed : Orders) (breaks : List
       (⊎_elim (λ x. rw x.1 (improves-refl m n g k best s.best-orders)) (λ x. rw x.1 (improves-refl m n g k best s.best-orders))) cases
 
   -- where the candidate is not above the best, its next row is now the best's
-  pub lesser-equal : is_greater found ≡ false → row_at n g k next ≡ row_at n g k out
+  pub lesser-equal : is_gt found ≡ false → row_at n g k next ≡ row_at n g k out
   lesser-equal e =
       ⊎_elim (λ x. rw x.1) (⊎_elim (λ x. rw x.1 x.0) (λ x. absurd (true≢false (sym x.2 ∙ e)))) cases
 
@@ -170,7 +172,7 @@ module _ (m n : ℕ) (g : List ℕ) (k t : ℕ) (placed : Orders) (breaks : List
       below : row_at n g k best ≼ row_at n g k next → leading_rows (suc k) n g best ≼ leading_rows (suc k) n g next
       below = bound-below m n g k t placed breaks best next s c
 
-pub equal-not-greater : (c : Comparison) (t : Bool) → t ≡ is_equal c → t ≡ true → is_greater c ≡ false
+pub equal-not-greater : (c : Ordering) (t : Bool) → t ≡ is_eq c → t ≡ true → is_gt c ≡ false
 equal-not-greater Less t e h = refl
 equal-not-greater Equal t e h = refl
 equal-not-greater Greater t e h = absurd (true≢false (sym h ∙ e))

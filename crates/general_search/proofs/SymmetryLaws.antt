@@ -23,7 +23,7 @@ use Rattle.permutations.specs.Rows.{row_numbers}
 use Rattle.permutations.specs.Columns.{column_numbers}
 use Rattle.grids.specs.Grids.{cell, arrangement}
 use Rattle.grids.proofs.OrderLaws.{agree-next}
-use Rattle.general_search.specs.declared.search.Orders.{Orders}
+use Rattle.permutations.specs.declared.orders.Orders.{Orders}
 use Rattle.branches.specs.Branches.{Begins, Covers}
 use Rattle.general_search.specs.Search.{leading_rows, IsOrders, Alike, InCommon}
 use Rattle.branches.proofs.LeadingRows.{leading-is}
@@ -31,12 +31,12 @@ use Rattle.branches.proofs.BranchLaws.{covers-agree, placed-stay, placed-next}
 use Rattle.branches.proofs.BranchSymmetry.{covers-alike}
 
 -- the orders' own permutations give the arrangement
-own : (m n : ℕ) (g : List ℕ) (o : Orders) → arrangement m n (take m (row_numbers o.rows)) (take n (column_numbers o.columns)) g ≡ leading_rows m n g o
+own : (m n : ℕ) (g : List ℕ) (o : Orders 8) → arrangement m n (take m (row_numbers o.rows)) (take n (column_numbers o.columns)) g ≡ leading_rows m n g o
 own m n g o =
     leading-is n g (take m (row_numbers o.rows)) (take n (column_numbers o.columns)) (row_numbers o.rows) (column_numbers o.columns) m λ i j im jn.
     ap₂ (λ (a b : ℕ). cell n g a b) (get_or-take m (row_numbers o.rows) i 0 im) (get_or-take n (column_numbers o.columns) j 0 jn)
 
-pub alike-fewer : (m n : ℕ) (g : List ℕ) (k : ℕ) (next placed : List ℕ) (out : Orders) (back : ℕ) → ((i : ℕ) → i < k → get_or next i 0 ≡ get_or placed i 0) →
+pub alike-fewer : (m n : ℕ) (g : List ℕ) (k : ℕ) (next placed : List ℕ) (out : Orders 8) (back : ℕ) → ((i : ℕ) → i < k → get_or next i 0 ≡ get_or placed i 0) →
     Alike m n g (suc k) next out back → Alike m n g k placed out back
 unfolding Begins
 alike-fewer m n g k next placed out back same a = record {
@@ -50,7 +50,7 @@ alike-fewer m n g k next placed out back same a = record {
 }
 
 -- The branch of the row at position t holds a copy of out, which begins with the same k rows and goes on with the row at position s.
-pub alike-covered : (m n : ℕ) (g : List ℕ) (k s t : ℕ) (p r : List ℕ) (out : Orders) → m ≤ 8 → k < m → IsPadded 8 m p → IsOrders m n out → k ≤ s → s < m → k ≤ t → t < m →
+pub alike-covered : (m n : ℕ) (g : List ℕ) (k s t : ℕ) (p r : List ℕ) (out : Orders 8) → m ≤ 8 → k < m → IsPadded 8 m p → IsOrders m n out → k ≤ s → s < m → k ≤ t → t < m →
     Alike m n g (suc k) (swapped p k t) out k → get_or p s 0 ≡ get_or (row_numbers out.rows) k 0 → Covers m n g (suc k) (swapped p k s) r → Covers m n g (suc k) (swapped p k t) r
 unfolding Begins
 alike-covered m n g k s t p r out m8 km o io ks sm kt tm a e c =
@@ -70,7 +70,7 @@ alike-covered m n g k s t p r out m8 km o io ks sm kt tm a e c =
         ∙ placed-stay m n g k p m8 km o t kt i (omega arith)
         ∙ sym (placed-stay m n g k p m8 km o s ks i (omega arith))
 
-pub alike-last : (m n : ℕ) (g : List ℕ) (k : ℕ) (placed : List ℕ) (next out : Orders) (back : ℕ) → k ≤ m → IsOrders m n next → ((i : ℕ) → i < k → get_or (row_numbers next.rows) i 0 ≡ get_or placed i 0) →
+pub alike-last : (m n : ℕ) (g : List ℕ) (k : ℕ) (placed : List ℕ) (next out : Orders 8) (back : ℕ) → k ≤ m → IsOrders m n next → ((i : ℕ) → i < k → get_or (row_numbers next.rows) i 0 ≡ get_or placed i 0) →
     leading_rows m n g next ≡ leading_rows m n g out → ((i : ℕ) → i < back → get_or (row_numbers next.rows) i 0 ≡ get_or (row_numbers out.rows) i 0) → back ≤ m → Alike m n g k placed out back
 unfolding Begins
 alike-last m n g k placed next out back km io same e common bm = record {

@@ -7,7 +7,7 @@ ghost use Rattle.general_search.specs.Search.{row_at, lesser_orders, EqualRows, 
 use crate::blocks;
 use crate::search::Orders;
 use crate::state::{Bound, Branch, Search};
-use grids::comparisons::Comparison;
+use std::cmp::Ordering;
 use grids::{cells, comparisons};
 use permutations::columns::ColumnNumber;
 use permutations::rows::{RowNumber, RowPermutation};
@@ -16,14 +16,14 @@ use permutations::rows::{RowNumber, RowPermutation};
 pub fn parting(a: RowPermutation, b: RowPermutation, count: usize) -> Option<usize>
     ensures { PartAt (row_numbers a) (row_numbers b) count result }
 {
-    (0..count).find(|i| a.row(*i).0 != b.row(*i).0)
+    (0..count).find(|i| a.number(*i).0 != b.number(*i).0)
 }
 
 // The candidate, if its comparison with the best found it less; else the best.
-pub fn lesser(found: Comparison, next: Orders, best: Orders) -> Orders
+pub fn lesser(found: Ordering, next: Orders, best: Orders) -> Orders
     ensures { result ≡ lesser_orders found next best }
 {
-    if comparisons::is_less(found) {
+    if found.is_lt() {
         next
     } else {
         best
@@ -51,9 +51,9 @@ impl Search<'_> {
         ensures { Repeats self.now.n self.now.grid.now (row_numbers branch.now.placed.rows) branch.now.k t result }
     {
         let rows = branch.placed.rows;
-        let row = rows.row(t);
+        let row = rows.number(t);
         for s in branch.k..t {
-            if self.equal_rows(rows.row(s), row) {
+            if self.equal_rows(rows.number(s), row) {
                 return true;
             }
         }
@@ -67,7 +67,7 @@ impl Search<'_> {
         ensures { IsCandidate self.now branch.now t result }
     {
         let Orders { rows, columns } = branch.placed;
-        let columns = blocks::sorted(self.grid, self.n, rows.row(t), columns, branch.breaks);
+        let columns = blocks::sorted(self.grid, self.n, rows.number(t), columns, branch.breaks);
         let rows = if t == branch.k {
             rows
         } else {
@@ -77,11 +77,11 @@ impl Search<'_> {
     }
 
     // Row k of the arrangements by two pairs of orders.
-    pub fn compare_at(&self, k: usize, a: Orders, b: Orders) -> Comparison
+    pub fn compare_at(&self, k: usize, a: Orders, b: Orders) -> Ordering
         ensures { result ≡ compared (row_at self.now.n self.now.grid.now k a) (row_at self.now.n self.now.grid.now k b) }
     {
-        let x = a.rows.row(k);
-        let y = b.rows.row(k);
+        let x = a.rows.number(k);
+        let y = b.rows.number(k);
         comparisons::compare_rows(self.grid, self.n, x, a.columns, y, b.columns)
     }
 
@@ -94,9 +94,9 @@ impl Search<'_> {
         for t in branch.k..self.m {
             let next = self.candidate(branch, t);
             let found = self.compare_at(branch.k, next, low.best);
-            if comparisons::is_greater(found) {
+            if found.is_gt() {
                 low.above[t] = true;
-            } else if comparisons::is_less(found) {
+            } else if found.is_lt() {
                 low.best = next;
                 low.from = t;
                 low.made = true;

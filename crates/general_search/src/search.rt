@@ -47,7 +47,7 @@ impl Search<'_> {
         let next = self.candidate(branch, k);
         let found = self.compare_at(k, next, best);
         let out = candidates::lesser(found, next, best);
-        let back = if jumps && comparisons::is_equal(found) {
+        let back = if jumps && found.is_eq() {
             candidates::parting(next.rows, out.rows, self.m)
         } else {
             None
@@ -62,8 +62,8 @@ impl Search<'_> {
         ensures { Settled self.now.m (row_numbers branch.now.placed.rows) branch.now.k t found.now result }
     {
         let k = branch.k;
-        let row = found.best.rows.row(k);
-        !found.goes_back(k + 1) || (k..t).any(|s| branch.placed.rows.row(s).0 == row.0)
+        let row = found.best.rows.number(k);
+        !found.goes_back(k + 1) || (k..t).any(|s| branch.placed.rows.number(s).0 == row.0)
     }
 
     // Follows the candidate with the row at position t: the best of its branch, and of what was the best before. A candidate whose next
@@ -76,7 +76,7 @@ impl Search<'_> {
     {
         let k = branch.k;
         let found = self.compare_at(k, next, best);
-        if comparisons::is_greater(found) {
+        if found.is_gt() {
             return Found { best, back: None };
         }
         let out = candidates::lesser(found, next, best);

@@ -44,7 +44,7 @@ fn all_counts(grid: &[u8], m: usize, n: usize, rows: RowPermutation) -> [u64; 5]
 {
     let mut out = [0; 5];
     for t in 0..m {
-        out[t] = counts(grid, n, rows.row(t));
+        out[t] = counts(grid, n, rows.number(t));
     }
     out
 }
@@ -84,7 +84,7 @@ fn looks_ahead(
         .filter(|t| {
             let row = RowNumber(*t);
             let found = comparisons::compare_rows(grid, n, RowNumber(0), columns, row, columns);
-            comparisons::is_equal(found)
+            found.is_eq()
         })
         .count();
     0 < equal && equal < 4
@@ -115,7 +115,7 @@ fn first_bound(search: &Search, root: &Branch, all: [u64; 5]) -> Bound
         best: candidates::lesser(found, next, root.placed),
         from: first,
         above: marked(all, first),
-        made: comparisons::is_less(found),
+        made: found.is_lt(),
     }
 }
 

@@ -24,14 +24,14 @@ column-most l j = omega arith
 
 -- ---- rows at positions
 
-module _ (l : List RowNumber) (w : RowsWithin (map row_number l)) (t : ℕ) (t8 : t < 8) (d : RowNumber) where
-  pub row_at : get_or (map row_number l) t 0 ≡ row_number (get_or l t d)
+module _ (l : List RowNumber) (w : RowsWithin (l)) (t : ℕ) (t8 : t < 8) (d : RowNumber) where
+  pub row_at : get_or (l) t 0 ≡ row_number (get_or l t d)
   row_at = sym (map_at row_number l t d (omega (arith, map-length row_number l 8 w.size)))
 
   pub row_within : row_number (get_or l t d) < 8
   row_within = omega (arith, row_at, w.within t t8)
 
-  pub key-at : (keys : List ℕ) → get_or keys (get_or (map row_number l) t 0) 0 ≡ get_or keys (row_number (get_or l t d)) 0
+  pub key-at : (keys : List ℕ) → get_or keys (get_or (l) t 0) 0 ≡ get_or keys (row_number (get_or l t d)) 0
   key-at keys = ap (λ (z : ℕ). get_or keys z 0) row_at
 
 -- ---- numbers to base 16

@@ -47,7 +47,7 @@ use Rattle.search.specs.RowSets.{IsRowSet, HasRow, RowsFrom}
 use Rattle.search.specs.Tables.{entry, Tables, is_two, low_of}
 
 abbrev pub rows_of : List RowNumber → List ℕ
-rows_of l = map row_number l
+rows_of l = l
 
 pub record IsSymmetry (m n : ℕ) (g : List ℕ) (f : ℕ → ℕ) : Type 0 where
   pub rows : List ℕ

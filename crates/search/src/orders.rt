@@ -1,7 +1,7 @@
 // The orders of the least arrangement.
 ghost use Rattle.std.specs.Prelude.{◌≡◌, ◌*◌, ◌≤◌, true, length};
 ghost use Rattle.permutations.specs.Lists.{tabulate};
-ghost use Rattle.permutations.specs.Columns.{ListsColumns};
+ghost use Rattle.permutations.specs.Numbered.{Lists};
 ghost use Rattle.branches.specs.Keys.{Small};
 ghost use Rattle.search.specs.ColumnLists.{column_at};
 ghost use Rattle.search.specs.Tables.{is_two, HasTables};
@@ -39,7 +39,7 @@ fn begun(tables: &GridTables, node: Node, found: Found) -> Found
 
 // The columns of a list.
 fn columns_of(list: ColumnList, n: usize) -> ColumnPermutation
-    ensures { ListsColumns (tabulate 0 16 (column_at list.0)) n result }
+    ensures { Lists (tabulate 0 16 (column_at list.0)) n result }
 {
     let mut at = [ColumnNumber(0); 16];
     for (j, column) in at.iter_mut().enumerate() {

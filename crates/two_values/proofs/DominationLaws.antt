@@ -19,7 +19,7 @@ use lib.Seq.{get_or-set_same, get_or-set_other}
 use lib.Dec.{eqb}
 use borrow.Author.Tests.{eqb-true}
 use Rattle.std.proofs.Common.{eq-eqb}
-use Rattle.permutations.specs.declared.rows.RowPermutation.{RowPermutation}
+use Rattle.permutations.specs.Rows.{RowPermutation}
 use Rattle.permutations.specs.Rows.{row_numbers, IsRowPermutation}
 use Rattle.permutations.proofs.SwapLaws.{at-whole}
 use Rattle.two_values.specs.Search.{Next, Drops, Left}

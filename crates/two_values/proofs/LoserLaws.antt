@@ -10,7 +10,7 @@ use mathlib.Core.Logic.{◌⊎◌, inl, inr}
 use Prim.Native.Nat.{ℕ, ◌≤◌, ◌<◌}
 use native.Mathlib.Omega.{arith}
 use lib.ListN.{length, get_or, set}
-use Rattle.permutations.specs.declared.rows.RowPermutation.{RowPermutation}
+use Rattle.permutations.specs.Rows.{RowPermutation}
 use Rattle.permutations.specs.Rows.{row_numbers}
 use Rattle.two_values.specs.Search.{Drops}
 use Rattle.two_values.specs.Domination.{Over, Prepared, Loses}

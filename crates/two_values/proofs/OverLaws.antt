@@ -10,7 +10,7 @@ use native.Mathlib.Omega.{arith}
 use lib.ListN.{get_or}
 use lib.Bits.{bit_and}
 use lib.Seq.{get_or-take}
-use Rattle.permutations.specs.declared.rows.RowPermutation.{RowPermutation}
+use Rattle.permutations.specs.Rows.{RowPermutation}
 use Rattle.permutations.specs.Rows.{row_numbers}
 use Rattle.permutations.proofs.ListLaws.{at-tabulate}
 use Rattle.permutations.proofs.SwapLaws.{at-whole}

@@ -23,10 +23,11 @@ use native.Mathlib.Omega.{arith}
 use native.Mathlib.Numerals.{add-one}
 use lib.ListN.{length, get_or, set, take, length-set}
 use lib.Seq.{get_or-take, get_or-set_same, get_or-set_other}
-use Rattle.permutations.specs.declared.rows.RowPermutation.{RowPermutation}
+use Rattle.permutations.specs.Rows.{RowPermutation}
 use Rattle.permutations.specs.Permutations.{swapped}
 use Rattle.permutations.specs.Padded.{IsPadded}
-use Rattle.permutations.specs.Rows.{row_numbers, ListsRows}
+use Rattle.permutations.specs.Rows.{row_numbers}
+use Rattle.permutations.specs.Numbered.{Lists}
 use Rattle.permutations.proofs.SwapLaws.{at-whole, swapped-whole}
 use Rattle.grids.specs.Order.{◌≼◌, ◌≺◌}
 use Rattle.grids.specs.Grids.{cell, arrangement}
@@ -254,7 +255,7 @@ module _ (m n : ℕ) (g : List ℕ) (low : ℕ) (x y : List ℕ) (k : ℕ) (P : 
         covers d u ku ut nz (yes e) = rw e (d.rows t h.first tm (passed (rw e at nz)))
 
     -- the row at position t is followed: the order with it next
-    module _ (rk : RowKeys x a keys) (marked : Marked p keys least picked t) (Q : RowPermutation) (lists : ListsRows (swapped p k t) P.size Q) where
+    module _ (rk : RowKeys x a keys) (marked : Marked p keys least picked t) (Q : RowPermutation) (lists : Lists (swapped p k t) P.size Q) where
       kt : k ≤ t
       kt = h.first
 
@@ -583,7 +584,7 @@ module _ (m n : ℕ) (g : List ℕ) (low : ℕ) (x y : List ℕ) (k : ℕ) (P : 
         turned (t + 1) new now covered
         (following-skip m n g low x y k P a fresh h.before h.stands h.within keys picked least t new now covered tm h.following (λ w. rw (← e) (passed w)))
 
-    module _ (row : ℕ) (e : row ≡ get_or (row_numbers P) t 0) (has-least : get_or keys row 0 ≡ least) (is-picked : get_or picked t false ≡ true) (Q : RowPermutation) (lists : ListsRows (swapped (row_numbers P) k t) P.size Q) where
+    module _ (row : ℕ) (e : row ≡ get_or (row_numbers P) t 0) (has-least : get_or keys row 0 ≡ least) (is-picked : get_or picked t false ≡ true) (Q : RowPermutation) (lists : Lists (swapped (row_numbers P) k t) P.size Q) where
       marked : Marked (row_numbers P) keys least picked t
       marked = record { has-least = rw (← e) has-least; stays = is-picked }
 

@@ -10,13 +10,14 @@ use Prim.Native.Nat.{ℕ, ◌<◌}
 use native.Mathlib.Omega.{arith}
 use lib.ListN.{get_or, take}
 use lib.Seq.{get_or-take}
-use Rattle.permutations.specs.declared.rows.RowPermutation.{RowPermutation}
+use Rattle.permutations.specs.Rows.{RowPermutation}
 use Rattle.permutations.specs.Rows.{row_numbers}
 use Rattle.grids.proofs.OrderLaws.{≼_refl}
 use Rattle.branches.specs.Branches.{Begins}
 use Rattle.two_values.specs.declared.search.Found.{Found}
 use Rattle.two_values.specs.TwoValues.{sorted_rows}
-use Rattle.two_values.specs.Search.{Symmetries, Follows, CommonRows, Standing, Alike, Outcome}
+use Rattle.permutations.specs.Numbered.{InCommon}
+use Rattle.two_values.specs.Search.{Symmetries, Follows, Standing, Alike, Outcome}
 use Rattle.two_values.proofs.SortedRows.{sorted-agree, sorted-placed}
 
 module _ (m n : ℕ) (g : List ℕ) (low : ℕ) (x y : List ℕ) (P : RowPermutation) (a : List ℕ) (fresh : Bool) (before : Found) (s : Standing m n g low x y m P a fresh before) where
@@ -34,7 +35,7 @@ module _ (m n : ℕ) (g : List ℕ) (low : ℕ) (x y : List ℕ) (P : RowPermuta
     symmetries = rw (v, w) s.symmetries;
   }
 
-  pub reached-copy : fresh ≡ false → (f : Found) → f.best ≡ before.best → f.after ≡ before.after → f.keys ≡ before.keys → CommonRows (row_numbers P) (row_numbers before.best) m f.back →
+  pub reached-copy : fresh ≡ false → (f : Found) → f.best ≡ before.best → f.after ≡ before.after → f.keys ≡ before.keys → InCommon (row_numbers P) (row_numbers before.best) m f.back →
       Symmetries m n g f.symmetries f.kept → Outcome m n g low m (row_numbers P) fresh before f
   unfolding Begins
   reached-copy z f b c k common symmetries = record {

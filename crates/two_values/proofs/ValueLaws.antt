@@ -18,7 +18,8 @@ use lib.ListN.{length, get_or}
 use lib.Dec.{eqb}
 use borrow.Author.Tests.{eqb-true}
 use Rattle.permutations.proofs.BoolLaws.{and_yes, or_yes}
-use Rattle.grids.specs.Order.{rank}
+use Rattle.grids.specs.Order.{rank, lower}
+use Rattle.grids.proofs.HigherLaws.{lower-exact}
 use Rattle.two_values.specs.TwoValues.{TwoValued}
 
 pub record LowestTo (g : List ℕ) (i low : ℕ) : Type 0 where
@@ -27,9 +28,12 @@ pub record LowestTo (g : List ℕ) (i low : ℕ) : Type 0 where
 pub lowest-none : (g : List ℕ) (low : ℕ) → LowestTo g 0 low
 lowest-none g low = record { lowest = λ k b. absurd (not-suc-le-zero b) }
 
-pub lowest-next : {g : List ℕ} {i low : ℕ} → LowestTo g i low → (r : ℕ) → (rank r ≤ rank low) × (rank r ≤ rank (get_or g i 0)) → LowestTo g (i + 1) r
-lowest-next {g} {i} {low} h r e = record { lowest = λ k b. go k b (ℕ_discrete k i) }
+pub lowest-next : {g : List ℕ} {i low : ℕ} → LowestTo g i low → (r : ℕ) → r ≡ lower low (get_or g i 0) → LowestTo g (i + 1) r
+lowest-next {g} {i} {low} h r d = record { lowest = λ k b. go k b (ℕ_discrete k i) }
   where
+    e : (rank r ≤ rank low) × (rank r ≤ rank (get_or g i 0))
+    e = rw d ((lower-exact low (get_or g i 0) (lower low (get_or g i 0))).1 (omega arith))
+
     go : (k : ℕ) → k < i + 1 → Dec (k ≡ i) → rank r ≤ rank (get_or g k 0)
     go k b (yes y) = rw y e.1
     go k b (no y) = omega (arith, e.0, h.lowest k (omega arith))

@@ -8,7 +8,7 @@ use Rattle.permutations.specs.Rows.{row_numbers, IsRowPermutation}
 use Rattle.permutations.specs.Columns.{column_numbers, IsColumnPermutation}
 use Rattle.grids.specs.Grids.{arrangement}
 use Rattle.grids.specs.Least.{least}
-use Rattle.two_values.specs.declared.arranging.Arranged.{Arranged}
+use Rattle.permutations.specs.declared.orders.Orders.{Orders}
 
 unfoldable pub first_place : ℕ → ℕ → ℕ
 first_place n c = elim (ltb c n) [ true ↦ 16 - n | false ↦ 15 - c ]
@@ -17,7 +17,7 @@ pub record FirstPlaces (n : ℕ) (a : List ℕ) : Type 0 where
   pub size : length a ≡ 16
   pub holds : (c : ℕ) → c < 16 → get_or a c 0 ≡ first_place n c
 
-pub record ArrangedLeast (m n : ℕ) (g : List ℕ) (r : Arranged) : Type 0 where
+pub record ArrangedLeast (m n : ℕ) (g : List ℕ) (r : Orders 8) : Type 0 where
   pub rows : IsRowPermutation m r.rows
   pub columns : IsColumnPermutation n r.columns
   pub gives : arrangement m n (row_numbers r.rows) (column_numbers r.columns) g ≡ least m n g

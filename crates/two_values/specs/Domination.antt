@@ -15,7 +15,7 @@
 --   MarksLeast k m p keys least b  ==  b marks those of the positions k to m whose row has the least key
 use Rattle.std.specs.Prelude.{◌≡◌, List, Bool, true, false, Option, Some, ◌⊎◌, ℕ, ◌+◌, ◌-◌, ◌*◌, ◌^◌, ◌≤◌, ◌<◌, length, get_or}
 use Rattle.std.specs.Int.Bits.{bit_and}
-use Rattle.permutations.specs.declared.rows.RowPermutation.{RowPermutation}
+use Rattle.permutations.specs.Rows.{RowPermutation}
 use Rattle.permutations.specs.Rows.{row_numbers, IsRowPermutation}
 use Rattle.two_values.specs.declared.pairs.Side.{Side}
 use Rattle.two_values.specs.declared.pairs.Side.TheVariants.{First, Second}

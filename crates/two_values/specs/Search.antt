@@ -13,7 +13,6 @@
 --   Spreads m n g k p a b ==  what covers the rows that a marks covers those that b marks
 --   Follows m n g low k p f ==  all is known of f's best, which begins with the same k rows of cells by another row order
 --   Lowest m k p keys r  ==  r is the least number of the rows of p from position k on
---   CommonRows a b count r  ==  a and b begin with r entries in common, at most count, and no more
 --   Cuts fresh known least b  ==  b tells whether the best's next row is known and lower than the least
 --   Lowers fresh known least b  ==  b tells whether it is not known, or higher
 --   Rekeyed m k least f r  ==  r is f with the number of row k, and goes back to m
@@ -22,7 +21,7 @@
 --   Alike m n g k p best back  ==  a row order of the branch has the best's arrangement, begins with the best's first `back` rows, and goes on with another
 --   Outcome ..           ==  the search of the branch found f
 use Rattle.std.specs.Prelude.{◌≡◌, List, Bool, true, false, ◌⊎◌, ℕ, suc, ◌+◌, ◌*◌, ◌≤◌, ◌<◌, length, get_or, set}
-use Rattle.permutations.specs.declared.rows.RowPermutation.{RowPermutation}
+use Rattle.permutations.specs.Rows.{RowPermutation}
 use Rattle.permutations.specs.Permutations.{IsPermutation, swapped}
 use Rattle.permutations.specs.Rows.{row_numbers, IsRowPermutation}
 use Rattle.grids.specs.Order.{◌≼◌}
@@ -89,11 +88,6 @@ pub record Follows (m n : ℕ) (g : List ℕ) (low k : ℕ) (p : List ℕ) (f : 
 pub record Lowest (m k : ℕ) (p keys : List ℕ) (r : ℕ) : Type 0 where
   pub no_more : (t : ℕ) → k ≤ t → t < m → r ≤ get_or keys (get_or p t 0) 0
   pub reached : (t : ℕ) × (k ≤ t) × (t < m) × (get_or keys (get_or p t 0) 0 ≡ r)
-
-pub record CommonRows (a b : List ℕ) (count r : ℕ) : Type 0 where
-  pub up_to : r ≤ count
-  pub same : (i : ℕ) → i < r → get_or a i 0 ≡ get_or b i 0
-  pub parts : r < count → get_or a r 0 ≡ get_or b r 0 → ⊥
 
 pub record Cuts (fresh : Bool) (known least : ℕ) (b : Bool) : Type 0 where
   pub yes : b ≡ true → (fresh ≡ false) × (known < least)

@@ -15,7 +15,7 @@
 --   Places n a             ==  in a, the columns past n have after them those that are past them; all others come before these
 --   SortsBy n a q          ==  q lists the n columns so that their numbers in a do not rise
 use Rattle.std.specs.Prelude.{◌≡◌, List, true, false, ℕ, ◌+◌, ◌-◌, ◌*◌, ◌^◌, ◌≤◌, ◌<◌, length, get_or, ltb}
-use Rattle.permutations.specs.declared.columns.ColumnPermutation.{ColumnPermutation}
+use Rattle.permutations.specs.Columns.{ColumnPermutation}
 use Rattle.permutations.specs.Columns.{column_numbers, IsColumnPermutation}
 use Rattle.grids.specs.Grids.{cell}
 use Rattle.permutations.specs.Sums.{sum_to, count}

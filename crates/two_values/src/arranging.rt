@@ -6,16 +6,9 @@ use crate::nodes::Node;
 use crate::search::Found;
 use crate::tables::TwoValuedGrid;
 use crate::{columns, search, values};
-use permutations::columns::ColumnPermutation;
+use permutations::orders::Orders;
 use permutations::rows::RowPermutation;
 use std::array;
-
-// Orders of the rows and columns of a grid.
-#[derive(Clone, Copy)]
-pub struct Arranged {
-    pub rows: RowPermutation,
-    pub columns: ColumnPermutation,
-}
 
 // How many of 16 columns come after column c before any row is placed: those from n on, and of these the later ones.
 fn first_place(n: usize, c: usize) -> u8
@@ -39,7 +32,7 @@ fn first_places(n: usize) -> [u8; 16]
 
 // The orders of the least arrangement of a grid with two values: the search begins with no row placed, and the columns are sorted by the
 // best row order that it finds.
-fn searched(grid: &TwoValuedGrid) -> Arranged
+fn searched(grid: &TwoValuedGrid) -> Orders<8>
     ensures { ArrangedLeast grid.now.m grid.now.n grid.now.cells.now result }
 {
     let rows = RowPermutation::identity(grid.m);
@@ -59,7 +52,7 @@ fn searched(grid: &TwoValuedGrid) -> Arranged
         kept: 0,
     };
     search::place(grid, &root, &mut found);
-    Arranged {
+    Orders {
         rows: found.best,
         columns: columns::sorted(found.after, grid.n),
     }
@@ -96,8 +89,8 @@ pub fn is_left(grid: &[u8], n: usize) -> bool {
 }
 
 // The orders of the least arrangement, if the grid has two values at most, and a shape within the limits.
-pub fn least_arrangement(grid: &[u8], m: usize, n: usize) -> Option<Arranged>
-    ensures { IfSome result (λ arranged. ArrangedLeast m n grid.now arranged) }
+pub fn least_arrangement(grid: &[u8], m: usize, n: usize) -> Option<Orders<8>>
+    ensures { IfSome result (ArrangedLeast m n grid.now) }
 {
     if 8 < m || 16 < n || grid.len() != m * n {
         return None;

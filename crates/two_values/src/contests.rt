@@ -37,6 +37,6 @@ impl<'a> Contest<'a> {
     pub fn row(&self, i: usize) -> usize
         ensures { result ≡ get_or (row_numbers self.now.node.now.rows) i 0 }
     {
-        self.node.rows.row(i).0 as usize
+        self.node.rows.number(i).0 as usize
     }
 }

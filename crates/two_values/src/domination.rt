@@ -62,7 +62,7 @@ fn marked(m: usize, k: usize, rows: RowPermutation, keys: [u16; 8], least: u16) 
 {
     let mut out = [false; 8];
     for t in k..m {
-        out[t] = keys[rows.row(t).0 as usize] == least;
+        out[t] = keys[rows.number(t).0 as usize] == least;
     }
     out
 }
@@ -73,7 +73,7 @@ fn count_least(m: usize, k: usize, rows: RowPermutation, keys: [u16; 8], least: 
 {
     let mut count = 0;
     for t in k..m {
-        if keys[rows.row(t).0 as usize] == least {
+        if keys[rows.number(t).0 as usize] == least {
             count += 1;
         }
     }

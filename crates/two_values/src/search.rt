@@ -2,7 +2,7 @@
 // row that can come next has a number, and the row with the lesser number gives the lesser next row; all that have the least one are followed.
 ghost use Rattle.std.specs.Prelude.{◌≡◌, ◌≤◌, ◌<◌};
 ghost use Rattle.permutations.specs.Rows.{row_numbers, IsRowPermutation};
-ghost use Rattle.two_values.specs.Search.{Lowest, CommonRows, Cuts, Lowers, Rekeyed};
+ghost use Rattle.two_values.specs.Search.{Lowest, Cuts, Lowers, Rekeyed};
 ghost use Rattle.two_values.specs.Nodes.{Stands, Finds};
 
 use crate::nodes::Node;
@@ -39,23 +39,11 @@ fn lowest(keys: [u16; 8], rows: RowPermutation, m: usize, k: usize) -> u16
     requires { IsRowPermutation m rows × (m ≤ 8) × (k < m) }
     ensures { Lowest m k (row_numbers rows) keys result }
 {
-    let mut least = keys[rows.row(k).0 as usize];
+    let mut least = keys[rows.number(k).0 as usize];
     for t in k + 1..m {
-        least = least.min(keys[rows.row(t).0 as usize]);
+        least = least.min(keys[rows.number(t).0 as usize]);
     }
     least
-}
-
-// How many rows the two orders begin with in common, up to count.
-fn common(a: RowPermutation, b: RowPermutation, count: usize) -> usize
-    ensures { CommonRows (row_numbers a) (row_numbers b) count result }
-{
-    for i in 0..count {
-        if a.row(i).0 != b.row(i).0 {
-            return i;
-        }
-    }
-    count
 }
 
 // Whether the best's next row is known, and lower than the least.
@@ -84,7 +72,7 @@ pub fn reached(grid: &TwoValuedGrid, node: &Node, found: &mut Found)
         found.back = grid.m;
         return;
     }
-    found.back = common(node.rows, found.best, grid.m);
+    found.back = node.rows.in_common(&found.best, grid.m);
     if found.kept < 4 {
         let more = symmetries::with_symmetry(grid, found, node.rows);
         found.symmetries = more;
@@ -120,7 +108,7 @@ pub fn place(grid: &TwoValuedGrid, node: &Node, found: &mut Found)
     let mut fresh = is_lower(node.fresh, known, least);
     let mut covered = [false; 8];
     for t in k..m {
-        let row = node.rows.row(t);
+        let row = node.rows.number(t);
         let at = row.0 as usize;
         if keys[at] == least && left[t] && !covered[at] {
             let next = Node {

@@ -17,8 +17,8 @@ pub fn with_symmetry(grid: &TwoValuedGrid, found: &Found, other: RowPermutation)
 {
     let mut out = found.symmetries;
     for i in 0..grid.m {
-        let from = found.best.row(i);
-        let to = other.row(i);
+        let from = found.best.number(i);
+        let to = other.number(i);
         out[found.kept * 8 + from.0 as usize] = to.0;
     }
     out
@@ -30,7 +30,7 @@ fn fixes(symmetries: &[u8; 32], s: usize, rows: RowPermutation, k: usize) -> boo
     ensures { Fixes symmetries.now s (row_numbers rows) k result }
 {
     for i in 0..k {
-        let row = rows.row(i);
+        let row = rows.number(i);
         if symmetries[s * 8 + row.0 as usize] != row.0 {
             return false;
         }

@@ -5,17 +5,6 @@ ghost use Rattle.two_values.specs.TwoValues.{TwoValued};
 
 use grids::cells;
 
-// The lower of two values.
-fn lower(a: u8, b: u8) -> u8
-    ensures { (rank result ≤ rank a) × (rank result ≤ rank b) }
-{
-    if cells::rank(b) < cells::rank(a) {
-        b
-    } else {
-        a
-    }
-}
-
 // The lowest value of a grid.
 fn lowest(grid: &[u8]) -> u8
     requires { 0 < length grid.now }
@@ -23,18 +12,9 @@ fn lowest(grid: &[u8]) -> u8
 {
     let mut low = grid[0];
     for cell in grid {
-        low = lower(low, *cell);
+        low = cells::lower(low, *cell);
     }
     low
-}
-
-// The higher of two values.
-fn higher(a: u8, b: u8) -> u8 {
-    if cells::rank(a) < cells::rank(b) {
-        b
-    } else {
-        a
-    }
 }
 
 // The highest value of a grid.
@@ -43,7 +23,7 @@ fn highest(grid: &[u8]) -> u8
 {
     let mut high = grid[0];
     for cell in grid {
-        high = higher(high, *cell);
+        high = cells::higher(high, *cell);
     }
     high
 }

@@ -11,4 +11,4 @@ returns c =
     let g = greatest-part _ _ _ (omega arith) c.first_greatest-first.ensures in
     let s = rw pre.1 at pre.0 in
     let next = rw pre.1 at c.candidate-next.ensures in
-    rw pre.1 (first-bound _ _ _ _ _ _ _ _ s next g.within _ pre.4 g _ c.compare_at-found.ensures _ c.lesser.ensures refl c.marked.ensures c.is_less.ensures)
+    rw pre.1 (first-bound _ _ _ _ _ _ _ _ s next g.within _ pre.4 g _ c.compare_at-found.ensures _ c.lesser.ensures refl c.marked.ensures c.is_lt.ensures)

@@ -7,7 +7,6 @@ use Rattle.search.proofs.OrdersLaws.{starting, rows-first, listed-columns, liste
 use Rattle.search.proofs.orders.searched.Goals as goal
 
 pub begun-found-requires : goal.begun-found-requires
-unfolding row_numbers
 begun-found-requires c =
     let e = c.identity-identity.ensures.numbers in
     let r = c.first_rows.ensures in
@@ -19,7 +18,6 @@ listed-list-requires c =
     (n16, places-after _ _ _ _ _ n16 c.begun-found.ensures.known.places)
 
 pub returns : goal.returns
-unfolding row_numbers
 returns c =
     let p = c.requires in
     let o = c.begun-found.ensures in

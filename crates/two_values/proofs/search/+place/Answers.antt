@@ -35,28 +35,28 @@ loop-t-init t c =
 pub refined-requires : goal.refined-requires
 refined-requires t c =
     let h = c.loop-t.invariant.1 in
-    (h.stands.tables.by_rows.bits, standing-row _ _ _ _ _ _ _ _ _ _ _ h.stands _ c.loop-t-test.true _ c.row-row.ensures, standing-small _ _ _ _ _ _ _ _ _ _ _ h.stands)
+    (h.stands.tables.by_rows.bits, standing-row _ _ _ _ _ _ _ _ _ _ _ h.stands _ c.loop-t-test.true _ c.number-row.ensures, standing-small _ _ _ _ _ _ _ _ _ _ _ h.stands)
 
 pub place-requires : goal.place-requires
 place-requires t c =
     let h = c.loop-t.invariant.1 in
-    (omega (arith, c.decreases, h.within), turn-stands _ _ _ _ _ _ _ _ _ _ _ _ _ _ _ _ _ _ c.loop-t-test.true h _ c.row-row.ensures c.if-keys-at.true c.if-left-t.true _ c.swapped.ensures _ c.refined.ensures)
+    (omega (arith, c.decreases, h.within), turn-stands _ _ _ _ _ _ _ _ _ _ _ _ _ _ _ _ _ _ c.loop-t-test.true h _ c.number-row.ensures c.if-keys-at.true c.if-left-t.true _ c.swapped.ensures _ c.refined.ensures)
 
 pub returns-then-found-k : goal.returns-then-found-k
 returns-then-found-k t c =
-    turn-back _ _ _ _ _ _ _ _ _ _ _ _ _ _ _ _ _ _ c.loop-t-test.true c.loop-t.invariant.1 _ c.row-row.ensures c.if-keys-at.true c.if-left-t.true _ c.swapped.ensures _
+    turn-back _ _ _ _ _ _ _ _ _ _ _ _ _ _ _ _ _ _ c.loop-t-test.true c.loop-t.invariant.1 _ c.number-row.ensures c.if-keys-at.true c.if-left-t.true _ c.swapped.ensures _
     c.place.ensures c.if-found-k.true _ c.rekey-2.ensures.best
 
 pub covered_with-covered-requires : goal.covered_with-covered-requires
 covered_with-covered-requires t c =
     let h = c.loop-t.invariant.1 in
-    (h.within, h.stands.rows, c.place.ensures.symmetries, standing-row _ _ _ _ _ _ _ _ _ _ _ h.stands _ c.loop-t-test.true _ c.row-row.ensures)
+    (h.within, h.stands.rows, c.place.ensures.symmetries, standing-row _ _ _ _ _ _ _ _ _ _ _ h.stands _ c.loop-t-test.true _ c.number-row.ensures)
 
 pub loop-t-preserved : goal.loop-t-preserved
 loop-t-preserved t c =
     let l = c.loop-t in
     let tm = c.loop-t-test.true in
-    let row = c.row-row.ensures in
+    let row = c.number-row.ensures in
     let h = l.invariant.1 in
     elim c.if-keys-at.branch [
       | then-keys-at+then-left-t+then-not-covered-at+else-found-k w ↦ (

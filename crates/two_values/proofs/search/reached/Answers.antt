@@ -1,4 +1,4 @@
--- `reached` meets its contract: a new best is the row order at hand; else the two row orders part where `common` says.
+-- `reached` meets its contract: a new best is the row order at hand; else the two row orders part where `in_common` says.
 use mathlib.Core.Path.{refl}
 use Rattle.two_values.proofs.ReachedLaws.{reached-new, reached-copy}
 use Rattle.two_values.proofs.search.reached.Goals as goal
@@ -17,10 +17,10 @@ with_symmetry-more-requires c =
 pub returns-then-found-lt4 : goal.returns-then-found-lt4
 returns-then-found-lt4 c =
     let e = c.requires.1 in
-    rw e (reached-copy _ _ _ _ _ _ _ _ _ _ (rw e at c.requires.0) c.if-node.false _ refl refl refl c.common-found.ensures c.with_symmetry-more.ensures)
+    rw e (reached-copy _ _ _ _ _ _ _ _ _ _ (rw e at c.requires.0) c.if-node.false _ refl refl refl c.in_common-found.ensures c.with_symmetry-more.ensures)
 
 pub returns-else-found-lt4 : goal.returns-else-found-lt4
 returns-else-found-lt4 c =
     let e = c.requires.1 in
     let s = rw e at c.requires.0 in
-    rw e (reached-copy _ _ _ _ _ _ _ _ _ _ s c.if-node.false _ refl refl refl c.common-found.ensures s.symmetries)
+    rw e (reached-copy _ _ _ _ _ _ _ _ _ _ s c.if-node.false _ refl refl refl c.in_common-found.ensures s.symmetries)

@@ -9,13 +9,13 @@ loop-i-init c = carrying-none _ _ _ _ (omega arith)
 pub bounds-out-found : goal.bounds-out-found
 bounds-out-found c =
     let z = c.requires in
-    omega (arith, row_below _ _ _ _ z.2 c.args.grid.now.tables.rows_fit (omega arith) c.row-from.ensures)
+    omega (arith, row_below _ _ _ _ z.2 c.args.grid.now.tables.rows_fit (omega arith) c.number-from.ensures)
 
 pub loop-i-preserved : goal.loop-i-preserved
 loop-i-preserved c =
     let l = c.loop-i in
     let z = c.requires in
-    carrying-next _ _ _ _ _ l.i _ _ _ c.args.grid.now.tables.rows_fit z.0 (omega arith) z.2.whole c.row-from.ensures c.row-to.ensures l.invariant
+    carrying-next _ _ _ _ _ l.i _ _ _ c.args.grid.now.tables.rows_fit z.0 (omega arith) z.2.whole c.number-from.ensures c.number-to.ensures l.invariant
 
 pub returns : goal.returns
 returns c =

@@ -11,15 +11,15 @@ use Rattle.general_search.proofs.state.Search.+follow_place.Goals.{follow-then-g
 
 -- ---- `follow`
 
-pub follow-returns-then-is_greater : goal.follow-returns-then-is_greater
-follow-returns-then-is_greater t c =
+pub follow-returns-then-is_gt : goal.follow-returns-then-is_gt
+follow-returns-then-is_gt t c =
     let p = c.requires in
-    follow-cut _ _ _ _ _ _ _ _ _ _ p.0 p.1 p.2 p.3 p.4 c.compare_at-found.ensures _ _ _ c.is_greater.ensures c.if-is_greater.true refl refl
+    follow-cut _ _ _ _ _ _ _ _ _ _ p.0 p.1 p.2 p.3 p.4 c.compare_at-found.ensures _ _ _ c.is_gt.ensures c.if-is_gt.true refl refl
 
 pub follow-last-ended-requires : goal.follow-last-ended-requires
 follow-last-ended-requires t c =
     let p = c.requires in
-    (further _ _ _ _ _ _ _ _ _ _ p.0 p.1 p.2 p.3 p.4 c.compare_at-found.ensures _ c.lesser-out.ensures _ c.is_greater.ensures c.if-is_greater.false _ c.split.ensures, omega (arith, c.if-self-k.true))
+    (further _ _ _ _ _ _ _ _ _ _ p.0 p.1 p.2 p.3 p.4 c.compare_at-found.ensures _ c.lesser-out.ensures _ c.is_gt.ensures c.if-is_gt.false _ c.split.ensures, omega (arith, c.if-self-k.true))
 
 pub follow-returns-then-self-k : goal.follow-returns-then-self-k
 follow-returns-then-self-k t c =
@@ -29,13 +29,13 @@ follow-returns-then-self-k t c =
 pub follow-bounded-low-requires : goal.follow-bounded-low-requires
 follow-bounded-low-requires t c =
     let p = c.requires in
-    further _ _ _ _ _ _ _ _ _ _ p.0 p.1 p.2 p.3 p.4 c.compare_at-found.ensures _ c.lesser-out.ensures _ c.is_greater.ensures c.if-is_greater.false _ c.split.ensures
+    further _ _ _ _ _ _ _ _ _ _ p.0 p.1 p.2 p.3 p.4 c.compare_at-found.ensures _ c.lesser-out.ensures _ c.is_gt.ensures c.if-is_gt.false _ c.split.ensures
 
 pub follow-place-deeper-requires : goal.follow-place-deeper-requires
 follow-place-deeper-requires t c =
     let p = c.requires in (
       omega (arith, p.1, p.2),
-      bound-placed _ _ _ _ _ _ _ _ (further _ _ _ _ _ _ _ _ _ _ p.0 p.1 p.2 p.3 p.4 c.compare_at-found.ensures _ c.lesser-out.ensures _ c.is_greater.ensures c.if-is_greater.false _ c.split.ensures)
+      bound-placed _ _ _ _ _ _ _ _ (further _ _ _ _ _ _ _ _ _ _ p.0 p.1 p.2 p.3 p.4 c.compare_at-found.ensures _ c.lesser-out.ensures _ c.is_gt.ensures c.if-is_gt.false _ c.split.ensures)
       c.bounded-low.ensures,
     )
 
@@ -55,7 +55,7 @@ follow-returns-then-goes_back t c =
 pub follow-place-again-requires : goal.follow-place-again-requires
 follow-place-again-requires t c =
     let p = c.requires in
-    let f = further _ _ _ _ _ _ _ _ _ _ p.0 p.1 p.2 p.3 p.4 c.compare_at-found.ensures _ c.lesser-out.ensures _ c.is_greater.ensures c.if-is_greater.false _ c.split.ensures in
+    let f = further _ _ _ _ _ _ _ _ _ _ p.0 p.1 p.2 p.3 p.4 c.compare_at-found.ensures _ c.lesser-out.ensures _ c.is_gt.ensures c.if-is_gt.false _ c.split.ensures in
     let i = (outcome-better _ _ _ _ _ _ _ _ _ c.bounded-low.ensures.improves c.place-deeper.ensures).improves in
     let u = c.unknown.ensures in
     let s = searching-better _ _ _ _ _ _ _ _ f i in

@@ -35,11 +35,11 @@ returns-else-jumps c =
     let w = placed ((goal.at.returns-else-jumps c).After-lesser-out) in
     (w, outcome-searched _ _ _ _ _ _ _ _ c.requires.0.placed-fits w)
 
-pub returns-then-is_equal : goal.returns-then-is_equal
-returns-then-is_equal c =
-    let at = (goal.at.returns-then-is_equal c).After-lesser-out in
+pub returns-then-is_eq : goal.returns-then-is_eq
+returns-then-is_eq c =
+    let at = (goal.at.returns-then-is_eq c).After-lesser-out in
     let w = placed at in
     let next = c.candidate-next.ensures in
     let e = lesser-equal _ _ _ _ _ _ _ _ _ _ _ c.requires.0 next (omega (arith, one_left at)) c.compare_at-found.ensures c.lesser-out.ensures
-        (equal-not-greater c.compare_at-found.result _ c.is_equal.ensures c.if-is_equal.true) in
+        (equal-not-greater c.compare_at-found.result _ c.is_eq.ensures c.if-is_eq.true) in
     (w, outcome-alike _ _ _ _ _ _ _ _ _ _ (one_left at) c.if-jumps.true c.requires.0 next w e c.parting-back.ensures)

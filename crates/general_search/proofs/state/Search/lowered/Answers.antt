@@ -5,7 +5,7 @@ use Rattle.grids.proofs.ComparisonLaws.{less-yes, less-no, greater-yes, greater-
 use Rattle.general_search.proofs.SearchLaws.{searching-better}
 use Rattle.general_search.proofs.BoundLaws.{none-marked, lowest-none, lowest-less, lowest-greater, lowest-equal, lowest-bound}
 use Rattle.general_search.proofs.state.Search.lowered.Goals as goal
-use Rattle.general_search.proofs.state.Search.lowered.Goals.{then-is_greater, else-is_greater+then-is_less, else-is_greater+else-is_less}
+use Rattle.general_search.proofs.state.Search.lowered.Goals.{then-is_gt, else-is_gt+then-is_lt, else-is_gt+else-is_lt}
 use lib.ListN.{length-replicate}
 use mathlib.Core.Bool.{false}
 
@@ -29,18 +29,18 @@ loop-t-preserved c =
     let s = searching-better _ _ _ _ _ _ _ _ pre l.invariant.improves in
     let next = c.candidate-next.ensures in
     let found = c.compare_at-found.ensures in
-    let test = c.is_greater.ensures in
-    elim c.if-is_greater.branch [
-      | then-is_greater w ↦
+    let test = c.is_gt.ensures in
+    elim c.if-is_gt.branch [
+      | then-is_gt w ↦
           rw w.low-is
-          (lowest-greater _ _ _ _ _ _ _ _ _ _ _ _ _ s next l.invariant (omega (arith, tm)) (omega (arith, tm, pre.rows_fit)) (greater-yes _ _ _ _ found test w.if-is_greater.true))
-      | else-is_greater+then-is_less w ↦
+          (lowest-greater _ _ _ _ _ _ _ _ _ _ _ _ _ s next l.invariant (omega (arith, tm)) (omega (arith, tm, pre.rows_fit)) (greater-yes _ _ _ _ found test w.if-is_gt.true))
+      | else-is_gt+then-is_lt w ↦
           rw w.low-is
-          (lowest-less _ _ _ _ _ _ _ _ _ _ _ _ _ s next l.invariant (omega (arith, tm)) (less-yes _ _ _ _ found w.is_less.ensures w.if-is_less.true))
-      | else-is_greater+else-is_less w ↦
+          (lowest-less _ _ _ _ _ _ _ _ _ _ _ _ _ s next l.invariant (omega (arith, tm)) (less-yes _ _ _ _ found w.is_lt.ensures w.if-is_lt.true))
+      | else-is_gt+else-is_lt w ↦
           rw w.low-is
           (lowest-equal _ _ _ _ _ _ _ _ _ _ _ _ _ s next l.invariant (omega (arith, tm))
-          (≼-antisymm _ _ (greater-no _ _ _ _ found test w.if-is_greater.false) (less-no _ _ _ _ found w.is_less.ensures w.if-is_less.false)))
+          (≼-antisymm _ _ (greater-no _ _ _ _ found test w.if-is_gt.false) (less-no _ _ _ _ found w.is_lt.ensures w.if-is_lt.false)))
     ]
 
 pub returns : goal.returns

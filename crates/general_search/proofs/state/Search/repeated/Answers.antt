@@ -10,13 +10,13 @@ loop-s-init c = none_first _ _ _ _ _
 pub returns-then-equal_rows : goal.returns-then-equal_rows
 returns-then-equal_rows c =
     let l = c.loop-s in
-    let e = rows_named _ _ _ _ _ _ _ c.row.ensures c.row-row.ensures c.equal_rows.ensures in
+    let e = rows_named _ _ _ _ _ _ _ c.number.ensures c.number-row.ensures c.equal_rows.ensures in
     record { found = λ z. (l.s, omega arith, omega arith, e.yes c.if-equal_rows.true); none = λ z. absurd (true≢false z) }
 
 pub loop-s-preserved : goal.loop-s-preserved
 loop-s-preserved c =
     let l = c.loop-s in
-    let e = rows_named _ _ _ _ _ _ _ c.row.ensures c.row-row.ensures c.equal_rows.ensures in
+    let e = rows_named _ _ _ _ _ _ _ c.number.ensures c.number-row.ensures c.equal_rows.ensures in
     none-next _ _ _ _ _ l.s (e.no c.if-equal_rows.false) l.invariant
 
 pub returns : goal.returns
