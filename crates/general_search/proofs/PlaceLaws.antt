@@ -17,11 +17,10 @@ use mathlib.Core.Bool.{Bool, true, false, true≢false}
 use Prim.Native.Nat.{ℕ, suc, ◌+◌, ◌*◌, ◌≤◌, ◌<◌}
 use native.Mathlib.Decide.{dec_lt}
 use native.Mathlib.Omega.{arith}
-use lib.ListN.{length, get_or, take, replicate, get_or-replicate}
+use lib.ListN.{length, get_or, take, get_or-replicate}
 use lib.Seq.{get_or-take}
-use Rattle.permutations.specs.Permutations.{identity, swapped}
+use Rattle.permutations.specs.Permutations.{swapped}
 use Rattle.permutations.specs.Rows.{row_numbers}
-use Rattle.permutations.specs.Numbered.{Lists}
 use Rattle.permutations.specs.Columns.{column_numbers}
 use Rattle.permutations.proofs.SwapLaws.{identity-whole}
 use Rattle.grids.specs.Order.{◌≼◌}

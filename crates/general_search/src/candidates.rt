@@ -2,15 +2,16 @@
 ghost use Rattle.std.specs.Prelude.{◌≡◌, ◌≤◌, ◌<◌};
 ghost use Rattle.permutations.specs.Rows.{row_numbers};
 ghost use Rattle.grids.specs.Comparisons.{compared};
+ghost use Rattle.permutations.specs.declared.orders.Orders.{Orders};
 ghost use Rattle.general_search.specs.Search.{row_at, lesser_orders, EqualRows, Repeats, IsSearching, IsCandidate, IsBound, PartAt};
 
 use crate::blocks;
-use crate::search::Orders;
 use crate::state::{Bound, Branch, Search};
-use std::cmp::Ordering;
 use grids::{cells, comparisons};
 use permutations::columns::ColumnNumber;
+use permutations::orders::Orders;
 use permutations::rows::{RowNumber, RowPermutation};
+use std::cmp::Ordering;
 
 // The first of `count` positions at which two orders differ.
 pub fn parting(a: RowPermutation, b: RowPermutation, count: usize) -> Option<usize>
@@ -20,14 +21,10 @@ pub fn parting(a: RowPermutation, b: RowPermutation, count: usize) -> Option<usi
 }
 
 // The candidate, if its comparison with the best found it less; else the best.
-pub fn lesser(found: Ordering, next: Orders, best: Orders) -> Orders
+pub fn lesser(found: Ordering, next: Orders<8>, best: Orders<8>) -> Orders<8>
     ensures { result ≡ lesser_orders found next best }
 {
-    if found.is_lt() {
-        next
-    } else {
-        best
-    }
+    if found.is_lt() { next } else { best }
 }
 
 impl Search<'_> {
@@ -61,8 +58,8 @@ impl Search<'_> {
     }
 
     // The candidate with the row at position t: the orders with that row placed next, and each block of columns sorted by it.
-    pub fn candidate(&self, branch: &Branch, t: usize) -> Orders
-        requires searching { (best : Orders) × IsSearching self.now branch.now best }
+    pub fn candidate(&self, branch: &Branch, t: usize) -> Orders<8>
+        requires searching { (best : Orders 8) × IsSearching self.now branch.now best }
         requires unplaced { (branch.now.k ≤ t) × (t < self.now.m) }
         ensures { IsCandidate self.now branch.now t result }
     {
@@ -77,7 +74,7 @@ impl Search<'_> {
     }
 
     // Row k of the arrangements by two pairs of orders.
-    pub fn compare_at(&self, k: usize, a: Orders, b: Orders) -> Ordering
+    pub fn compare_at(&self, k: usize, a: Orders<8>, b: Orders<8>) -> Ordering
         ensures { result ≡ compared (row_at self.now.n self.now.grid.now k a) (row_at self.now.n self.now.grid.now k b) }
     {
         let x = a.rows.number(k);
@@ -86,7 +83,7 @@ impl Search<'_> {
     }
 
     // The least of the best and of all candidates, by their first k + 1 rows, and which candidates it comes before.
-    pub fn lowered(&self, branch: &Branch, best: Orders) -> Bound
+    pub fn lowered(&self, branch: &Branch, best: Orders<8>) -> Bound
         requires { IsSearching self.now branch.now best }
         ensures { IsBound self.now branch.now best result }
     {
@@ -107,7 +104,7 @@ impl Search<'_> {
 
     // The bound to begin with. If the best begins with the rows placed and the next one, no other row was tried there, and it is lowered,
     // where the search is to look ahead and more than two rows are left.
-    pub fn bounded(&self, branch: &Branch, best: Orders) -> Bound
+    pub fn bounded(&self, branch: &Branch, best: Orders<8>) -> Bound
         requires { IsSearching self.now branch.now best }
         ensures { IsBound self.now branch.now best result }
     {

@@ -7,28 +7,16 @@ ghost use Rattle.general_search.specs.Search.{IsSearching, IsCandidate, IsBound,
 use crate::state::{Bound, Branch, Found, Search};
 use crate::{blocks, candidates};
 use grids::comparisons;
-use permutations::columns::ColumnPermutation;
-use permutations::rows::RowPermutation;
-
-// A row order and a column order: the arrangement of a grid by them.
-#[derive(Clone, Copy)]
-pub struct Orders {
-    pub rows: RowPermutation,
-    pub columns: ColumnPermutation,
-}
+use permutations::orders::Orders;
 
 impl Branch {
     // The branch with no row placed, of a grid of m rows and n columns.
     pub fn root(m: usize, n: usize) -> Branch
         ensures { IsRoot m n result }
     {
-        let placed = Orders {
-            rows: RowPermutation::identity(m),
-            columns: ColumnPermutation::identity(n),
-        };
         Branch {
             k: 0,
-            placed,
+            placed: Orders::identity(m, n),
             breaks: [false; 16],
         }
     }
@@ -36,7 +24,7 @@ impl Branch {
 
 impl Search<'_> {
     // The best of the branch in which at most one row is not placed, and of what was the best before.
-    fn last(&self, branch: &Branch, best: Orders, jumps: bool) -> Found
+    fn last(&self, branch: &Branch, best: Orders<8>, jumps: bool) -> Found
         requires { IsSearching self.now branch.now best × (self.now.m ≤ branch.now.k + 1) }
         ensures { IsSearched self.now branch.now best result.best × IsOutcome self.now branch.now best jumps result }
     {
@@ -70,7 +58,14 @@ impl Search<'_> {
     // row is above the best's is cut. Where no more than one row is left then, it is placed at once. A branch that is not settled is
     // searched again, without jumps and with a bound of which nothing is known.
     #[cycle(follow_place)]
-    fn follow(&self, branch: &Branch, t: usize, next: Orders, best: Orders, jumps: bool) -> Found
+    fn follow(
+        &self,
+        branch: &Branch,
+        t: usize,
+        next: Orders<8>,
+        best: Orders<8>,
+        jumps: bool,
+    ) -> Found
         requires { IsSearching self.now branch.now best × (branch.now.k ≤ t) × (t < self.now.m) × FollowedTo self.now branch.now t best best × IsCandidate self.now branch.now t next }
         ensures { IsFollowed self.now branch.now t best jumps result }
     {
@@ -83,14 +78,7 @@ impl Search<'_> {
         let further = Branch {
             k: k + 1,
             placed: next,
-            breaks: blocks::split(
-                self.grid,
-                self.n,
-                next.rows,
-                k,
-                next.columns,
-                branch.breaks,
-            ),
+            breaks: blocks::split(self.grid, self.n, next.rows, k, next.columns, branch.breaks),
         };
         if self.m <= k + 2 {
             let ended = self.last(&further, out, jumps);
@@ -139,7 +127,7 @@ impl Search<'_> {
 }
 
 // The orders of the least arrangement.
-pub fn least_orders(grid: &[u8], m: usize, n: usize) -> Orders
+pub fn least_orders(grid: &[u8], m: usize, n: usize) -> Orders<8>
     requires { (m ≤ 8) × (n ≤ 16) × (length grid.now ≡ m * n) }
     ensures { LeastOrders m n grid.now result }
 {

@@ -1,7 +1,7 @@
 // What the search goes over: a grid, a branch of the row orders, and what is known and found in it.
 ghost use Rattle.std.specs.Prelude.{◌≡◌, ◌≤◌, ◌<◌, ◌↔◌, false, replicate, IsTrue, IsSomeAnd};
 
-use crate::search::Orders;
+use permutations::orders::Orders;
 
 // A grid of m rows and n columns that is searched, and whether the search looks ahead.
 #[derive(Clone, Copy)]
@@ -19,7 +19,7 @@ pub struct Search<'a> {
 #[derive(Clone, Copy)]
 pub struct Branch {
     pub k: usize,
-    pub placed: Orders,
+    pub placed: Orders<8>,
     pub breaks: [bool; 16],
 }
 
@@ -27,7 +27,7 @@ pub struct Branch {
 // `made` says so, the best is the candidate at `from`.
 #[derive(Clone, Copy)]
 pub struct Bound {
-    pub best: Orders,
+    pub best: Orders<8>,
     pub from: usize,
     pub above: [bool; 8],
     pub made: bool,
@@ -35,7 +35,7 @@ pub struct Bound {
 
 impl Bound {
     // A bound of which nothing is known, where k rows are placed.
-    pub fn unknown(best: Orders, k: usize) -> Bound
+    pub fn unknown(best: Orders<8>, k: usize) -> Bound
         ensures { (result.best ≡ best) × (result.from ≡ k) × (result.above ≡ replicate 8 false) × (result.made ≡ false) }
     {
         Bound {
@@ -51,7 +51,7 @@ impl Bound {
 // arrangement of the branch equals the best one, whose row order begins with the same rows up to that position.
 #[derive(Clone, Copy)]
 pub struct Found {
-    pub best: Orders,
+    pub best: Orders<8>,
     pub back: Option<usize>,
 }
 

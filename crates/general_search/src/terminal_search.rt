@@ -7,10 +7,10 @@ ghost use Rattle.general_search.specs.Counts.{weight, counts, CountsRows, FirstG
 ghost use Rattle.general_search.specs.Search.{IsSearching, IsBound, LeastOrders};
 
 use crate::candidates;
-use crate::search::Orders;
 use crate::state::{Bound, Branch, Search};
 use grids::{cells, comparisons};
 use permutations::columns::{ColumnNumber, ColumnPermutation};
+use permutations::orders::Orders;
 use permutations::rows::{RowNumber, RowPermutation};
 
 // What a cell adds to the counts of its row: a power of 16 by its rank, and nothing from rank 15 on.
@@ -65,13 +65,7 @@ fn first_greatest(all: &[u64]) -> usize
 
 // Whether it pays to look ahead: not with four rows or fewer, nor where all rows have the same counts, unless some of them equal the
 // first and others do not.
-fn looks_ahead(
-    grid: &[u8],
-    m: usize,
-    n: usize,
-    columns: ColumnPermutation,
-    all: [u64; 5],
-) -> bool
+fn looks_ahead(grid: &[u8], m: usize, n: usize, columns: ColumnPermutation, all: [u64; 5]) -> bool
     requires { n ≤ 16 }
 {
     if m <= 4 {
@@ -120,7 +114,7 @@ fn first_bound(search: &Search, root: &Branch, all: [u64; 5]) -> Bound
 }
 
 // The orders of the least arrangement.
-pub fn least_orders(grid: &[u8], m: usize, n: usize) -> Orders
+pub fn least_orders(grid: &[u8], m: usize, n: usize) -> Orders<8>
     requires { (m ≤ 5) × (n ≤ 16) × (length grid.now ≡ m * n) }
     ensures { LeastOrders m n grid.now result }
 {

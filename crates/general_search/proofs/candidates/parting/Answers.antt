@@ -1,5 +1,5 @@
 -- `parting` meets its contract: before the position that it finds, if there is one, the two orders are the same.
-use mathlib.Core.Path.{◌≡◌, sym, ◌∙◌}
+use mathlib.Core.Path.{◌≡◌}
 use borrow.Author.Rules.{rules}
 use borrow.Author.Tests.{tests}
 use Prim.Native.Nat.{ℕ}

@@ -1,5 +1,5 @@
 -- `least_orders` meets its contract. The search starts from the identities, with no row placed, and with the bound by the counts.
-use mathlib.Core.Path.{sym, ◌∙◌}
+use mathlib.Core.Path.{sym}
 use native.Mathlib.Omega.{arith}
 use Rattle.general_search.proofs.BoundLaws.{bound-placed}
 use Rattle.general_search.proofs.PlaceLaws.{root-searching, placed-all, searched-least, outcome-least}

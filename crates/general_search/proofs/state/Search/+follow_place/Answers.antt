@@ -5,7 +5,7 @@ use native.Mathlib.Omega.{arith}
 use Rattle.general_search.proofs.SearchLaws.{searching-better}
 use Rattle.general_search.proofs.BoundLaws.{bound-none, bound-placed}
 use Rattle.general_search.proofs.FollowSteps.{further, follow-cut, follow-jump, follow-last, follow-settled, follow-again, goes_back}
-use Rattle.general_search.proofs.PlaceLaws.{followed-bound, followed-above, followed-repeated, followed-self, followed-better, followed-all, outcome-better, outcome-searched}
+use Rattle.general_search.proofs.PlaceLaws.{followed-above, followed-repeated, followed-self, followed-better, followed-all, outcome-better, outcome-searched}
 use Rattle.general_search.proofs.state.Search.+follow_place.Goals as goal
 use Rattle.general_search.proofs.state.Search.+follow_place.Goals.{follow-then-goes_back-via-then-goes_back, follow-then-goes_back-via-else-goes_back+then-settled, place-then-made, place-else-made, place-then-not-above-t+then-not-repeated+else-goes_back, place-else-not-above-t, place-else-not-above-t-via-then-not-above-t+else-not-repeated, place-else-not-above-t-via-else-not-above-t}
 
@@ -36,7 +36,7 @@ follow-place-deeper-requires t c =
     let p = c.requires in (
       omega (arith, p.1, p.2),
       bound-placed _ _ _ _ _ _ _ _ (further _ _ _ _ _ _ _ _ _ _ p.0 p.1 p.2 p.3 p.4 c.compare_at-found.ensures _ c.lesser-out.ensures _ c.is_gt.ensures c.if-is_gt.false _ c.split.ensures)
-      c.bounded-low.ensures,
+          c.bounded-low.ensures,
     )
 
 pub follow-returns-then-goes_back : goal.follow-returns-then-goes_back

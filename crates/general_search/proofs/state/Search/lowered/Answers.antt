@@ -1,4 +1,3 @@
-use mathlib.Core.Path.{sym}
 use native.Mathlib.Omega.{arith}
 use Rattle.grids.proofs.OrderLaws.{≼-antisymm}
 use Rattle.grids.proofs.ComparisonLaws.{less-yes, less-no, greater-yes, greater-no}
