@@ -13,11 +13,8 @@ pub fn least_orders<C: Caller<N>, const N: usize>(grid: &[u8], m: usize, n: usiz
     if arranging::is_left(grid, n) {
         return C::search(grid, m, n);
     }
-    let quick = arranging::least_arrangement(grid, m, n);
-    if quick.found {
-        let rows = quick.rows;
-        let columns = quick.columns;
-        return Orders { rows, columns };
+    match arranging::least_arrangement(grid, m, n) {
+        Some(orders) => orders,
+        None => C::search(grid, m, n),
     }
-    C::search(grid, m, n)
 }
