@@ -9,6 +9,7 @@
 --   start-ended      ==  a check gets a no, and its line is written
 --   start_fits, start-ready  ==  every check gets a yes: the register fits its slice, and the run can begin
 --   run-done         ==  what the run leaves is what the whole is to leave
+use Rattle.std.proofs.Common.{Err}
 use mathlib.Core.Path.{◌≡◌, refl, sym, ap, ◌∙◌}
 use mathlib.Core.List.{List, [], ◌++◌, append_assoc}
 use mathlib.Core.Bool.{false}
@@ -33,7 +34,6 @@ use Rattle.protocol.proofs.SliceLaws.{has-room}
 use Rattle.transcript.specs.declared.start.Start.{Start}
 use Rattle.transcript.specs.Answers.{Runs, Answered}
 use Rattle.refusals.proofs.NumberLaws.{no-some}
-use Rattle.refusals.specs.declared.Asked.TheVariants.{No}
 use Rattle.transcript.specs.declared.starts.Fault.{Fault}
 use Rattle.transcript.specs.declared.starts.Fault.TheVariants.{LongInput, Malformed, Refused, LongRegister}
 use Rattle.transcript.specs.Starts.{fault_number, Started}
@@ -101,7 +101,7 @@ module _ {input b out o : List ℕ} {n : ℕ} (passes : start_no input ≡ 0) (r
 pub fault-some : (f : Fault) → fault_number f ≡ 0 → ⊥
 fault-some LongInput e = omega arith
 fault-some Malformed e = omega arith
-fault-some (Refused x) e = no-some {a = No x} refl e
+fault-some (Refused x) e = no-some {A = ℕ} {a = Err x} refl e
 fault-some LongRegister e = omega arith
 
 module _ (input register out : List ℕ) where

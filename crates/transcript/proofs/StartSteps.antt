@@ -13,6 +13,9 @@
 --   LineRead input m n top capacity  ==  the input is short enough, line 1 is laid, and these are its numbers
 --   long-refused, short-refused, line_refused, numbers-refused, length-refused  ==  the ways out with a no: 11, 12, 12, 1 to 4, 13
 --   passes-all, shape-read, length-read  ==  the way out with a yes
+use Rattle.std.proofs.Common.{Result, Ok, Err}
+use Rattle.std.specs.Result.{IsErr, IsErrAnd, MatchResult}
+use Rattle.transcript.specs.declared.starts.Fault.{Fault}
 use mathlib.Core.Path.{◌≡◌, refl, sym, ap, ◌∙◌}
 use mathlib.Core.List.{List, [], ◌∷◌, ◌++◌, flatten, append_assoc}
 use mathlib.Core.Bool.{Bool, true, false, true≢false}
@@ -37,6 +40,10 @@ use Rattle.layout.proofs.LineLaws.{drop-take}
 use Rattle.layout.specs.Lines.{with_field}
 use Rattle.lines.proofs.HeadLaws.{fields-whole}
 use Rattle.calls.specs.Calls.{shape}
+use Rattle.refusals.specs.declared.Refusal.{Refusal}
+use Rattle.refusals.specs.Numbers.{refusal_number}
+use Rattle.transcript.specs.declared.start.Start.{Start}
+use Rattle.transcript.specs.Starts.{fault_number}
 use Rattle.register.proofs.OpenSteps.{numbers-within, length-is}
 use Rattle.protocol.specs.Input.{onto, lines, first_line, further_lines, shape_line}
 use Rattle.protocol.specs.Transcript.{shape_in, question12, start_no}
@@ -215,3 +222,9 @@ module _ {input : List ℕ} {m n top capacity : ℕ} (o : LineRead input m n top
 
     pub length-read : x ≡ layout_length (shape_in input)
     length-read = sized
+
+-- what `?` hands on
+pub fault-handed : (P : Start → Type 0) (r : Result Start Fault) (x : Refusal) {k : ℕ} → IsErr r × IsErrAnd r (λ f. fault_number f ≡ refusal_number x) → refusal_number x ≡ k →
+    MatchResult r P (λ f. fault_number f ≡ k)
+fault-handed P (Ok s) x h e = absurd h.1
+fault-handed P (Err f) x h e = h.1 ∙ e

@@ -14,7 +14,7 @@ fn answer_line(line: &[u8], start: Start, register: &mut [u8]) -> Report
     let size = start.size();
     let mut cells = [0; 256];
     let Some(command) = commands::read_command(line, size, &mut cells) else {
-        return Report::refusing(Fault::Malformed.number());
+        return Report::refusing(Fault::Malformed.into());
     };
     let placed = commands::make_call(register, start, command, &cells[..command.cell_count(size)]);
     Report {

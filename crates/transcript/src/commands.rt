@@ -9,6 +9,7 @@ ghost use Rattle.transcript.specs.Commands.{command_number, client_of, States, C
 
 use crate::fields;
 use crate::start::Start;
+use bounds::counted::Counted;
 use bounds::prune;
 use lines::entries::WIDTH;
 use lines::head;
@@ -133,9 +134,8 @@ fn prune_parted(start: Start, cells: &[u8], low: &mut [u8], high: &mut [u8]) -> 
     ensures { PrunesParted start.rows start.columns start.top cells.now result low.new high.new }
 {
     part(cells, low, high);
-    prune::prune(start.rows, start.columns, start.top, low, high)
-        .counted()
-        .number
+    let pruned: Counted = prune::prune(start.rows, start.columns, start.top, low, high).into();
+    pruned.number
 }
 
 // Prunes the bounds that cells hold in turn, and where prune's number is 0 counts the entries within what it leaves; the count stands
@@ -151,7 +151,7 @@ fn count_pruned(register: &[u8], start: Start, cells: &[u8]) -> Placed
     if number != 0 {
         return Placed { number, place: 0 };
     }
-    let found = counts::count(register, &low[..size], &high[..size]).counted();
+    let found: Counted = counts::count(register, &low[..size], &high[..size]).into();
     Placed {
         number: found.number,
         place: found.count,
@@ -164,8 +164,8 @@ pub fn make_call(register: &mut [u8], start: Start, command: Command, cells: &[u
     ensures { placed result.number result.place register.new ≡ answered_by register_calls register.old (read_command start.rows start.columns start.top (command_number command) (client_of command) cells.now) }
 {
     match command {
-        Command::Enter(client) => entering::enter(register, client, cells).placed(),
-        Command::Strike(client) => striking::strike(register, client, cells).placed(),
+        Command::Enter(client) => entering::enter(register, client, cells).into(),
+        Command::Strike(client) => striking::strike(register, client, cells).into(),
         Command::Count => count_pruned(register, start, cells),
     }
 }

@@ -18,7 +18,8 @@ fn run(input: &[u8], start: Start, register: &mut [u8], out: &mut [u8]) -> usize
     requires { Ready input.now start register.old out.old }
     ensures { Ran input.now register.new out.old out.new result }
 {
-    opening::open_register(
+    // what open asks got a yes before
+    let _ = opening::open_register(
         start.rows,
         start.columns,
         start.top,
@@ -43,7 +44,7 @@ pub fn transcribe(input: &[u8], register: &mut [u8], out: &mut [u8]) -> usize
     match starts::check_input(input) {
         Ok(start) => run(input, start, &mut register[..start.length], out),
         Err(fault) => {
-            reports::write_report(out, Report::refusing(fault.number()));
+            reports::write_report(out, Report::refusing(fault.into()));
             reports::LENGTH
         }
     }

@@ -9,7 +9,7 @@ ghost use Rattle.transcript.specs.Starts.{fault_number, Started};
 use crate::start::Start;
 use grids::questions;
 use lines::{entries, head};
-use refusals::{Asked, Refusal};
+use refusals::Refusal;
 
 // How many bytes the input and the register may have.
 pub const MOST_BYTES: usize = 65536;
@@ -21,7 +21,7 @@ const FEED: usize = head::CAPACITY + head::WIDTH;
 pub const LENGTH: usize = FEED + 1;
 
 // The first no: the input is too long, a line is not laid as it should be, open would be refused, or the register is too long.
-#[derive(Clone, Copy)]
+#[derive(Clone, Copy, Debug, PartialEq, Eq)]
 pub enum Fault {
     LongInput,
     Malformed,
@@ -29,15 +29,15 @@ pub enum Fault {
     LongRegister,
 }
 
-impl Fault {
-    // The number that is printed.
-    pub fn number(self) -> u32
-        ensures { result ≡ fault_number self }
-    {
-        match self {
+// The number that is printed.
+impl From<Fault> for u32 {
+    ghost from_gives = { λ fault number. number ≡ fault_number fault };
+
+    fn from(fault: Fault) -> u32 {
+        match fault {
             Fault::LongInput => 11,
             Fault::Malformed => 12,
-            Fault::Refused(refusal) => refusal.number(),
+            Fault::Refused(refusal) => refusal.into(),
             Fault::LongRegister => 13,
         }
     }
@@ -87,9 +87,7 @@ pub fn check_input(input: &[u8]) -> Result<Start, Fault>
     let columns = head::read_field(input, head::COLUMNS);
     let top = head::read_field(input, head::TOP);
     let capacity = head::read_field(input, head::CAPACITY);
-    if let Asked::No(refusal) = questions::ask_numbers(rows, columns, top, capacity) {
-        return Err(refusal.into());
-    }
+    questions::ask_numbers(rows, columns, top, capacity)?;
     let length = entries::line_start(rows * columns, capacity);
     if MOST_BYTES < length {
         return Err(Fault::LongRegister);

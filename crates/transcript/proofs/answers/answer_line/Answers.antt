@@ -9,7 +9,7 @@ pub returns-in_default : goal.returns-in_default
 returns-in_default c =
     let s = c.args.start in
     let x = c.refusing.ensures in
-    answer-malformed s.rows s.columns s.top c.args.line.now c.args.register.now (rw c.size-size.ensures.0 at c.in_default.ensures) (x.0, x.1 ∙ c.number.ensures, x.2)
+    answer-malformed s.rows s.columns s.top c.args.line.now c.args.register.now (rw c.size-size.ensures.0 at c.in_default.ensures) (x.0, x.1 ∙ c.into.ensures, x.2)
 
 pub make_call-placed-requires : goal.make_call-placed-requires
 make_call-placed-requires c =
@@ -20,4 +20,4 @@ pub returns : goal.returns
 returns c =
     let s = c.args.start in
     let z = c.size-size.ensures.0 in
-    answer-made s.rows s.columns s.top c.args.line.now c.args.register.now (rw z at c.in-Some.ensures) c.number-2.ensures (rw z at c.cell_count.ensures.0) c.make_call-placed.ensures
+    answer-made s.rows s.columns s.top c.args.line.now c.args.register.now (rw z at c.in-Some.ensures) c.number.ensures (rw z at c.cell_count.ensures.0) c.make_call-placed.ensures

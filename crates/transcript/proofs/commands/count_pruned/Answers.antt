@@ -26,7 +26,7 @@ slice_bounds-count-end-2 c = front_long _ _ _ c.prune_parted-number.auto.high (o
 pub returns : goal.returns
 returns c =
     let d = c.prune_parted-number in
-    let x = c.counted-found.ensures in
+    let x = c.into-found.ensures in
     let n = c.size-size.result in
     rw (x.0, x.1)
     (pruned-counted _ _ _ _ _ d.ensures c.if-number-ne0.false

@@ -6,12 +6,12 @@ use Rattle.transcript.proofs.commands.make_call.Goals as goal
 
 pub returns-in-Enter : goal.returns-in-Enter
 returns-in-Enter c =
-    let x = c.placed.ensures in
+    let x = c.into.ensures in
     rw (x.0, x.1, c.in-Enter.is) (c.enter.ensures ∙ sym (enter-of _ _ _ _ _ _ refl))
 
 pub returns-in-Strike : goal.returns-in-Strike
 returns-in-Strike c =
-    let x = c.placed-in-Strike.ensures in
+    let x = c.into-in-Strike.ensures in
     rw (x.0, x.1, c.in-Strike.is) (c.strike.ensures ∙ sym (strike-of _ _ _ _ _ _ refl))
 
 pub count_pruned-requires : goal.count_pruned-requires

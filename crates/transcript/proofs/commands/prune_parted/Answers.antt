@@ -3,4 +3,4 @@ use Rattle.transcript.proofs.CallSteps.{parted-pruned}
 use Rattle.transcript.proofs.commands.prune_parted.Goals as goal
 
 pub returns : goal.returns
-returns c = rw c.counted.ensures.0 (parted-pruned c.args.cells.now c.requires.0 c.part.ensures c.prune.ensures)
+returns c = rw c.into-pruned.ensures.0 (parted-pruned c.args.cells.now c.requires.0 c.part.ensures c.prune.ensures)

@@ -32,4 +32,4 @@ pub returns-in-Err : goal.returns-in-Err
 returns-in-Err c =
     let a = c.args in
     let x = c.refusing.ensures in
-    start-ended a.input.now a.register.now a.out.now (omega arith) (omega arith) (c.number.ensures ∙ c.in-Err.ensures) (λ z. fault-some c.in-Err.fault (sym c.number.ensures ∙ z)) (rw (x.0, x.1, x.2) at c.write_report.ensures)
+    start-ended a.input.now a.register.now a.out.now (omega arith) (omega arith) (c.into.ensures ∙ c.in-Err.ensures) (λ z. fault-some c.in-Err.fault (sym c.into.ensures ∙ z)) (rw (x.0, x.1, x.2) at c.write_report.ensures)
