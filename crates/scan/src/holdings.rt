@@ -3,7 +3,7 @@ ghost use Rattle.std.specs.Prelude.{◌≡◌, true, ◌↔◌, ◌+◌, ◌*◌
 ghost use Rattle.layout.specs.Layout.{clients, cell_width};
 ghost use Rattle.scan.specs.Holdings.{is_first, is_holding, is_none, HoldingsLaid};
 
-use lines::entries::CLIENTS;
+use lines::entries::{CLIENTS, WIDTH};
 
 // Whether a byte is a digit but no 0.
 fn is_first(byte: u8) -> bool
@@ -36,9 +36,9 @@ pub fn holdings_laid(register: &[u8], at: usize) -> bool
     let mut laid = true;
     let mut none = true;
     for k in 0..CLIENTS {
-        let a = register[at + 3 * k];
-        let b = register[at + 3 * k + 1];
-        let c = register[at + 3 * k + 2];
+        let a = register[at + WIDTH * k];
+        let b = register[at + WIDTH * k + 1];
+        let c = register[at + WIDTH * k + 2];
         laid &= is_holding(a, b, c);
         none &= is_none(b, c);
     }
