@@ -1,4 +1,3 @@
 pub mod PassLaws
-pub mod TableLaws
 pub mod LineLaws
 pub mod CountLaws

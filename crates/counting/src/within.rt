@@ -42,7 +42,7 @@ pub fn count_within(register: &[u8], count: usize, low: &[u8], high: &[u8]) -> u
     let mut found = 0;
     for e in 0..count {
         let from = entries::line_start(size, e);
-        let end = from + 3 * size;
+        let end = from + entries::WIDTH * size;
         if line_within(&register[from..end], &register[from - 1..end - 1], &tables) {
             found += 1;
         }

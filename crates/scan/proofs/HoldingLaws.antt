@@ -10,13 +10,12 @@ use mathlib.Core.Logic.{◌⊎◌, inl, inr, ◌↔◌}
 use Prim.Native.Nat.{ℕ, zero, suc, ◌+◌, ◌-◌, ◌*◌, ◌/◌, ◌%◌, ◌≤◌, ◌<◌}
 use native.Mathlib.Omega.{arith}
 use native.Mathlib.Decide.{dec_lt}
-use borrow.Author.Tests.{eqb-true, eq-eqb, ltb-true, lt-ltb}
+use borrow.Author.Tests.{eqb-true, eq-eqb, leb-true, le-leb}
 use lib.ListN.{get_or}
-use lib.Dec.{eqb}
+use lib.Dec.{eqb, leb}
 use Rattle.permutations.proofs.BoolLaws.{and_yes, yes_and, or_yes}
 use Rattle.layout.specs.Decimal.{lead, field, digit, value_from, value}
 use Rattle.layout.specs.Layout.{most_held}
-use Rattle.lines.specs.Bytes.{above}
 use Rattle.lines.proofs.FieldLaws.{field-one}
 use Rattle.scan.specs.Holdings.{Digit, First, HoldingBytes, NoneBytes, is_digit, is_first, is_holding, is_none}
 use Rattle.scan.proofs.CellLaws.{NumberField, read_back}
@@ -108,26 +107,23 @@ either-decides {A} {B} x y d e = (λ z. to (or_yes x y z), back x d)
 equal-decides : (x y : ℕ) → (eqb x y ≡ true) ↔ (x ≡ y)
 equal-decides x y = (eqb-true x y, eq-eqb x y)
 
-digit-decides : (c : ℕ) → c < 256 → (is_digit c ≡ true) ↔ Digit c
-unfolding is_digit Digit above
-digit-decides c l = (
-  λ e. let h = ltb-true ((c + 208) % 256) 10 e in (omega (arith, h), omega (arith, h)),
-  λ d. lt-ltb ((c + 208) % 256) 10 (omega (arith, d.0, d.1)),
-)
+range-decides : (x y c : ℕ) → ((leb x c && leb c y) ≡ true) ↔ ((x ≤ c) × (c ≤ y))
+range-decides x y c = both-decide _ _ (leb-true x c, le-leb x c) (leb-true c y, le-leb c y)
 
-first-decides : (c : ℕ) → c < 256 → (is_first c ≡ true) ↔ First c
-unfolding is_first First above
-first-decides c l = (
-  λ e. let h = ltb-true ((c + 207) % 256) 9 e in (omega (arith, h), omega (arith, h)),
-  λ d. lt-ltb ((c + 207) % 256) 9 (omega (arith, d.0, d.1)),
-)
+digit-decides : (c : ℕ) → (is_digit c ≡ true) ↔ Digit c
+unfolding is_digit Digit
+digit-decides c = range-decides 48 57 c
+
+first-decides : (c : ℕ) → (is_first c ≡ true) ↔ First c
+unfolding is_first First
+first-decides c = range-decides 49 57 c
 
 pub holding-decides : (a b c : ℕ) → a < 256 → b < 256 → c < 256 → (is_holding a b c ≡ true) ↔ HoldingBytes a b c
 unfolding is_holding HoldingBytes
 holding-decides a b c la lb lc =
     both-decide _ _
-    (either-decides _ _ (both-decide _ _ (equal-decides a 32) (either-decides _ _ (equal-decides b 32) (first-decides b lb))) (both-decide _ _ (first-decides a la) (digit-decides b lb)))
-    (digit-decides c lc)
+    (either-decides _ _ (both-decide _ _ (equal-decides a 32) (either-decides _ _ (equal-decides b 32) (first-decides b))) (both-decide _ _ (first-decides a) (digit-decides b)))
+    (digit-decides c)
 
 pub none-decides : (b c : ℕ) → (is_none b c ≡ true) ↔ NoneBytes b c
 unfolding is_none NoneBytes

@@ -5,9 +5,8 @@
 --   NoneBytes b c          ==  two bytes are the last ones of the field of 0
 --   HoldingsLaid b at      ==  the bytes from `at` on are such fields, one for each client, and they are not all of 0
 --   is_digit, is_first, is_holding, is_none  ==  the tests of them
-use Rattle.std.specs.Prelude.{◌≡◌, List, Bool, ◌&&◌, ◌||◌, ◌⊎◌, ℕ, ◌+◌, ◌*◌, ◌≤◌, ◌<◌, get_or, eqb, ltb}
+use Rattle.std.specs.Prelude.{◌≡◌, List, Bool, ◌&&◌, ◌||◌, ◌⊎◌, ℕ, ◌+◌, ◌*◌, ◌≤◌, ◌<◌, get_or, eqb, leb}
 use Rattle.layout.specs.Layout.{clients}
-use Rattle.lines.specs.Bytes.{above}
 
 unfoldable pub Digit : ℕ → Type 0
 Digit c = (48 ≤ c) × (c ≤ 57)
@@ -28,10 +27,10 @@ pub record HoldingsLaid (b : List ℕ) (at : ℕ) : Type 0 where
 -- ---- the tests
 
 unfoldable pub is_digit : ℕ → Bool
-is_digit c = ltb (above c 48) 10
+is_digit c = leb 48 c && leb c 57
 
 unfoldable pub is_first : ℕ → Bool
-is_first c = ltb (above c 49) 9
+is_first c = leb 49 c && leb c 57
 
 unfoldable pub is_holding : ℕ → ℕ → ℕ → Bool
 is_holding a b c = ((eqb a 32 && (eqb b 32 || is_first b)) || (is_first a && is_digit b)) && is_digit c

@@ -7,7 +7,7 @@ ghost use Rattle.scan.specs.Lines.{LineLaid, Follows, LinesLaid};
 
 use crate::tables::Tables;
 use crate::{holdings, laid, order};
-use lines::entries::line_length;
+use lines::entries::{WIDTH, line_length};
 use lines::head;
 
 // Whether a line is laid out, where its cells before cell `from` are.
@@ -17,8 +17,13 @@ fn line_laid(register: &[u8], at: usize, from: usize, tables: &Tables) -> bool
 {
     let size = tables.size;
     register[at + line_length(size) - 1] == b'\n'
-        && holdings::holdings_laid(register, at + 3 * size)
-        && laid::cells_laid(register, at + 3 * from - 1, 3 * (size - from), tables)
+        && holdings::holdings_laid(register, at + WIDTH * size)
+        && laid::cells_laid(
+            register,
+            at + WIDTH * from - 1,
+            WIDTH * (size - from),
+            tables,
+        )
 }
 
 // Whether a line is laid out and comes after one that is. The cells that agree with that one are not tested again.
@@ -27,7 +32,7 @@ fn next_laid(register: &[u8], previous: usize, at: usize, tables: &Tables) -> bo
     ensures { (result ≡ true) ↔ Follows tables.now.size tables.now.top register.now previous at }
 {
     let size = tables.size;
-    let k = order::agreed(register, previous, at, 3 * size) / 3;
+    let k = order::agreed(register, previous, at, WIDTH * size) / WIDTH;
     line_laid(register, at, k, tables) && order::comes_before(register, previous, at, k, size)
 }
 

@@ -1,23 +1,15 @@
 // Whether the holdings of a line are laid out. No test on the way ends the loop, so that it has no jump inside.
 ghost use Rattle.std.specs.Prelude.{◌≡◌, true, ◌↔◌, ◌+◌, ◌*◌, ◌≤◌, length};
 ghost use Rattle.layout.specs.Layout.{clients, cell_width};
-ghost use Rattle.scan.specs.Holdings.{is_digit, is_first, is_holding, is_none, HoldingsLaid};
+ghost use Rattle.scan.specs.Holdings.{is_first, is_holding, is_none, HoldingsLaid};
 
-use lines::bytes::above;
-use lines::entries::CLIENTS;
-
-// Whether a byte is a digit.
-fn is_digit(byte: u8) -> bool
-    ensures { result ≡ is_digit byte }
-{
-    above(byte, b'0') < 10
-}
+use lines::entries::{CLIENTS, WIDTH};
 
 // Whether a byte is a digit but no 0.
 fn is_first(byte: u8) -> bool
     ensures { result ≡ is_first byte }
 {
-    above(byte, b'1') < 9
+    matches!(byte, b'1'..=b'9')
 }
 
 // Whether three bytes are the field of a number of at most 999.
@@ -25,8 +17,8 @@ fn is_holding(a: u8, b: u8, c: u8) -> bool
     ensures { result ≡ is_holding a b c }
 {
     let short = (a == b' ') & ((b == b' ') | is_first(b));
-    let long = is_first(a) & is_digit(b);
-    (short | long) & is_digit(c)
+    let long = is_first(a) & b.is_ascii_digit();
+    (short | long) & c.is_ascii_digit()
 }
 
 // Whether the last two bytes of a field are those of a 0.
@@ -44,9 +36,9 @@ pub fn holdings_laid(register: &[u8], at: usize) -> bool
     let mut laid = true;
     let mut none = true;
     for k in 0..CLIENTS {
-        let a = register[at + 3 * k];
-        let b = register[at + 3 * k + 1];
-        let c = register[at + 3 * k + 2];
+        let a = register[at + WIDTH * k];
+        let b = register[at + WIDTH * k + 1];
+        let c = register[at + WIDTH * k + 2];
         laid &= is_holding(a, b, c);
         none &= is_none(b, c);
     }

@@ -8,6 +8,7 @@ ghost use Rattle.scan.specs.Lines.{Precedes};
 
 use grids::cells;
 use lines::bytes::stated;
+use lines::entries::WIDTH;
 
 // Whether 16 bytes are the same: no way out of the loop, so that they are compared at once.
 fn same_from(register: &[u8], p: usize, q: usize) -> bool
@@ -49,8 +50,8 @@ pub fn comes_before(register: &[u8], p: usize, q: usize, from: usize, size: usiz
     ensures { (result ≡ true) ↔ Precedes size register.now p q }
 {
     for k in from..size {
-        let x = cell(register, p + 3 * k);
-        let y = cell(register, q + 3 * k);
+        let x = cell(register, p + WIDTH * k);
+        let y = cell(register, q + WIDTH * k);
         if x != y {
             return cells::rank(x) < cells::rank(y);
         }

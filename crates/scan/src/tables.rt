@@ -1,9 +1,9 @@
 // The tables by which the bytes of an entry's cells are tested: each has three bytes for a cell.
-ghost use Rattle.std.specs.Prelude.{◌≡◌, ◌≤◌, ◌<◌, length};
+ghost use Rattle.std.specs.Prelude.{◌≡◌, ◌≤◌};
 ghost use Rattle.lines.specs.Tables.{Thirds};
 ghost use Rattle.scan.specs.Tables.{teen_of, span_of};
 
-use lines::tables::put;
+use lines::tables::{Table, filled};
 
 // The tables of grids with so many cells and this top.
 #[derive(Drop)]
@@ -11,11 +11,11 @@ pub struct Tables {
     pub size: usize,
     pub top: u8,
     // The lowest byte.
-    pub base: [u8; 384],
+    pub base: Table,
     // How far a byte may be above the lowest, besides by its span.
-    pub teen: [u8; 384],
+    pub teen: Table,
     // How far a byte may be above the lowest.
-    pub span: [u8; 384],
+    pub span: Table,
     ghost few: { size ≤ 128 },
     ghost low: { top ≤ 15 },
     ghost bases: { Thirds base size 32 32 (λ k. 48) },
@@ -31,9 +31,9 @@ impl Tables {
         Tables {
             size,
             top,
-            base: filled(size, b' ', b' ', b'0'),
-            teen: filled(size, 0, teen_of(top), 0),
-            span: filled(size, 0, 0, span_of(top)),
+            base: filled(size, b' ', b' ', |_| b'0'),
+            teen: filled(size, 0, teen_of(top), |_| 0),
+            span: filled(size, 0, 0, |_| span_of(top)),
         }
     }
 }
@@ -50,16 +50,4 @@ fn span_of(top: u8) -> u8
     ensures { result ≡ span_of top }
 {
     top.min(9)
-}
-
-// A table that goes a, b, c in turn, for so many cells.
-fn filled(cells: usize, a: u8, b: u8, c: u8) -> [u8; 384]
-    requires { cells ≤ 128 }
-    ensures { Thirds result cells a b (λ k. c) }
-{
-    let mut table = [0; 384];
-    for k in 0..cells {
-        put(&mut table, k, a, b, c);
-    }
-    table
 }

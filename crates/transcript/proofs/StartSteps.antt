@@ -1,7 +1,8 @@
 -- What is asked before any command, as the code goes about it.
 --
---   shape-written    ==  four fields, written one after another, and a line feed are line 1
---   line-decides     ==  a comparison with line 1 so written, of the numbers that the input states there
+--   LineTo input l i o  ==  o is l with the first i numbers of line 1 written that the input states
+--   place-room       ==  a number has room at its place
+--   line-none, line-next, line-decides  ==  the loop's start, one turn, and the comparison with what is written at its end
 --   NoLineFeed l     ==  no byte of l is a line feed
 --   no-feed-fields   ==  none is in numbers laid in fields
 --   feed-first       ==  bytes without one and a line feed behind them are the first line
@@ -16,14 +17,15 @@
 use Rattle.std.proofs.Common.{Result, Ok, Err}
 use Rattle.std.specs.Result.{IsErr, IsErrAnd, MatchResult}
 use Rattle.transcript.specs.declared.starts.Fault.{Fault}
-use mathlib.Core.Path.{◌≡◌, refl, sym, ap, ◌∙◌}
-use mathlib.Core.List.{List, [], ◌∷◌, ◌++◌, flatten, append_assoc}
+use mathlib.Core.Path.{◌≡◌, refl, sym, ap, subst, ◌∙◌}
+use mathlib.Core.List.{List, [], ◌∷◌, ◌++◌, flatten, append_assoc, append-nil}
 use mathlib.Core.Bool.{Bool, true, false, true≢false}
 use mathlib.Core.Logic.{◌↔◌}
 use Prim.Native.Nat.{ℕ, zero, suc, ◌+◌, ◌-◌, ◌*◌, ◌/◌, ◌%◌, ◌≤◌, ◌<◌}
 use native.Mathlib.Omega.{arith}
 use lib.ListN.{length, get_or, take, drop, set, length-append, take-append-drop}
-use lib.Seq.{take_at, take-take}
+use native.Mathlib.Numerals.{add-one}
+use lib.Seq.{take_at, take-take, take-suc}
 use lib.Dec.{eqb}
 use lib.Pointwise.{pointwise}
 use Rattle.std.specs.List.{starts_with}
@@ -38,7 +40,8 @@ use Rattle.layout.specs.Decimal.{lead, field}
 use Rattle.layout.specs.Layout.{Shape, fields, number_width, rows_place, columns_place, top_place, capacity_place, line_start, layout_length, number_at, decode_shape, InLimits}
 use Rattle.layout.proofs.LineLaws.{drop-take}
 use Rattle.layout.specs.Lines.{with_field}
-use Rattle.lines.proofs.HeadLaws.{fields-whole}
+use Rattle.lines.proofs.FillLaws.{Filled, fill_none, fill, filled-whole}
+use Rattle.lines.proofs.HeadLaws.{fill-field}
 use Rattle.calls.specs.Calls.{shape}
 use Rattle.refusals.specs.declared.Refusal.{Refusal}
 use Rattle.refusals.specs.Numbers.{refusal_number}
@@ -53,18 +56,59 @@ use Rattle.protocol.proofs.StartLaws.{over-limit, start-line, start-numbers, sta
 
 -- ---- line 1 is written
 
-pub shape-written : (l : List ℕ) {o p q r : List ℕ} (s : Shape) → length l ≡ 25 → o ≡ with_field rows_place s.rows l → p ≡ with_field columns_place s.columns o → q ≡ with_field top_place s.top p →
-    r ≡ with_field capacity_place s.capacity q → set r (capacity_place + number_width) 10 ≡ shape_line s
-unfolding shape_line
-shape-written l s z a b c d = rw (d, c, b, a) (fields-whole l (s.rows ∷ s.columns ∷ s.top ∷ s.capacity ∷ []) z)
+-- the numbers that the input states at the places of line 1, and these places
+abbrev stated : List ℕ → List ℕ
+stated input = let s = decode_shape input in s.rows ∷ s.columns ∷ s.top ∷ s.capacity ∷ []
 
-pub line-decides : (input l : List ℕ) {o p q r : List ℕ} {m n top capacity : ℕ} {t : Bool} → length l ≡ 25 → m ≡ number_at number_width rows_place input → n ≡ number_at number_width columns_place input → top ≡ number_at number_width top_place input → capacity ≡ number_at number_width capacity_place input →
-    o ≡ with_field rows_place m l → p ≡ with_field columns_place n o → q ≡ with_field top_place top p → r ≡ with_field capacity_place capacity q → t ≡ starts_with eqb input (set r (capacity_place + number_width) 10) →
-    (t ≡ true) ↔ (take 25 input ≡ shape_line (decode_shape input))
+abbrev places : List ℕ
+places = rows_place ∷ columns_place ∷ top_place ∷ capacity_place ∷ []
+
+stated-at : (input : List ℕ) (i : ℕ) → i < 4 → (get_or places i 0 ≡ i * number_width) × (get_or (stated input) i 0 ≡ number_at number_width (get_or places i 0) input)
 unfolding decode_shape
-line-decides input l {t = t} z e f g h a b c d k =
-    let w = shape-written l (decode_shape input) z (rw e at a) (rw f at b) (rw g at c) (rw h at d) in
+stated-at input zero h = (refl, refl)
+stated-at input (suc zero) h = (refl, refl)
+stated-at input (suc (suc zero)) h = (refl, refl)
+stated-at input (suc (suc (suc zero))) h = (refl, refl)
+stated-at input (suc (suc (suc (suc i)))) h = absurd (omega arith)
+
+pub place-room : (i : ℕ) → i < 4 → get_or places i 0 + number_width ≤ 25
+place-room i h = omega (arith, (stated-at [] i h).0)
+
+pub record LineTo (input l : List ℕ) (i : ℕ) (o : List ℕ) : Type 0 where
+  pub so_far : Filled (fields number_width (take i (stated input))) l (i * number_width) o
+
+pub line-none : (input l : List ℕ) → LineTo input l 0 l
+unfolding fields flatten
+line-none input l = record { so_far = fill_none l }
+
+snoc_field : (xs : List ℕ) (x : ℕ) → fields number_width (xs ++ (x ∷ [])) ≡ fields number_width xs ++ field number_width x
+unfolding fields flatten
+snoc_field [] x = append-nil (field number_width x)
+snoc_field (y ∷ xs) x = ap (λ (r : List ℕ). field number_width y ++ r) (snoc_field xs x) ∙ sym (append_assoc (field number_width y) (fields number_width xs) (field number_width x))
+
+pub line-next : {input l o o' : List ℕ} {i : ℕ} (x : ℕ) → LineTo input l i o → length l ≡ 25 → i < 4 → x ≡ number_at number_width (get_or places i 0) input → o' ≡ with_field (get_or places i 0) x o → LineTo input l (i + 1) o'
+line-next {input} {l} {o} {o'} {i} x t z h e y = record { so_far = rw (y, p.0, front) next }
+  where
+    p : (get_or places i 0 ≡ i * number_width) × (get_or (stated input) i 0 ≡ number_at number_width (get_or places i 0) input)
+    p = stated-at input i h
+
+    front : fields number_width (take (i + 1) (stated input)) ≡ fields number_width (take i (stated input)) ++ field number_width x
+    front =
+        let q : get_or (stated input) i 0 ≡ x = p.1 ∙ sym e in
+        rw (add-one, take-suc (stated input) i 0 h, q) (snoc_field (take i (stated input)) x)
+
+    next : Filled (fields number_width (take i (stated input)) ++ field number_width x) l ((i + 1) * number_width) (with_field (i * number_width) x o)
+    next =
+        let P : ℕ → Type 0 = λ k. Filled (fields number_width (take i (stated input)) ++ field number_width x) l k (with_field (i * number_width) x o) in
+        let w : i * number_width + number_width ≡ (i + 1) * number_width = omega arith in
+        subst P w (fill-field x t.so_far (omega arith))
+
+pub line-decides : {input l o : List ℕ} {i : ℕ} {t : Bool} → LineTo input l i o → length l ≡ 25 → i ≡ 4 → t ≡ starts_with eqb input (set o (capacity_place + number_width) 10) → (t ≡ true) ↔ (take 25 input ≡ shape_line (decode_shape input))
+unfolding shape_line
+line-decides {input} {l} {o} {i} {t} r z h k =
     let x = shape_line (decode_shape input) in
+    let f : Filled (fields number_width (stated input)) l 24 o = rw h at r.so_far in
+    let w : set o 24 10 ≡ x = filled-whole x (fill x 10 f (omega arith) refl) refl (omega arith) in
     let k' : t ≡ pointwise eqb x (take (length x) input) = rw w at k in
     let y = slice_eq-Decides Decides-eqb x (take (length x) input) t k' in
     let q : (t ≡ true) ↔ (take (length x) input ≡ x) = (λ u. sym (y.0 u), λ u. y.1 (sym u)) in

@@ -57,18 +57,9 @@ fn line_laid(input: &[u8]) -> bool
     ensures { (result ≡ true) ↔ (take 25 input.now ≡ shape_line (decode_shape input.now)) }
 {
     let mut line = [0; LENGTH];
-    head::write_field(&mut line, head::ROWS, head::read_field(input, head::ROWS));
-    head::write_field(
-        &mut line,
-        head::COLUMNS,
-        head::read_field(input, head::COLUMNS),
-    );
-    head::write_field(&mut line, head::TOP, head::read_field(input, head::TOP));
-    head::write_field(
-        &mut line,
-        head::CAPACITY,
-        head::read_field(input, head::CAPACITY),
-    );
+    for at in [head::ROWS, head::COLUMNS, head::TOP, head::CAPACITY] {
+        head::write_field(&mut line, at, head::read_field(input, at));
+    }
     line[FEED] = b'\n';
     input.starts_with(&line)
 }

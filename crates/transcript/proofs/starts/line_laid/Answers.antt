@@ -1,8 +1,19 @@
--- `line_laid` meets its contract: line 1 is written from the numbers that the input states, and the input is compared with it.
 use mathlib.Core.Path.{refl}
-use Rattle.transcript.proofs.StartSteps.{line-decides}
+use native.Mathlib.Omega.{arith}
+use Rattle.transcript.proofs.StartSteps.{place-room, line-none, line-next, line-decides}
 use Rattle.transcript.proofs.starts.line_laid.Goals as goal
 
+pub loop-at-init : goal.loop-at-init
+loop-at-init c = line-none _ _
+
+pub read_field-requires : goal.read_field-requires
+read_field-requires c = omega (arith, place-room c.loop-at.at-index (omega arith))
+
+pub write_field-requires : goal.write_field-requires
+write_field-requires c = omega (arith, place-room c.loop-at.at-index (omega arith))
+
+pub loop-at-preserved : goal.loop-at-preserved
+loop-at-preserved c = line-next _ c.loop-at.invariant refl (omega arith) c.read_field.ensures.0 c.write_field.ensures
+
 pub returns : goal.returns
-returns c =
-    line-decides c.args.input.now _ refl c.read_field.ensures.0 c.read_field-2.ensures.0 c.read_field-3.ensures.0 c.read_field-4.ensures.0 c.write_field.ensures c.write_field-2.ensures c.write_field-3.ensures c.write_field-4.ensures c.starts_with.ensures.value
+returns c = line-decides c.loop-at.invariant refl (omega arith) c.starts_with.ensures.value
