@@ -3,8 +3,7 @@
 --   CommonUpTo a b count i  ==  a and b begin with i entries in common, at most count
 --   common-more     ==  one entry more
 --   row-key         ==  a row's levels in the best's columns are the digits of its key
---   after_small     ==  at most 15 columns come after each
-use Rattle.std.proofs.Common.{◌≡◌, ℕ, ◌+◌, ◌<◌, ◌≤◌, false, List, length, get_or, set, sym, ap, ◌∙◌, arith, length-set, get_or-set_other, get_or-set_same}
+use Rattle.std.proofs.Common.{◌≡◌, ℕ, ◌+◌, ◌<◌, ◌≤◌, false, List, get_or, sym, ◌∙◌, arith}
 use native.Mathlib.Decide.{ℕ_discrete}
 use Rattle.permutations.specs.declared.rows.RowNumber.{RowNumber}
 use Rattle.permutations.specs.Rows.{row_number}
@@ -15,11 +14,9 @@ use Rattle.grids.specs.Grids.{cell}
 use Rattle.branches.specs.SortedRows.{PlacesBy}
 use Rattle.branches.specs.Keys.{level, number, key}
 use Rattle.branches.proofs.NextLaws.{digits_are}
-use Rattle.branches.proofs.RefinedLaws.{places-are}
-use Rattle.search.specs.declared.found.Found.{Found}
 use Rattle.search.specs.ColumnLists.{column_at, columns_of, Lists}
 use Rattle.search.specs.Tables.{entry, ByRows}
-use Rattle.search.specs.Search.{keys_of, is_ready, keys_with, keyed_at, rows_of}
+use Rattle.search.specs.Search.{rows_of}
 use Rattle.search.proofs.SymmetryLaws.{row_at}
 
 -- ---- entries in common
@@ -51,8 +48,3 @@ row-key m n g y low best a l i v n16 by o places lists im e =
     each t tn =
         rw (row_at best i, at-columns n l t tn)
         (by.holds (get_or (rows_of best) i 0) (column_at l t) (at-whole 8 m (rows_of best) o i im) (omega (arith, at-columns n l t tn, lists.sorts.columns.within t tn)))
-
--- ---- the columns of a node
-
-pub after_small : {k n : ℕ} {g p a : List ℕ} → n ≤ 16 → PlacesBy k n g p a → (c : ℕ) → get_or a c 0 ≤ 15
-after_small {k} {n} {g} {p} {a} n16 h c = (places-are k n g p a n16 h.size h.holds).small c

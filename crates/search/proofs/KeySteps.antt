@@ -5,10 +5,9 @@
 --   digit-next         ==  a number to base 16 with a digit more
 --   number-room        ==  a number of less than 16 digits has room for one more
 --   lowest-one, lowest-next  ==  the least of some keys: of one, and with a key more
---   with_none, with-next  ==  the rows that have a key: at first, and with a row more
-use Rattle.std.proofs.Common.{◌≡◌, ℕ, zero, suc, ◌+◌, ◌*◌, ◌^◌, ◌<◌, ◌≤◌, eqb, ◌⊎◌, List, map, min, get_or, sym, ap, ◌∙◌, inl, inr, mul-suc, add-one, arith, pow_mono, pow-add, eq-eqb, eqb-true}
+--   with_none, with-next, with-skip  ==  the rows that have a key: at first, with a row more that has it, and with one that does not
+use Rattle.std.proofs.Common.{◌≡◌, ℕ, zero, suc, ◌+◌, ◌*◌, ◌^◌, ◌<◌, ◌≤◌, ◌⊎◌, ◌↔◌, List, map, min, get_or, sym, ap, ◌∙◌, inl, inr, mul-suc, add-one, arith, pow_mono, pow-add}
 use native.Mathlib.Decide.{ℕ_discrete, dec_lt}
-use lib.Bits.{bit_or}
 use Rattle.permutations.specs.Rows.{row_number}
 use Rattle.permutations.specs.declared.rows.RowNumber.{RowNumber}
 use Rattle.permutations.proofs.ArrayLaws.{map_at, map-length}
@@ -16,7 +15,7 @@ use Rattle.branches.specs.Keys.{number}
 use Rattle.search.specs.RowSets.{IsRowSet, HasRow}
 use Rattle.search.specs.ColumnLists.{column_at}
 use Rattle.search.specs.Keys.{RowsWithin, Lowest, WithKey}
-use Rattle.search.proofs.JoinedRows.{joined-set, joined-left, joined-right, joined-only, no_rows, none_has, one_row, one_set, one_has, one_only}
+use Rattle.search.proofs.RowSetLaws.{none-set, has-none}
 
 pub column-most : (l j : ℕ) → column_at l j ≤ 15
 unfolding column_at
@@ -24,14 +23,14 @@ column-most l j = omega arith
 
 -- ---- rows at positions
 
-module _ (l : List RowNumber) (w : RowsWithin (l)) (t : ℕ) (t8 : t < 8) (d : RowNumber) where
-  pub row_at : get_or (l) t 0 ≡ row_number (get_or l t d)
+module _ (l : List RowNumber) (w : RowsWithin (map row_number l)) (t : ℕ) (t8 : t < 8) (d : RowNumber) where
+  pub row_at : get_or (map row_number l) t 0 ≡ row_number (get_or l t d)
   row_at = sym (map_at row_number l t d (omega (arith, map-length row_number l 8 w.size)))
 
   pub row_within : row_number (get_or l t d) < 8
   row_within = omega (arith, row_at, w.within t t8)
 
-  pub key-at : (keys : List ℕ) → get_or keys (get_or (l) t 0) 0 ≡ get_or keys (row_number (get_or l t d)) 0
+  pub key-at : (keys : List ℕ) → get_or keys (get_or (map row_number l) t 0) 0 ≡ get_or keys (row_number (get_or l t d)) 0
   key-at keys = ap (λ (z : ℕ). get_or keys z 0) row_at
 
 -- ---- numbers to base 16
@@ -76,29 +75,33 @@ module _ {t k : ℕ} {p keys : List ℕ} {least : ℕ} (l : Lowest t k p keys le
 -- ---- the rows that have a key
 
 pub with_none : (k : ℕ) (p keys : List ℕ) (v : ℕ) → WithKey k k p keys v 0
-with_none k p keys v = record { set = no_rows; has = λ t a b. absurd (omega arith); only = λ r h. absurd (none_has r h) }
+with_none k p keys v = record { set = none-set; has = λ t a b. absurd (omega arith); only = λ r h. absurd (has-none r h) }
 
-pub with-next : (t k : ℕ) (p keys : List ℕ) (v s row : ℕ) → k ≤ t → get_or p t 0 ≡ row → row < 8 → WithKey t k p keys v s → WithKey (t + 1) k p keys v (bit_or s (one_row (eqb (get_or keys row 0) v) row))
-with-next t k p keys v s row kt e r8 w = record {
-  set = joined-set s one w.set fits;
-  has = λ u ku ut same. go u ku ut same (ℕ_discrete u t);
-  only = λ r h. which r (joined-only s one w.set fits r h);
-}
-  where
-    one : ℕ
-    one = one_row (eqb (get_or keys row 0) v) row
+module _ (t k : ℕ) (p keys : List ℕ) (v s row : ℕ) (kt : k ≤ t) (e : get_or p t 0 ≡ row) (w : WithKey t k p keys v s) where
+  pub with-next : get_or keys row 0 ≡ v → (s' : ℕ) → IsRowSet s' → ((x : ℕ) → HasRow s' x ↔ (HasRow s x ⊎ (x ≡ row))) → WithKey (t + 1) k p keys v s'
+  with-next same s' is_set joined = record {
+    set = is_set;
+    has = λ u ku ut eq. (joined (get_or p u 0)).1 (go u ku ut eq (ℕ_discrete u t));
+    only = λ r h. which r ((joined r).0 h);
+  }
+    where
+      go : (u : ℕ) → k ≤ u → u < t + 1 → get_or keys (get_or p u 0) 0 ≡ v → Dec (u ≡ t) → HasRow s (get_or p u 0) ⊎ (get_or p u 0 ≡ row)
+      go u ku ut eq (yes y) = inr (ap (λ (z : ℕ). get_or p z 0) y ∙ e)
+      go u ku ut eq (no y) = inl (w.has u ku (omega arith) eq)
 
-    fits : IsRowSet one
-    fits = one_set (eqb (get_or keys row 0) v) row r8
+      which : (r : ℕ) → HasRow s r ⊎ (r ≡ row) → (u : ℕ) × (k ≤ u) × (u < t + 1) × (get_or p u 0 ≡ r) × (get_or keys r 0 ≡ v)
+      which r (inl h) = let o = w.only r h in (o.0, o.1, omega (arith, o.2), o.3, o.4)
+      which r (inr h) = (t, kt, omega arith, e ∙ sym h, rw h same)
 
-    go : (u : ℕ) → k ≤ u → u < t + 1 → get_or keys (get_or p u 0) 0 ≡ v → Dec (u ≡ t) → HasRow (bit_or s one) (get_or p u 0)
-    go u ku ut same (yes y) =
-        let here : get_or p u 0 ≡ row = ap (λ (z : ℕ). get_or p z 0) y ∙ e in
-        rw here (joined-right s one w.set fits row (one_has (eqb (get_or keys row 0) v) row r8 (eq-eqb (get_or keys row 0) v (rw here at same))))
-    go u ku ut same (no y) = joined-left s one w.set fits (get_or p u 0) (w.has u ku (omega arith) same)
-
-    which : (r : ℕ) → HasRow s r ⊎ HasRow one r → (u : ℕ) × (k ≤ u) × (u < t + 1) × (get_or p u 0 ≡ r) × (get_or keys r 0 ≡ v)
-    which r (inl h) = let o = w.only r h in (o.0, o.1, omega (arith, o.2), o.3, o.4)
-    which r (inr h) =
-        let o = one_only (eqb (get_or keys row 0) v) row r8 r h in
-        (t, kt, omega arith, e ∙ sym o.0, rw o.0 (eqb-true (get_or keys row 0) v o.1))
+  pub with-skip : (get_or keys row 0 ≡ v → ⊥) → WithKey (t + 1) k p keys v s
+  with-skip other = record {
+    set = w.set;
+    has = λ u ku ut eq. go u ku ut eq (ℕ_discrete u t);
+    only = λ r h. let o = w.only r h in (o.0, o.1, omega (arith, o.2), o.3, o.4);
+  }
+    where
+      go : (u : ℕ) → k ≤ u → u < t + 1 → get_or keys (get_or p u 0) 0 ≡ v → Dec (u ≡ t) → HasRow s (get_or p u 0)
+      go u ku ut eq (yes y) =
+          let here : get_or p u 0 ≡ row = ap (λ (z : ℕ). get_or p z 0) y ∙ e in
+          absurd (other (sym (ap (λ (z : ℕ). get_or keys z 0) here) ∙ eq))
+      go u ku ut eq (no y) = w.has u ku (omega arith) eq

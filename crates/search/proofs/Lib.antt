@@ -8,7 +8,6 @@ pub mod LoopLaws
 pub mod ValueLaws
 pub mod TableLaws
 pub mod RefineLaws
-pub mod JoinedRows
 pub mod KeySteps
 pub mod ListedPlaces
 pub mod ListedLaws

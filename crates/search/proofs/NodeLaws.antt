@@ -72,7 +72,7 @@ module _ {m n : ℕ} {g : List ℕ} {two : Bool} {low : ℕ} {y w x : List ℕ} 
   next-within : (t : ℕ) → t < m → get_or (swapped p k t) k 0 < m
   next-within t tm = rw (next_row t tm) (row_within t tm)
 
-  places-with : (t : ℕ) → k ≤ t → (c : ℕ) → c < 16 → get_or node.after c 0 ≡ places_after k n g (swapped p k t) c
+  places-with : (t : ℕ) → k ≤ t → (c : ℕ) → c < 16 → get_or node.after.counts c 0 ≡ places_after k n g (swapped p k t) c
   places-with t kt c c16 = s.places.holds c c16 ∙ places-agree k n g p (swapped p k t) (λ i ik. sym (stay t kt i ik)) c
 
   same-lead : (t u : ℕ) → k ≤ t → k ≤ u → sorted_rows k n g (swapped p k t) ≡ sorted_rows k n g (swapped p k u)
@@ -98,10 +98,10 @@ module _ {m n : ℕ} {g : List ℕ} {two : Bool} {low : ℕ} {y w x : List ℕ} 
 
   -- ---- two values
 
-  module _ (z : two ≡ true) (keys : List ℕ) (rk : RowKeys x node.after keys) (least : ℕ) (lowest : Lowest m k p keys least) (set : ℕ) (has : WithKey m k p keys least set) where
+  module _ (z : two ≡ true) (keys : List ℕ) (rk : RowKeys x node.after.counts keys) (least : ℕ) (lowest : Lowest m k p keys least) (set : ℕ) (has : WithKey m k p keys least set) where
     key-is : (t : ℕ) → k ≤ t → t < m → get_or keys (get_or p t 0) 0 ≡ key-with t
     unfolding RowKeys key
-    key-is t kt tm = rw z (rk (get_or p t 0) (omega (arith, row_within t tm, m8)) ∙ bits_key n g low k (swapped p k t) node.after (λ c. get_or x (c * 8 + get_or p t 0) 0) s.tables.columns-fit inside past (places-with t kt))
+    key-is t kt tm = rw z (rk (get_or p t 0) (omega (arith, row_within t tm, m8)) ∙ bits_key n g low k (swapped p k t) node.after.counts (λ c. get_or x (c * 8 + get_or p t 0) 0) s.tables.columns-fit inside past (places-with t kt))
       where
         inside : (c : ℕ) → c < n → get_or x (c * 8 + get_or p t 0) 0 ≡ bit low (cell n g (get_or (swapped p k t) k 0) c)
         inside c cn = rw (next_row t tm) ((s.tables.by_bits z).holds (get_or p t 0) c (row_within t tm) cn)
@@ -156,17 +156,17 @@ module _ {m n : ℕ} {g : List ℕ} {two : Bool} {low : ℕ} {y w x : List ℕ} 
 
   -- ---- any values
 
-  pub after_is : Places n node.after
-  after_is = places-are k n g p node.after s.tables.columns-fit s.places.size s.places.holds
+  pub after_is : Places n node.after.counts
+  after_is = places-are k n g p node.after.counts s.tables.columns-fit s.places.size s.places.holds
 
-  pub columns-after : After n node.after
-  columns-after = places-after k n g p node.after s.tables.columns-fit s.places
+  pub columns-after : After n node.after.counts
+  columns-after = places-after k n g p node.after.counts s.tables.columns-fit s.places
 
-  pub columns-first : k ≡ 0 → (c : ℕ) → c < n → get_or node.after c 0 ≡ 16 - n
+  pub columns-first : k ≡ 0 → (c : ℕ) → c < n → get_or node.after.counts c 0 ≡ 16 - n
   columns-first e c cn = s.places.holds c (omega (arith, s.tables.columns-fit)) ∙ ap (λ (i : ℕ). places_after i n g p c) e ∙ (places-start n g p c).0 cn
 
-  pub powers-within : sum_to 16 (λ c. 2 ^ get_or node.after c 0) < 65536
-  powers-within = powers-fit k n g p node.after s.tables.columns-fit s.places
+  pub powers-within : sum_to 16 (λ c. 2 ^ get_or node.after.counts c 0) < 65536
+  powers-within = powers-fit k n g p node.after.counts s.tables.columns-fit s.places
 
   pub row_small : (t row : ℕ) → t < m → row ≡ get_or p t 0 → row < 8
   row_small t row tm e = omega (arith, row_within t tm, m8)
@@ -190,7 +190,7 @@ module _ {m n : ℕ} {g : List ℕ} {two : Bool} {low : ℕ} {y w x : List ℕ} 
     some = rest_some;
   }
 
-  module _ (l : ℕ) (lists : Lists n node.after l) where
+  module _ (l : ℕ) (lists : Lists n node.after.counts l) where
     column-is : (j : ℕ) → j < n → get_or (columns_of n l) j 0 ≡ column_at l j
     unfolding columns_of
     column-is j jn = at-tabulate n (column_at l) j 0 jn
@@ -198,23 +198,23 @@ module _ {m n : ℕ} {g : List ℕ} {two : Bool} {low : ℕ} {y w x : List ℕ} 
     column-within : (j : ℕ) → j < n → column_at l j < n
     column-within j jn = rw (column-is j jn) at (lists.sorts.columns.within j jn)
 
-    ends-are : (u : ℕ) → u < n → 16 - get_or node.after (get_or (columns_of n l) u 0) 0 ≡ end_of l node.after u
-    ends-are u un = ap (λ (c : ℕ). 16 - get_or node.after c 0) (column-is u un)
+    ends-are : (u : ℕ) → u < n → 16 - get_or node.after.counts (get_or (columns_of n l) u 0) 0 ≡ end_of l node.after.counts u
+    ends-are u un = ap (λ (c : ℕ). 16 - get_or node.after.counts c 0) (column-is u un)
 
-    pub list-ends : BlockEnds n (end_of l node.after)
+    pub list-ends : BlockEnds n (end_of l node.after.counts)
     list-ends = record {
       further = λ u un. rw (ends-are u un) at (ends.further u un);
       within = λ u un. rw (ends-are u un) at (ends.within u un);
       same = λ u i un ui ie. same u i un ui ie (rw (ends-are u un) at (ends.within u un));
     }
       where
-        ends : BlockEnds n (λ u. 16 - get_or node.after (get_or (columns_of n l) u 0) 0)
-        ends = block-ends k n g p node.after (columns_of n l) s.tables.columns-fit s.places lists.sorts
+        ends : BlockEnds n (λ u. 16 - get_or node.after.counts (get_or (columns_of n l) u 0) 0)
+        ends = block-ends k n g p node.after.counts (columns_of n l) s.tables.columns-fit s.places lists.sorts
 
-        same : (u i : ℕ) → u < n → u ≤ i → i < end_of l node.after u → end_of l node.after u ≤ n → end_of l node.after i ≡ end_of l node.after u
+        same : (u i : ℕ) → u < n → u ≤ i → i < end_of l node.after.counts u → end_of l node.after.counts u ≤ n → end_of l node.after.counts i ≡ end_of l node.after.counts u
         same u i un ui ie en = sym (ends-are i (omega arith)) ∙ ends.same u i un ui (rw (ends-are u un) ie) ∙ ends-are u un
 
-    pub leaves-sifted : (set : ℕ) → IsRowSet set → (set ≡ 0 → ⊥) → Sifts n (end_of l node.after) (levels_of w l) (HasRow node.rest.bytes) n (HasRow set) → Leaves m n g node set
+    pub leaves-sifted : (set : ℕ) → IsRowSet set → (set ≡ 0 → ⊥) → Sifts n (end_of l node.after.counts) (levels_of w l) (HasRow node.rest.bytes) n (HasRow set) → Leaves m n g node set
     unfolding levels_of
     leaves-sifted set is_set some sifts = record {
       set = is_set;
@@ -233,17 +233,17 @@ module _ {m n : ℕ} {g : List ℕ} {two : Bool} {low : ℕ} {y w x : List ℕ} 
             ∙ s.tables.by_rows.holds r (column_at l (i + j)) rm c
             ∙ ap (λ (d : ℕ). level (cell n g r d)) (sym (column-is (i + j) ij))
 
-        by-list : Sifts n (λ u. 16 - get_or node.after (get_or (columns_of n l) u 0) 0) (levels_of w l) (HasRow node.rest.bytes) n (HasRow set)
-        by-list = sifts-ends n (end_of l node.after) (λ u. 16 - get_or node.after (get_or (columns_of n l) u 0) 0) (λ u un. sym (ends-are u un)) (levels_of w l) (HasRow node.rest.bytes) n (HasRow set) sifts
+        by-list : Sifts n (λ u. 16 - get_or node.after.counts (get_or (columns_of n l) u 0) 0) (levels_of w l) (HasRow node.rest.bytes) n (HasRow set)
+        by-list = sifts-ends n (end_of l node.after.counts) (λ u. 16 - get_or node.after.counts (get_or (columns_of n l) u 0) 0) (λ u un. sym (ends-are u un)) (levels_of w l) (HasRow node.rest.bytes) n (HasRow set) sifts
 
         within-rest : (r : ℕ) → HasRow set r → HasRow node.rest.bytes r
         within-rest =
-            sifted-within m n g k p node.after (columns_of n l) s.tables.columns-fit m8 s.tables.size s.tables.valued.small km s.rows s.places lists.sorts (HasRow node.rest.bytes) (HasRow set)
+            sifted-within m n g k p node.after.counts (columns_of n l) s.tables.columns-fit m8 s.tables.size s.tables.valued.small km s.rows s.places lists.sorts (HasRow node.rest.bytes) (HasRow set)
             s.rest.has s.rest.only (levels_of w l) levels-are by-list
 
         both : (t : ℕ) → k ≤ t → t < m → HasRow set (get_or p t 0) ↔ IsNext m n g k p t
         both =
-            sifted-next m n g k p node.after (columns_of n l) s.tables.columns-fit m8 s.tables.size s.tables.valued.small km s.rows s.places lists.sorts (HasRow node.rest.bytes) (HasRow set)
+            sifted-next m n g k p node.after.counts (columns_of n l) s.tables.columns-fit m8 s.tables.size s.tables.valued.small km s.rows s.places lists.sorts (HasRow node.rest.bytes) (HasRow set)
             s.rest.has s.rest.only (levels_of w l) levels-are by-list
 
   -- some row of such a set
@@ -267,7 +267,7 @@ module _ {m n : ℕ} {g : List ℕ} {two : Bool} {low : ℕ} {y w x : List ℕ} 
   }
 
   -- the columns with a row of the set placed
-  module _ (z : two ≡ false) (set : ℕ) (h : Leaves m n g node set) (first : ℕ) (of : HasRow set first) (further : List ℕ) (refined : Refined node.after (entry y first) further) where
+  module _ (z : two ≡ false) (set : ℕ) (h : Leaves m n g node set) (first : ℕ) (of : HasRow set first) (further : List ℕ) (refined : Refined node.after.counts (entry y first) further) where
     at : (t : ℕ) × (k ≤ t) × (t < m) × (get_or p t 0 ≡ first)
     at = s.rest.only first (h.left first of)
 
@@ -290,7 +290,7 @@ module _ {m n : ℕ} {g : List ℕ} {two : Bool} {low : ℕ} {y w x : List ℕ} 
     unfolding Small t0
     first-places = record {
       size = refined.size;
-      holds = refined-places k n g (swapped p k t0) node.after further (entry y first) s.tables.columns-fit
+      holds = refined-places k n g (swapped p k t0) node.after.counts further (entry y first) s.tables.columns-fit
           (λ c cn. rw next-is (s.tables.valued.small _ (cell-inside m n g s.tables.size first c first-within cn)))
           (λ c cn. rw next-is (s.tables.by_rows.holds first c first-within cn))
           (places-with at.0 at.1) refined;
@@ -299,7 +299,7 @@ module _ {m n : ℕ} {g : List ℕ} {two : Bool} {low : ℕ} {y w x : List ℕ} 
     pub first-after : After n further
     first-after = places-after (suc k) n g (swapped p k t0) further s.tables.columns-fit first-places
 
-    pub known_next : (l : ℕ) → Lists n further l → (v : ℕ) → v ≡ number n (λ j. entry y first (column_at l j)) → (c : Candidates) → c.rows.bytes ≡ set → c.key ≡ v → (made : Refinement) → c.made ≡ Some made → made.row.0 ≡ first → made.after ≡ further → NextRows m n g two low y node c
+    pub known_next : (l : ℕ) → Lists n further l → (v : ℕ) → v ≡ number n (λ j. entry y first (column_at l j)) → (c : Candidates) → c.rows.bytes ≡ set → c.key ≡ v → (made : Refinement) → c.made ≡ Some made → made.row.0 ≡ first → made.after.counts ≡ further → NextRows m n g two low y node c
     unfolding key columns_of
     known_next l lists v is c rows key-is made made-is first-is after_is = record {
       set = rw rows h.set;

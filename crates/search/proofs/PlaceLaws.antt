@@ -35,7 +35,7 @@ use Rattle.search.specs.declared.node.Candidates.{Candidates}
 use Rattle.search.specs.declared.found.Found.{Found}
 use Rattle.search.specs.RowSets.{HasRow, RowsFrom, Thins}
 use Rattle.search.specs.Tables.{entry}
-use Rattle.search.specs.Search.{keys_of, is_ready, keys_with, keyed_at, rows_of, Symmetries, CoveredRows, SpreadsWith, Known, Follows, Standing, NextRows, Cuts, Lowers, Alike, Outcome}
+use Rattle.search.specs.Search.{keys_of, is_ready, keys_with, rows_of, Symmetries, CoveredRows, SpreadsWith, Known, Follows, Standing, NextRows, Cuts, Lowers, Alike, Outcome}
 
 pub record Started (m n : ℕ) (g : List ℕ) (two : Bool) (low k : ℕ) (p : List ℕ) (fresh : Bool) (before : Found) (chosen t : ℕ) (now : Found) (covered : ℕ) : Type 0 where
   pub known : Known m n g two low now
@@ -76,7 +76,7 @@ module _ (i v : ℕ) where
   keys_with-size None e = e
 
 -- whatever else changed, the best, its columns and the keys of its rows did not
-pub known-still : {m n : ℕ} {g : List ℕ} {two : Bool} {low : ℕ} (f r : Found) → r.best ≡ f.best → r.after ≡ f.after → keys_of r.keys ≡ keys_of f.keys → (is_ready r.keys ≡ true → is_ready f.keys ≡ true) →
+pub known-still : {m n : ℕ} {g : List ℕ} {two : Bool} {low : ℕ} (f r : Found) → r.best ≡ f.best → r.after.counts ≡ f.after.counts → keys_of r.keys ≡ keys_of f.keys → (is_ready r.keys ≡ true → is_ready f.keys ≡ true) →
     Known m n g two low f → Known m n g two low r
 known-still {m} {n} {g} {two} {low} f r b a keys ready h = record {
   rows = rw b h.rows;
@@ -227,7 +227,7 @@ module _ {m n : ℕ} {g : List ℕ} {two : Bool} {low : ℕ} {y w x : List ℕ} 
 
     -- the best as it was, but for the key of the next row, which is written where all keys are
     module _ (chosen known : ℕ) (b new : Bool) (now : Found) (covered : ℕ) (ready : fresh ≡ false → is_ready before.keys ≡ true) (e : known ≡ get_or (keys_of before.keys) k 0) (cuts : Cuts fresh known c.key b) (uncut : b ≡ false)
-        (lowers : Lowers fresh known c.key new) (same-best : now.best ≡ before.best) (same_after : now.after ≡ before.after) (same-ready : is_ready now.keys ≡ is_ready before.keys) (same-apart : now.apart ≡ before.apart) (same_back : now.back ≡ before.back)
+        (lowers : Lowers fresh known c.key new) (same-best : now.best ≡ before.best) (same_after : now.after.counts ≡ before.after.counts) (same-ready : is_ready now.keys ≡ is_ready before.keys) (same-apart : now.apart ≡ before.apart) (same_back : now.back ≡ before.back)
         (same-symmetries : now.symmetries ≡ before.symmetries)
         (kept-keys : new ≡ false → keys_of now.keys ≡ keys_of before.keys) (written : two ≡ true → new ≡ true → keys_of now.keys ≡ set (keys_of before.keys) k c.key) (size : length (keys_of now.keys) ≡ 8) (none : (r : ℕ) → HasRow covered r → ⊥) where
       stays-equal : new ≡ false → c.key ≡ known
@@ -344,7 +344,7 @@ module _ {m n : ℕ} {g : List ℕ} {two : Bool} {low : ℕ} {y w x : List ℕ} 
       begins-last l b = b k (omega arith) ∙ q-next
 
       -- the node with it placed
-      pub followed-stands : (deeper : Node) → rows_of deeper.rows ≡ swapped p k t → deeper.placed ≡ suc k → Refined node.after (entry y (get_or p t 0)) deeper.after → RowsFrom (suc k) m (swapped p k t) deeper.rest.bytes → deeper.fresh ≡ new →
+      pub followed-stands : (deeper : Node) → rows_of deeper.rows ≡ swapped p k t → deeper.placed ≡ suc k → Refined node.after.counts (entry y (get_or p t 0)) deeper.after.counts → RowsFrom (suc k) m (swapped p k t) deeper.rest.bytes → deeper.fresh ≡ new →
           Standing m n g two low y w x deeper now
       unfolding q Small
       followed-stands deeper rows placed refined rest same-fresh = record {
@@ -365,9 +365,9 @@ module _ {m n : ℕ} {g : List ℕ} {two : Bool} {low : ℕ} {y w x : List ℕ} 
           row_within : get_or p t 0 < m
           row_within = at-whole 8 m p o t tm
 
-          places : (c : ℕ) → c < 16 → get_or deeper.after c 0 ≡ places_after (suc k) n g q c
+          places : (c : ℕ) → c < 16 → get_or deeper.after.counts c 0 ≡ places_after (suc k) n g q c
           places =
-              refined-places k n g q node.after deeper.after (entry y (get_or p t 0)) s.tables.columns-fit
+              refined-places k n g q node.after.counts deeper.after.counts (entry y (get_or p t 0)) s.tables.columns-fit
               (λ c cn. rw q-next (s.tables.valued.small _ (cell-inside m n g s.tables.size (get_or p t 0) c row_within cn)))
               (λ c cn. rw q-next (s.tables.by_rows.holds (get_or p t 0) c row_within cn))
               (λ c c16. s.places.holds c c16 ∙ places-agree k n g p q (λ i ik. sym (q-stays i ik)) c) refined
@@ -499,7 +499,7 @@ module _ {m n : ℕ} {g : List ℕ} {two : Bool} {low : ℕ} {y w x : List ℕ} 
                         copied v z.0 z.1 (omega (arith, z.2)) (z.4 ∙ ap (λ (l : List ℕ). get_or l k 0) (sym e.1)) (still e.0 z.0 (d.covers z.0 z.1 z.2 z.3))
 
         -- the same best, from which the search goes on
-        pub following-next : (r : Found) → r.best ≡ f.best → r.after ≡ f.after → keys_of r.keys ≡ keys_of f.keys → is_ready r.keys ≡ is_ready f.keys → r.apart ≡ f.apart → r.symmetries ≡ f.symmetries → r.back ≡ m →
+        pub following-next : (r : Found) → r.best ≡ f.best → r.after.counts ≡ f.after.counts → keys_of r.keys ≡ keys_of f.keys → is_ready r.keys ≡ is_ready f.keys → r.apart ≡ f.apart → r.symmetries ≡ f.symmetries → r.back ≡ m →
             (covered' : ℕ) → SpreadsWith m n g k p covered (get_or p t 0) covered' → k ≤ f.back → Following m n g two low k p fresh before chosen (t + 1) false r covered'
         unfolding best q CoveredRows
         following-next r same-best same_after same_keys same-ready same-apart same-symmetries back covered' spread kb = record {

@@ -19,7 +19,7 @@ use Rattle.branches.proofs.RefinedLaws.{places-agree}
 use Rattle.branches.proofs.ApartLaws.{apart-is}
 use Rattle.search.specs.declared.node.Node.{Node}
 use Rattle.search.specs.declared.found.Found.{Found}
-use Rattle.search.specs.Search.{keys_of, is_ready, keys_with, keyed_at, rows_of, Follows, Standing, Matched, Alike, Outcome}
+use Rattle.search.specs.Search.{keys_of, is_ready, rows_of, Follows, Standing, Matched, Alike, Outcome}
 use Rattle.search.proofs.PlaceLaws.{Following, Started, known-still}
 
 -- an arrangement by the order p that equals the best's, of which so much is found
@@ -43,11 +43,11 @@ module _ {m n : ℕ} {g : List ℕ} {two : Bool} {low : ℕ} {y w x : List ℕ} 
   p = rows_of node.rows
 
   module _ (end : node.placed ≡ m) where
-    places : PlacesBy m n g p node.after
+    places : PlacesBy m n g p node.after.counts
     places = rw end at s.places
 
-    pub reached-new : node.fresh ≡ true → (f : Found) → f.best ≡ node.rows → f.after ≡ node.after → (two ≡ true → keys_of f.keys ≡ keys_of before.keys) → length (keys_of f.keys) ≡ 8 → is_ready f.keys ≡ two → f.back ≡ before.back → f.symmetries ≡ before.symmetries →
-        f.apart ≡ sum_to 16 (λ c. get_or node.after c 0) → Outcome m n g two low node.placed p node.fresh before f
+    pub reached-new : node.fresh ≡ true → (f : Found) → f.best ≡ node.rows → f.after.counts ≡ node.after.counts → (two ≡ true → keys_of f.keys ≡ keys_of before.keys) → length (keys_of f.keys) ≡ 8 → is_ready f.keys ≡ two → f.back ≡ before.back → f.symmetries ≡ before.symmetries →
+        f.apart ≡ sum_to 16 (λ c. get_or node.after.counts c 0) → Outcome m n g two low node.placed p node.fresh before f
     unfolding Begins IsApart
     reached-new z f b c k kz r l v e = record {
       known = record { rows = rw b s.rows; keys = λ t i im. rw (k (sym r ∙ t), b) (s.keys (sym r ∙ t) i (omega (arith, end))); places = rw (b, c) places };
@@ -59,7 +59,7 @@ module _ {m n : ℕ} {g : List ℕ} {two : Bool} {low : ℕ} {y w x : List ℕ} 
       covers = λ t. rw end (sorted-placed m n g p (rows_of f.best) (ap (λ (o : List RowNumber). sorted_rows m n g (rows_of o)) b));
       alike = λ t. absurd (omega (arith, end, l, s.back));
       back = omega (arith, l, s.back);
-      pairs = inr (e ∙ apart-is m n g (take m p) node.after s.tables.columns-fit s.rows.permutation (record { size = places.size; holds = λ d d16. places.holds d d16 ∙ places-agree m n g p (take m p) (λ i im. sym (get_or-take m p i 0 im)) d }));
+      pairs = inr (e ∙ apart-is m n g (take m p) node.after.counts s.tables.columns-fit s.rows.permutation (record { size = places.size; holds = λ d d16. places.holds d d16 ∙ places-agree m n g p (take m p) (λ i im. sym (get_or-take m p i 0 im)) d }));
       symmetries = rw v s.symmetries;
     }
 

@@ -1,6 +1,6 @@
 -- Laws of sets of rows.
 --
---   none-set, none_has        ==  0 is the set of no rows
+--   none-set, none_has, has-none, none_from  ==  0 is the set of no rows, so that it has the rows of no positions
 --   first-set, first-has      ==  the first m rows
 --   only_set, only-has        ==  one row
 --   both-set, both-has        ==  the rows of two sets
@@ -13,13 +13,13 @@
 --   row-found, none-of-zero  ==  a word that is not 0 has a row, and 0 has none
 --   lone_row        ==  a word that has no digit in common with the number before has one row
 --   kept-fits       ==  the sum of the counts and what is added to each stays within a word
-use Rattle.std.proofs.Common.{◌≡◌, ℕ, zero, suc, ◌+◌, ◌-◌, ◌*◌, ◌/◌, ◌%◌, ◌^◌, ◌<◌, ◌≤◌, eqb, ◌⊎◌, ◌↔◌, sym, refl, ap, ◌∙◌, ap₂, inl, inr, not-suc-le-zero, arith, shl_exact, eqb-true}
+use Rattle.std.proofs.Common.{◌≡◌, ℕ, zero, suc, ◌+◌, ◌-◌, ◌*◌, ◌/◌, ◌%◌, ◌^◌, ◌<◌, ◌≤◌, eqb, ◌⊎◌, ◌↔◌, List, sym, refl, ap, ◌∙◌, ap₂, inl, inr, not-suc-le-zero, arith, shl_exact, eqb-true}
 use native.Mathlib.Decide.{ℕ_discrete, dec_lt}
 use borrow.Author.Tests.{eqb-false}
 use lib.Count.{count_trailing_zeros}
 use lib.Pow.{shr_le}
 use lib.Bits.{bit_and, bit_or, and_block, and_mask, and_zero_l, and_zero_r, and_self, or_zero_l, or_zero_r, or_self, or_lt, and_le_l, and_le_r}
-use Rattle.search.specs.RowSets.{lane, IsRowSet, HasRow, Tells}
+use Rattle.search.specs.RowSets.{lane, IsRowSet, HasRow, RowsFrom, Tells}
 use Rattle.search.proofs.LaneLaws.{ones, bytes_8, lane-zero, lane-add, lane-sub, lane_and, lane_or, lane-shift, lane-drop, lane_past, lane-at, lane-off, lane-found, lanes-le, spread-lane, first_lane}
 
 -- the byte l is 128 if P, and 0 if not
@@ -95,6 +95,12 @@ none-set = set-of 0 (λ x. x < 0) (λ x l. no_rows 0 x refl) (omega arith)
 
 pub none_has : (m x : ℕ) → m ≡ 0 → HasRow 0 x ↔ (x < m)
 none_has m x e = has_of 0 (λ x. x < m) (λ x l. no_rows m x e) (λ x l. omega arith) x
+
+pub has-none : (r : ℕ) → HasRow 0 r → ⊥
+has-none r h = absurd (not-suc-le-zero ((none_has 0 r refl).0 h))
+
+pub none_from : (k : ℕ) (p : List ℕ) → RowsFrom k k p 0
+none_from k p = record { set = none-set; has = λ t kt tk. absurd (omega arith); only = λ r h. absurd (has-none r h) }
 
 module _ (m : ℕ) (h : m ≤ 8) where
   pub first-set : IsRowSet (9259542123273814144 / 2 ^ (64 - 8 * m))

@@ -35,7 +35,7 @@ use Rattle.search.specs.Symmetries.{Fixes, Reached, reached-marked, reached-imag
 -- ---- the rows of an array
 
 pub row_at : (l : List RowNumber) (i : ℕ) → row_number (get_or l i record { 0 = 0 }) ≡ get_or (rows_of l) i 0
-row_at l i = sym (get_or-l i record { 0 = 0 })
+row_at l i = sym (get_or-map row_number l i record { 0 = 0 })
 
 pub row_below : (m : ℕ) (l : List RowNumber) (i : ℕ) → m ≤ 8 → i < m → IsPadded 8 m (rows_of l) → row_number (get_or l i record { 0 = 0 }) < 8
 row_below m l i m8 im o = omega (arith, row_at l i, at-whole 8 m (rows_of l) o i im)

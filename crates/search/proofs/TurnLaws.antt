@@ -10,7 +10,7 @@
 --   Turn            ==  all that holds before a turn of the loop, whatever was the best before it
 --   turn-row, turn-row-below  ==  the number of the row at position t, and that it is below 8
 --   turn-first, turn-skip, turn-stands, turn-back, turn-next, turn-all  ==  the steps of PlaceLaws, of a turn
-use Rattle.std.proofs.Common.{◌≡◌, ℕ, suc, ◌+◌, ◌<◌, ◌≤◌, Bool, true, false, ◌⊎◌, List, get_or, set, sym, refl, ◌∙◌, inl, inr, true≢false, length-set}
+use Rattle.std.proofs.Common.{◌≡◌, ℕ, suc, ◌+◌, ◌<◌, ◌≤◌, Bool, true, false, ◌⊎◌, List, get_or, set, sym, refl, ◌∙◌, inl, inr, true≢false}
 use Rattle.permutations.specs.declared.rows.RowNumber.{RowNumber}
 use Rattle.permutations.specs.Permutations.{swapped}
 use Rattle.permutations.specs.Padded.{IsPadded}
@@ -22,7 +22,7 @@ use Rattle.search.specs.declared.node.Candidates.{Candidates}
 use Rattle.search.specs.declared.found.Found.{Found}
 use Rattle.search.specs.RowSets.{IsRowSet, HasRow, Thins}
 use Rattle.search.specs.Domination.{Left}
-use Rattle.search.specs.Search.{keys_of, is_ready, keys_with, keyed_at, rows_of, SpreadsWith, Standing, AtNode, NextRows, Deeper, IsFollowed, Matched, Cuts, Lowers, Outcome}
+use Rattle.search.specs.Search.{keys_of, is_ready, keyed_at, rows_of, SpreadsWith, Standing, AtNode, NextRows, Deeper, IsFollowed, Matched, Cuts, Lowers, Outcome}
 use Rattle.search.proofs.RowSetLaws.{none-set, none-of-zero}
 use Rattle.search.proofs.SymmetryLaws.{row_at, row_below}
 use Rattle.search.proofs.PlaceLaws.{keys_with-ready, keys_with-are, keys_with-size, Following, outcome-for, following-first, following-skip, followed-stands, followed-back, following-next, followed-all}
@@ -34,7 +34,7 @@ pub thins-itself : {m n : ℕ} {g : List ℕ} {k : ℕ} {p : List ℕ} {s : ℕ}
 unfolding Next
 thins-itself set = record { set = set; fewer = λ x h. h; as-good = λ t kt tm h. (t, kt, tm, h, λ r c. c) }
 
-pub node-left : {m n : ℕ} {g : List ℕ} {two : Bool} {low : ℕ} {y w x : List ℕ} {node : Node} → AtNode m n g two low y w x node → Left m n g y w node.placed (rows_of node.rows) node.after node.rest.bytes
+pub node-left : {m n : ℕ} {g : List ℕ} {two : Bool} {low : ℕ} {y w x : List ℕ} {node : Node} → AtNode m n g two low y w x node → Left m n g y w node.placed (rows_of node.rows) node.after.counts node.rest.bytes
 node-left s = record {
   rows_fit = s.tables.rows_fit;
   columns-fit = s.tables.columns-fit;

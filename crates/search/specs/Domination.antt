@@ -15,8 +15,6 @@
 --   Others s a b x          ==  row x is of the set s, and neither a nor b
 --   Over y w v s a b        ==  so for all other rows of s
 --   Sides y w v X a b r     ==  r says `First` only where b is over a, and `Second` only where a is over b
---   IsPair r                ==  the two rows of r, and its words, are within their bounds
---   pair_differences r, PairSides r s  ==  in how many columns the two rows of r differ, and `Sides` of them
 --   Covering y w v s t u x  ==  row u is row x, or over a row of t that covers x so
 --   Thinned y w v s t r     ==  the set r has rows of t, and for each row of t one that covers it
 --   Left m n g y w k p v s  ==  the tables y and w are those of the grid g, v are the places by the first k rows of the order p, and s has the rows left
@@ -26,10 +24,8 @@ use Rattle.permutations.specs.Sums.{count}
 use Rattle.branches.specs.Keys.{Small}
 use Rattle.branches.specs.SortedRows.{PlacesBy}
 use Rattle.search.specs.declared.pairs.Covered.{Covered}
-use Rattle.search.specs.declared.pairs.RowPair.{RowPair}
 use Rattle.search.specs.declared.pairs.Covered.TheVariants.{First, Second}
 use Rattle.search.specs.RowSets.{lane, IsRowSet, HasRow, RowsFrom}
-use Rattle.search.specs.ColumnLists.{LevelWords}
 use Rattle.search.specs.Tables.{entry, ByRows, ByColumns}
 
 unfoldable pub differs : List ℕ → ℕ → ℕ → ℕ → Bool
@@ -89,17 +85,6 @@ Over y w v s a b = OverAmong y w v (Others s a b) a b
 pub record Sides (y w v : List ℕ) (X : ℕ → Type 0) (a b : ℕ) (r : Option Covered) : Type 0 where
   pub first : r ≡ Some First → OverAmong y w v X b a
   pub second : r ≡ Some Second → OverAmong y w v X a b
-
-pub record IsPair (r : RowPair) : Type 0 where
-  pub words : LevelWords r.tables.now.words
-  pub first : r.first.0 < 8
-  pub second : r.second.0 < 8
-
-abbrev pub pair_differences : RowPair → ℕ
-pair_differences r = differences r.tables.now.levels r.first.0 r.second.0
-
-abbrev pub PairSides : RowPair → Option Covered → Type 0
-PairSides r s = Sides r.tables.now.levels r.tables.now.words r.after.now (HasRow r.others.bytes) r.first.0 r.second.0 s
 
 pub data Covering (y w v : List ℕ) (s t : ℕ) : ℕ → ℕ → Type 0 where
   itself : (x : ℕ) → Covering y w v s t x x

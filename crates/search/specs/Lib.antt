@@ -4,6 +4,7 @@ pub mod Tables
 pub mod Keys
 pub mod Sifting
 pub mod Domination
+pub mod RowPairs
 pub mod Search
 pub mod Settled
 pub mod Symmetries

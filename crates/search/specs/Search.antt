@@ -47,7 +47,7 @@ use Rattle.search.specs.RowSets.{IsRowSet, HasRow, RowsFrom}
 use Rattle.search.specs.Tables.{entry, Tables, is_two, low_of}
 
 abbrev pub rows_of : List RowNumber → List ℕ
-rows_of l = l
+rows_of l = map row_number l
 
 pub record IsSymmetry (m n : ℕ) (g : List ℕ) (f : ℕ → ℕ) : Type 0 where
   pub rows : List ℕ
@@ -95,7 +95,7 @@ keyed_at f i v = record { best = f.best; after = f.after; keys = keys_with f.key
 pub record Known (m n : ℕ) (g : List ℕ) (two : Bool) (low : ℕ) (f : Found) : Type 0 where
   pub rows : IsPadded 8 m (rows_of f.best)
   pub keys : is_ready f.keys ≡ true → (i : ℕ) → i < m → slice_index (keys_of f.keys) i ≡ key two n g low i (rows_of f.best)
-  pub places : PlacesBy m n g (rows_of f.best) f.after
+  pub places : PlacesBy m n g (rows_of f.best) f.after.counts
 
 pub record Follows (m n : ℕ) (g : List ℕ) (two : Bool) (low k : ℕ) (p : List ℕ) (f : Found) : Type 0 where
   pub known : Known m n g two low f
@@ -106,7 +106,7 @@ pub record Standing (m n : ℕ) (g : List ℕ) (two : Bool) (low : ℕ) (y w x :
   pub tables : Tables m n g two low y w x
   pub placed-fits : node.placed ≤ m
   pub rows : IsPadded 8 m (rows_of node.rows)
-  pub places : PlacesBy node.placed n g (rows_of node.rows) node.after
+  pub places : PlacesBy node.placed n g (rows_of node.rows) node.after.counts
   pub rest : RowsFrom node.placed m (rows_of node.rows) node.rest.bytes
   pub keys-size : length (keys_of f.keys) ≡ 8
   pub ready : two ≡ true → is_ready f.keys ≡ true
@@ -120,7 +120,7 @@ pub record AtNode (m n : ℕ) (g : List ℕ) (two : Bool) (low : ℕ) (y w x : L
   pub tables : Tables m n g two low y w x
   pub placed-fits : node.placed < m
   pub rows : IsPadded 8 m (rows_of node.rows)
-  pub places : PlacesBy node.placed n g (rows_of node.rows) node.after
+  pub places : PlacesBy node.placed n g (rows_of node.rows) node.after.counts
   pub rest : RowsFrom node.placed m (rows_of node.rows) node.rest.bytes
 
 pub record Leaves (m n : ℕ) (g : List ℕ) (node : Node) (s : ℕ) : Type 0 where
@@ -138,12 +138,12 @@ pub record NextRows (m n : ℕ) (g : List ℕ) (two : Bool) (low : ℕ) (y : Lis
   pub some : (t : ℕ) × IsNext m n g node.placed (rows_of node.rows) t
   pub key-two : two ≡ true → (t : ℕ) → IsNext m n g node.placed (rows_of node.rows) t → c.key ≡ key two n g low node.placed (swapped (rows_of node.rows) node.placed t)
   pub key-known : node.fresh ≡ false → (t : ℕ) → IsNext m n g node.placed (rows_of node.rows) t → c.key ≡ key two n g low node.placed (swapped (rows_of node.rows) node.placed t)
-  pub refined : IfSome c.made (λ made. Refined node.after (entry y made.row.0) made.after)
+  pub refined : IfSome c.made (λ made. Refined node.after.counts (entry y made.row.0) made.after.counts)
 
 pub record Deeper (m : ℕ) (y : List ℕ) (node : Node) (t : ℕ) (fresh : Bool) (d : Node) : Type 0 where
   pub rows : rows_of d.rows ≡ swapped (rows_of node.rows) node.placed t
   pub placed : d.placed ≡ suc node.placed
-  pub refined : Refined node.after (entry y (slice_index (rows_of node.rows) t)) d.after
+  pub refined : Refined node.after.counts (entry y (slice_index (rows_of node.rows) t)) d.after.counts
   pub rest : RowsFrom (suc node.placed) m (swapped (rows_of node.rows) node.placed t) d.rest.bytes
   pub same-fresh : d.fresh ≡ fresh
 
@@ -153,7 +153,7 @@ pub record IsFollowed (chosen covered row : ℕ) (b : Bool) : Type 0 where
 
 pub record Keyed (m n : ℕ) (g : List ℕ) (low : ℕ) (f r : Found) : Type 0 where
   pub best : r.best ≡ f.best
-  pub after : r.after ≡ f.after
+  pub after : r.after.counts ≡ f.after.counts
   pub keys-size : length (keys_of r.keys) ≡ 8
   pub keys : (i : ℕ) → i < m → slice_index (keys_of r.keys) i ≡ key false n g low i (rows_of f.best)
   pub ready : is_ready r.keys ≡ true
@@ -168,7 +168,7 @@ pub record CommonRows (a b : List ℕ) (count r : ℕ) : Type 0 where
 
 pub record Matched (m n : ℕ) (g p : List ℕ) (f r : Found) : Type 0 where
   pub best : r.best ≡ f.best
-  pub after : r.after ≡ f.after
+  pub after : r.after.counts ≡ f.after.counts
   pub keys : keys_of r.keys ≡ keys_of f.keys
   pub ready : is_ready r.keys ≡ is_ready f.keys
   pub apart : r.apart ≡ f.apart

@@ -9,15 +9,14 @@
 --   Tables ..           ==  the tables of a grid
 --   is_two low          ==  whether a grid has two values at most, of which `low` is the lower
 --   low_of low          ==  that value, or 0
---   HasTables t         ==  t holds the tables of its grid
 --   first_place n c     ==  how many of 16 columns come after column c before any row is placed: those from n on, and of these the later ones
 --   FirstPlaces n a     ==  a holds them
 --   RowKeys x a s       ==  s holds for each row the sum of its numbers in the table x by bits, each times 2 to the power that a has for its column
 use Rattle.std.specs.Prelude.{◌≡◌, ℕ, ◌+◌, ◌-◌, ◌*◌, ◌^◌, ◌<◌, ◌≤◌, Bool, true, false, Option, Some, None, List, length, nat_lt, slice_index}
+use Rattle.std.proofs.Props.{props}
 use Rattle.permutations.specs.Sums.{sum_to}
 use Rattle.grids.specs.Grids.{cell}
-use Rattle.branches.specs.Keys.{level, bit, Valued}
-use Rattle.search.specs.declared.tables.GridTables.{GridTables}
+use Rattle.branches.specs.Keys.{level, bit, Small, Valued}
 use Rattle.search.specs.RowSets.{lane}
 
 abbrev pub entry : List ℕ → ℕ → ℕ → ℕ
@@ -56,9 +55,6 @@ abbrev pub low_of : Option ℕ → ℕ
 low_of (Some low) = low
 low_of None = 0
 
-abbrev pub HasTables : GridTables → Type 0
-HasTables t = Tables t.m t.n t.grid.now (is_two t.low) (low_of t.low) t.levels t.words t.bits
-
 unfoldable pub first_place : ℕ → ℕ → ℕ
 first_place n c = elim (nat_lt c n) [ true ↦ 16 - n | false ↦ 15 - c ]
 
@@ -68,3 +64,7 @@ pub record FirstPlaces (n : ℕ) (a : List ℕ) : Type 0 where
 
 unfoldable pub RowKeys : List ℕ → List ℕ → List ℕ → Type 0
 RowKeys x a s = (r : ℕ) → r < 8 → slice_index s r ≡ sum_to 16 (λ c. slice_index x (c * 8 + r) * 2 ^ slice_index a c)
+
+pub tables-prop : (m n : ℕ) (g : List ℕ) (two : Bool) (low : ℕ) (y w x : List ℕ) → IsProp (Tables m n g two low y w x)
+unfolding Small
+tables-prop m n g two low y w x = Prim.hlevel props

@@ -1,8 +1,8 @@
 // Rows that need not be placed next, since another row covers them.
 ghost use Rattle.std.specs.Prelude.{◌≡◌, ℕ, ◌<◌};
-ghost use Rattle.search.specs.ColumnLists.{LevelWords};
 ghost use Rattle.search.specs.RowSets.{IsRowSet, HasRow};
-ghost use Rattle.search.specs.Domination.{Ascend, Apart, Others, Sides, Thinned, IsPair, PairSides, pair_differences};
+ghost use Rattle.search.specs.RowPairs.{PairSides, pair_differences};
+ghost use Rattle.search.specs.Domination.{Ascend, Apart, Others, Sides, Thinned};
 
 use crate::pairs;
 use crate::pairs::{Covered, RowPair};
@@ -13,7 +13,7 @@ use permutations::rows::RowNumber;
 
 // Which of two rows the other covers, where they differ in columns c and d alone.
 fn by_one(pair: &RowPair, c: ColumnNumber, d: ColumnNumber) -> Option<Covered>
-    requires { IsPair pair.now × (c.0 < 16) × (d.0 < 16) × (pair_differences pair.now ≡ 2) }
+    requires { (c.0 < 16) × (d.0 < 16) × (pair_differences pair.now ≡ 2) }
     ensures { PairSides pair.now result }
 {
     if !pair.is_crossed(c, d) {
@@ -31,7 +31,7 @@ fn by_two(
     e: ColumnNumber,
     f: ColumnNumber,
 ) -> Option<Covered>
-    requires { IsPair pair.now × (c.0 < 16) × (d.0 < 16) × (e.0 < 16) × (f.0 < 16) × (pair_differences pair.now ≡ 4) × Apart c.0 d.0 e.0 f.0 }
+    requires { (c.0 < 16) × (d.0 < 16) × (e.0 < 16) × (f.0 < 16) × (pair_differences pair.now ≡ 4) × Apart c.0 d.0 e.0 f.0 }
     ensures { PairSides pair.now result }
 {
     if !pair.is_crossed(c, d) {
@@ -51,7 +51,7 @@ fn by_four(
     e: ColumnNumber,
     f: ColumnNumber,
 ) -> Option<Covered>
-    requires { IsPair pair.now × (c.0 < 16) × (d.0 < 16) × (e.0 < 16) × (f.0 < 16) × (pair_differences pair.now ≡ 4) × Ascend c.0 d.0 e.0 f.0 }
+    requires { (c.0 < 16) × (d.0 < 16) × (e.0 < 16) × (f.0 < 16) × (pair_differences pair.now ≡ 4) × Ascend c.0 d.0 e.0 f.0 }
     ensures { PairSides pair.now result }
 {
     if let Some(covered) = by_two(pair, c, d, e, f) {
@@ -71,7 +71,7 @@ fn covered(
     a: RowNumber,
     b: RowNumber,
 ) -> Option<Covered>
-    requires { LevelWords tables.now.words × (a.0 < 8) × (b.0 < 8) }
+    requires { (a.0 < 8) × (b.0 < 8) }
     ensures { Sides tables.now.levels tables.now.words after.now (Others rest.bytes a.0 b.0) a.0 b.0 result }
 {
     let count = pairs::differences(&tables.levels, a, b);
@@ -113,7 +113,7 @@ fn held_against(
     a: RowNumber,
     against: RowSet,
 ) -> RowSet
-    requires { LevelWords tables.now.words × HasRow left.bytes a.0 × (HasRow against.bytes a.0 → ⊥) × ((x : ℕ) → HasRow against.bytes x → HasRow left.bytes x) }
+    requires { HasRow left.bytes a.0 × (HasRow against.bytes a.0 → ⊥) × ((x : ℕ) → HasRow against.bytes x → HasRow left.bytes x) }
     ensures { Thinned tables.now.levels tables.now.words after.now rest.bytes left.bytes result.bytes }
 {
     let mut out = left;
@@ -130,7 +130,6 @@ fn held_against(
 
 // The rows without those that another covers. Where the first row neither covers nor is covered, no other is tried.
 pub fn undominated(tables: &GridTables, after: &[u8; 16], rest: RowSet, rows: RowSet) -> RowSet
-    requires { LevelWords tables.now.words }
     ensures { Thinned tables.now.levels tables.now.words after.now rest.bytes rows.bytes result.bytes }
 {
     let mut left = rows;

@@ -2,13 +2,14 @@
 ghost use Rattle.std.specs.Prelude.{◌≡◌, ◌<◌, ◌≤◌, true, false, slice_index};
 ghost use Rattle.permutations.specs.Padded.{IsPadded};
 ghost use Rattle.branches.specs.SortedRows.{PlacesBy};
-ghost use Rattle.search.specs.Tables.{is_two, low_of, HasTables};
+ghost use Rattle.search.specs.Tables.{is_two, low_of};
 ghost use Rattle.search.specs.Search.{keys_of, is_ready, keyed_at, rows_of, AreKnown, SameRows, Stands, Finds, Keyed, Matched, CommonRows, Cuts, Lowers};
 
+use crate::columns::ColumnPlaces;
+use crate::keys;
 use crate::node::Node;
 use crate::symmetries::KnownSymmetries;
 use crate::tables::GridTables;
-use crate::{columns, keys};
 use permutations::rows::RowNumber;
 
 // The best: its row order, how many columns come after each, and the keys of its rows where they are made; the symmetries known; how
@@ -17,7 +18,7 @@ use permutations::rows::RowNumber;
 #[derive(Clone, Copy)]
 pub struct Found {
     pub best: [RowNumber; 8],
-    pub after: [u8; 16],
+    pub after: ColumnPlaces,
     pub keys: Option<[u64; 8]>,
     pub symmetries: KnownSymmetries,
     pub back: u8,
@@ -73,13 +74,13 @@ pub fn is_written(tables: &GridTables, fresh: bool) -> bool
 
 // What was found, with the keys of the best's rows, in a grid of any values.
 fn keyed(tables: &GridTables, found: Found) -> Found
-    requires { HasTables tables.now × IsPadded 8 tables.now.m (rows_of found.best) × PlacesBy tables.now.m tables.now.n tables.now.grid.now (rows_of found.best) found.after }
+    requires { IsPadded 8 tables.now.m (rows_of found.best) × PlacesBy tables.now.m tables.now.n tables.now.grid.now (rows_of found.best) found.after.counts }
     ensures { Keyed tables.now.m tables.now.n tables.now.grid.now (low_of tables.now.low) found result }
 {
-    let columns = columns::listed(tables.n, found.after);
+    let columns = found.after.listed(tables.n);
     let mut keys = [0; 8];
     for i in 0..tables.m {
-        keys[i] = keys::digits(&tables.levels, tables.n, found.best[i], columns);
+        keys[i] = keys::digits(tables, found.best[i], columns);
     }
     let mut out = found;
     out.keys = Some(keys);
@@ -116,7 +117,7 @@ fn common(a: [RowNumber; 8], b: [RowNumber; 8], count: usize) -> u8
 // What was found, where the arrangement by a row order equals the best's: they show a symmetry, and the search goes back to where the
 // two row orders part.
 pub fn matched(tables: &GridTables, rows: [RowNumber; 8], found: Found) -> Found
-    requires { (tables.now.m ≤ 8) × IsPadded 8 tables.now.m (rows_of rows) × IsPadded 8 tables.now.m (rows_of found.best) × AreKnown tables.now found.symmetries × SameRows tables.now found.best rows }
+    requires { IsPadded 8 tables.now.m (rows_of rows) × IsPadded 8 tables.now.m (rows_of found.best) × AreKnown tables.now found.symmetries × SameRows tables.now found.best rows }
     ensures { Matched tables.now.m tables.now.n tables.now.grid.now (rows_of rows) found result }
 {
     let best = found.best;
@@ -135,11 +136,10 @@ pub fn reached(tables: &GridTables, node: Node, found: Found) -> Found
     if !node.fresh {
         return matched(tables, rows, found);
     }
-    let after = node.after;
     let mut out = found;
     out.best = rows;
-    out.after = after;
-    out.apart = columns::total(after);
+    out.after = node.after;
+    out.apart = node.after.total();
     if !tables.is_two() {
         out.keys = None;
     }

@@ -7,35 +7,32 @@ ghost use Rattle.search.specs.ColumnLists.{column_at};
 ghost use Rattle.search.specs.Tables.{entry, RowKeys};
 ghost use Rattle.search.specs.Keys.{Lowest, WithKey, RowsWithin};
 
-use crate::columns;
-use crate::columns::ColumnList;
+use crate::columns::{ColumnList, ColumnPlaces};
 use crate::row_sets::RowSet;
+use crate::tables::GridTables;
 use permutations::rows::RowNumber;
 
 // A row's levels in an order of the columns, as a number to base 16.
-pub fn digits(levels: &[u8; 128], n: usize, row: RowNumber, columns: ColumnList) -> u64
-    requires { (row.0 < 8) × (n ≤ 16) × ((i : ℕ) → slice_index levels.now i ≤ 15) }
-    ensures { result ≡ number n (λ j. entry levels.now row.0 (column_at columns.0 j)) }
+pub fn digits(tables: &GridTables, row: RowNumber, columns: ColumnList) -> u64
+    requires { row.0 < 8 }
+    ensures { result ≡ number tables.now.n (λ j. entry tables.now.levels row.0 (column_at columns.0 j)) }
 {
-    let start = row.0 as usize * 16;
-    let mut number = 0u64;
-    for j in 0..n {
-        let column = columns.column_at(j);
-        number = 16 * number + levels[start + column.0 as usize] as u64;
+    let mut number = 0;
+    for j in 0..tables.n {
+        number = 16 * number + u64::from(tables.level(row, columns.column_at(j)));
     }
     number
 }
 
 // For each row of two values the sum of its higher ones, each 2 to the power of how many columns come after its own.
-pub fn row_keys(bits: &[u16; 128], after: [u8; 16]) -> [u16; 8]
-    requires { ((i : ℕ) → slice_index bits.now i ≤ 1) × ((c : ℕ) → slice_index after c ≤ 15) × (sum_to 16 (λ c. 2 ^ slice_index after c) < 65536) }
-    ensures { RowKeys bits.now after result }
+pub fn row_keys(bits: &[u16; 128], places: &ColumnPlaces) -> [u16; 8]
+    requires { ((i : ℕ) → slice_index bits.now i ≤ 1) × (sum_to 16 (λ c. 2 ^ slice_index places.now.counts c) < 65536) }
+    ensures { RowKeys bits.now places.now.counts result }
 {
     let mut out = [0u16; 8];
     for c in 0..16 {
-        let power = after[c] as u16;
         for r in 0..8 {
-            out[r] += bits[c * 8 + r] << power;
+            out[r] += bits[c * 8 + r] << places.counts[c];
         }
     }
     out
@@ -58,10 +55,12 @@ pub fn with_key(keys: &[u16; 8], rows: [RowNumber; 8], m: usize, k: usize, key: 
     requires { (k ≤ m) × (m ≤ 8) × RowsWithin (map row_number rows) }
     ensures { WithKey m k (map row_number rows) keys.now key result.bytes }
 {
-    let mut out = 0u64;
+    let mut out = RowSet::empty();
     for t in k..m {
         let row = rows[t];
-        out |= ((keys[row.0 as usize] == key) as u64) << (8 * row.0 as u64 + 7);
+        if keys[row.0 as usize] == key {
+            out = out.with(row);
+        }
     }
-    RowSet { bytes: out }
+    out
 }

@@ -3,13 +3,13 @@ ghost use Rattle.std.specs.Prelude.{◌≡◌, ℕ, ◌-◌, ◌<◌, ◌≤◌,
 ghost use Rattle.permutations.specs.Permutations.{swapped};
 ghost use Rattle.branches.specs.SortedRows.{After, Places, Refined};
 ghost use Rattle.search.specs.ColumnLists.{Lists};
-ghost use Rattle.search.specs.Tables.{entry, is_two, HasTables};
+ghost use Rattle.search.specs.Tables.{entry, is_two};
 ghost use Rattle.search.specs.Search.{rows_of, IsNode, Leaves, GivesNext, Deeper};
 
-use crate::columns::ColumnList;
+use crate::columns::{ColumnList, ColumnPlaces};
 use crate::row_sets::RowSet;
 use crate::tables::GridTables;
-use crate::{columns, keys, sifting};
+use crate::{keys, sifting};
 use permutations::rows::RowNumber;
 
 // The first `placed` rows of the order are placed, and `rest` are the others; `after` holds how many columns come after each. What is
@@ -17,7 +17,7 @@ use permutations::rows::RowNumber;
 #[derive(Clone, Copy)]
 pub struct Node {
     pub rows: [RowNumber; 8],
-    pub after: [u8; 16],
+    pub after: ColumnPlaces,
     pub rest: RowSet,
     pub placed: usize,
     pub fresh: bool,
@@ -27,7 +27,7 @@ pub struct Node {
 #[derive(Clone, Copy)]
 pub struct Refinement {
     pub row: RowNumber,
-    pub after: [u8; 16],
+    pub after: ColumnPlaces,
 }
 
 // The rows that give the least next row, and its key; and the refinement by one of the rows, where it was made for the key. The key is 0
@@ -44,7 +44,7 @@ fn by_keys(tables: &GridTables, node: Node) -> Candidates
     requires { IsNode tables.now node × (is_two tables.now.low ≡ true) }
     ensures { GivesNext tables.now node result }
 {
-    let keys = keys::row_keys(&tables.bits, node.after);
+    let keys = keys::row_keys(&tables.bits, &node.after);
     let least = keys::lowest(&keys, node.rows, tables.m, node.placed);
     Candidates {
         rows: keys::with_key(&keys, node.rows, tables.m, node.placed, least),
@@ -54,14 +54,14 @@ fn by_keys(tables: &GridTables, node: Node) -> Candidates
 }
 
 // The columns by how many come after each.
-fn columns_at(n: usize, placed: usize, after: [u8; 16]) -> ColumnList
-    requires { (n ≤ 16) × After n after × (placed ≡ 0 → (c : ℕ) → c < n → slice_index after c ≡ 16 - n) }
-    ensures { Lists n after result.0 }
+fn columns_at(n: usize, placed: usize, places: &ColumnPlaces) -> ColumnList
+    requires { (n ≤ 16) × After n places.now.counts × (placed ≡ 0 → (c : ℕ) → c < n → slice_index places.now.counts c ≡ 16 - n) }
+    ensures { Lists n places.now.counts result.0 }
 {
     if placed == 0 {
         return ColumnList::own();
     }
-    columns::listed(n, after)
+    places.listed(n)
 }
 
 // The rows that sifting leaves.
@@ -72,8 +72,8 @@ fn left(tables: &GridTables, node: Node) -> RowSet
     if tables.m - node.placed == 1 {
         return node.rest;
     }
-    let columns = columns_at(tables.n, node.placed, node.after);
-    sifting::sifted(&tables.words, tables.n, columns, node.after, node.rest)
+    let columns = columns_at(tables.n, node.placed, &node.after);
+    sifting::sifted(tables, columns, &node.after, node.rest)
 }
 
 // The rows that sifting leaves, in any grid, and the key of the least next row where it is held against the best's.
@@ -90,11 +90,11 @@ fn by_sifting(tables: &GridTables, node: Node) -> Candidates
         };
     }
     let row = rows.first();
-    let after = columns::refined(&tables.levels, tables.n, row, node.after);
-    let columns = columns::listed(tables.n, after);
+    let after = node.after.refined(tables, row);
+    let columns = after.listed(tables.n);
     Candidates {
         rows,
-        key: keys::digits(&tables.levels, tables.n, row, columns),
+        key: keys::digits(tables, row, columns),
         made: Some(Refinement { row, after }),
     }
 }
@@ -112,13 +112,18 @@ pub fn next_rows(tables: &GridTables, node: Node) -> Candidates
 }
 
 // How many columns come after each with one row more placed.
-fn refined_by(tables: &GridTables, after: [u8; 16], next: Candidates, row: RowNumber) -> [u8; 16]
-    requires { HasTables tables.now × (row.0 < 8) × Places tables.now.n after × IfSome next.made (λ made. Refined after (entry tables.now.levels made.row.0) made.after) }
-    ensures { Refined after (entry tables.now.levels row.0) result }
+fn refined_by(
+    tables: &GridTables,
+    after: &ColumnPlaces,
+    next: Candidates,
+    row: RowNumber,
+) -> ColumnPlaces
+    requires { (row.0 < 8) × Places tables.now.n after.now.counts × IfSome next.made (λ made. Refined after.now.counts (entry tables.now.levels made.row.0) made.after.counts) }
+    ensures { Refined after.now.counts (entry tables.now.levels row.0) result.counts }
 {
     match next.made {
         Some(made) if made.row.0 == row.0 => made.after,
-        _ => columns::refined(&tables.levels, tables.n, row, after),
+        _ => after.refined(tables, row),
     }
 }
 
@@ -146,7 +151,7 @@ pub fn deeper(
 {
     Node {
         rows: exchanged(node.rows, node.placed, t),
-        after: refined_by(tables, node.after, next, row),
+        after: refined_by(tables, &node.after, next, row),
         rest: node.rest.without(row),
         placed: node.placed + 1,
         fresh,

@@ -1,20 +1,20 @@
 // The orders of the least arrangement.
 ghost use Rattle.std.specs.Prelude.{◌≡◌, ◌*◌, ◌≤◌, true, length};
 ghost use Rattle.permutations.specs.Lists.{tabulate};
-ghost use Rattle.permutations.specs.Numbered.{Lists};
+ghost use Rattle.permutations.specs.Columns.{ListsColumns};
 ghost use Rattle.branches.specs.Keys.{Small};
 ghost use Rattle.search.specs.ColumnLists.{column_at};
-ghost use Rattle.search.specs.Tables.{is_two, HasTables};
+ghost use Rattle.search.specs.Tables.{is_two};
 ghost use Rattle.search.specs.Search.{keys_of, is_ready, Stands, Finds};
 ghost use Rattle.search.specs.Orders.{LeastOrders};
 
-use crate::columns::ColumnList;
+use crate::columns::{ColumnList, ColumnPlaces};
 use crate::found::Found;
 use crate::node::Node;
 use crate::row_sets::RowSet;
 use crate::symmetries::KnownSymmetries;
 use crate::tables::GridTables;
-use crate::{columns, placing, settled};
+use crate::{placing, settled};
 use permutations::columns::{ColumnNumber, ColumnPermutation};
 use permutations::rows::{RowNumber, RowPermutation};
 
@@ -30,7 +30,7 @@ fn begun(tables: &GridTables, node: Node, found: Found) -> Found
     requires { Stands tables.now node found × (node.placed ≡ 0) }
     ensures { Finds tables.now node found result }
 {
-    if 0 < tables.m && settled::is_settled(tables, 0, node.after, found.apart) {
+    if 0 < tables.m && settled::is_settled(tables, 0, &node.after, found.apart) {
         settled::completed(tables, node, found)
     } else {
         placing::place(tables, node, found)
@@ -39,7 +39,7 @@ fn begun(tables: &GridTables, node: Node, found: Found) -> Found
 
 // The columns of a list.
 fn columns_of(list: ColumnList, n: usize) -> ColumnPermutation
-    ensures { Lists (tabulate 0 16 (column_at list.0)) n result }
+    ensures { ListsColumns (tabulate 0 16 (column_at list.0)) n result }
 {
     let mut at = [ColumnNumber(0); 16];
     for (j, column) in at.iter_mut().enumerate() {
@@ -57,12 +57,11 @@ fn first_keys(tables: &GridTables) -> Option<[u64; 8]>
 
 // The orders of the least arrangement, by the grid's tables.
 fn searched(tables: &GridTables) -> Orders
-    requires { HasTables tables.now }
     ensures { LeastOrders tables.now.m tables.now.n tables.now.grid.now result }
 {
     let identity = RowPermutation::identity(tables.m);
     let rows = identity.at;
-    let after = columns::first_places(tables.n);
+    let after = ColumnPlaces::first(tables.n);
     let node = Node {
         rows,
         after,
@@ -84,7 +83,7 @@ fn searched(tables: &GridTables) -> Orders
         apart: settled::ALL_PAIRS,
     };
     let found = begun(tables, node, start);
-    let list = columns::listed(tables.n, found.after);
+    let list = found.after.listed(tables.n);
     let at = found.best;
     Orders {
         rows: RowPermutation { at, size: tables.m },

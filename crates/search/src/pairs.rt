@@ -1,9 +1,8 @@
 // Pairs of columns by which one row covers another.
 ghost use Rattle.std.specs.Prelude.{◌≡◌, ◌<◌, true};
-ghost use Rattle.search.specs.ColumnLists.{LevelWords};
-ghost use Rattle.search.specs.RowSets.{IsRowSet, HasRow};
+ghost use Rattle.search.specs.RowSets.{HasRow};
 ghost use Rattle.search.specs.Domination as spec;
-ghost use Rattle.search.specs.Domination.{Crossed, Oriented, NoneHigher, Tried, Ascend, IsPair};
+ghost use Rattle.search.specs.Domination.{Crossed, Oriented, NoneHigher, Tried, Ascend};
 
 use crate::row_sets::RowSet;
 use crate::tables::GridTables;
@@ -32,13 +31,14 @@ pub struct RowPair<'a> {
     pub others: RowSet,
     pub first: RowNumber,
     pub second: RowNumber,
+    pub ghost within: { (first.0 < 8) × (second.0 < 8) },
 }
 
 impl RowPair<'_> {
     // Whether the rows differ in column c, no row placed tells c from d, and the first has in c what the second has in d, and the
     // other way round.
     pub fn is_crossed(&self, c: ColumnNumber, d: ColumnNumber) -> bool
-        requires { IsPair self.now × (c.0 < 16) × (d.0 < 16) }
+        requires { (c.0 < 16) × (d.0 < 16) }
         ensures { result ≡ true → Crossed self.now.tables.now.levels self.now.after.now self.now.first.0 self.now.second.0 c.0 d.0 }
     {
         let tables = self.tables;
@@ -56,7 +56,7 @@ impl RowPair<'_> {
 
     // The two columns, that in which the second row has the lower level first.
     pub fn oriented(&self, c: ColumnNumber, d: ColumnNumber) -> ColumnPair
-        requires { IsPair self.now × (c.0 < 16) × (d.0 < 16) }
+        requires { (c.0 < 16) × (d.0 < 16) }
         ensures { Oriented self.now.tables.now.levels self.now.second.0 c.0 d.0 result.low.0 result.high.0 }
     {
         if self.tables.level(self.second, d) < self.tables.level(self.second, c) {
@@ -68,7 +68,7 @@ impl RowPair<'_> {
 
     // Whether no other row has a higher level in column d than in c.
     fn none_higher(&self, c: ColumnNumber, d: ColumnNumber) -> bool
-        requires { IsPair self.now × (c.0 < 16) × (d.0 < 16) }
+        requires { (c.0 < 16) × (d.0 < 16) }
         ensures { result ≡ true → NoneHigher self.now.tables.now.words (HasRow self.now.others.bytes) c.0 d.0 }
     {
         let words = &self.tables.words;
@@ -78,7 +78,7 @@ impl RowPair<'_> {
 
     // Which of the rows the other covers, where they exchange their levels in the columns of both pairs, which are those of the second.
     pub fn told(&self, p: ColumnPair, q: ColumnPair) -> Option<Covered>
-        requires { IsPair self.now × (p.low.0 < 16) × (p.high.0 < 16) × (q.low.0 < 16) × (q.high.0 < 16) }
+        requires { (p.low.0 < 16) × (p.high.0 < 16) × (q.low.0 < 16) × (q.high.0 < 16) }
         ensures { Tried self.now.tables.now.words (HasRow self.now.others.bytes) p.low.0 p.high.0 q.low.0 q.high.0 result }
     {
         if self.none_higher(p.low, p.high) {

@@ -22,7 +22,7 @@ fn chosen(tables: &GridTables, node: Node, rows: RowSet, known: u8) -> RowSet
     if rows.is_lone() {
         return rows;
     }
-    domination::undominated(tables, &node.after, node.rest, rows)
+    domination::undominated(tables, &node.after.counts, node.rest, rows)
 }
 
 // Whether a row is followed: it is chosen, and not covered yet.
@@ -51,7 +51,7 @@ pub fn place(tables: &GridTables, node: Node, found: Found) -> Found
     if k == tables.m {
         return found::reached(tables, node, found);
     }
-    if settled::is_settled(tables, k, node.after, found.apart) {
+    if settled::is_settled(tables, k, &node.after, found.apart) {
         return settled::completed(tables, node, found);
     }
     let mut now = found::with_keys(tables, node, found);

@@ -2,11 +2,12 @@
 ghost use Rattle.std.specs.Prelude.{◌≡◌, ℕ, ◌-◌, ◌<◌, ◌≤◌, ◌↔◌, ◌≢◌};
 ghost use Rattle.branches.specs.Sifting.{BlockEnds, Sifts};
 ghost use Rattle.search.specs.RowSets.{lane, IsRowSet, HasRow};
-ghost use Rattle.search.specs.ColumnLists.{end_of, levels_of, LevelWords};
+ghost use Rattle.search.specs.ColumnLists.{end_of, levels_of};
 ghost use Rattle.search.specs.Sifting.{IsLevels, at_most_one, tally, LeadsTo};
 
-use crate::columns::ColumnList;
+use crate::columns::{ColumnList, ColumnPlaces};
 use crate::row_sets::RowSet;
+use crate::tables::GridTables;
 
 // In each byte: 1 where that of the word is at most v, and 0 elsewhere.
 fn at_most(word: u64, v: u64) -> u64
@@ -18,14 +19,14 @@ fn at_most(word: u64, v: u64) -> u64
 }
 
 // In each byte: how many of the columns at places s to e have a level of at most v in this row.
-fn counted(words: &[u64; 16], columns: ColumnList, s: usize, e: usize, v: u64) -> u64
-    requires { (s ≤ e) × (e ≤ 16) × (v ≤ 15) × LevelWords words.now }
-    ensures { (i : ℕ) → i < 8 → lane i result ≡ tally v words.now columns.0 i s (e - s) }
+fn counted(tables: &GridTables, columns: ColumnList, s: usize, e: usize, v: u64) -> u64
+    requires { (s ≤ e) × (e ≤ 16) × (v ≤ 15) }
+    ensures { (i : ℕ) → i < 8 → lane i result ≡ tally v tables.now.words columns.0 i s (e - s) }
 {
-    let mut count = 0u64;
+    let mut count = 0;
     for u in s..e {
         let column = columns.column_at(u);
-        count += at_most(words[column.0 as usize], v);
+        count += at_most(tables.words[column.0 as usize], v);
     }
     count
 }
@@ -41,15 +42,21 @@ fn kept(count: u64, i: u64, left: RowSet) -> RowSet
 }
 
 // Of the rows of `rest`, those whose sorted cells at the places s to e are least.
-fn sifted_block(words: &[u64; 16], columns: ColumnList, s: usize, e: usize, rest: RowSet) -> RowSet
-    requires { (s ≤ e) × (e ≤ 16) × LevelWords words.now × (rest.bytes ≢ 0) }
-    ensures leads { LeadsTo s (e - s) (e - s) (levels_of words.now columns.0 s) rest.bytes result.bytes }
+fn sifted_block(
+    tables: &GridTables,
+    columns: ColumnList,
+    s: usize,
+    e: usize,
+    rest: RowSet,
+) -> RowSet
+    requires { (s ≤ e) × (e ≤ 16) × (rest.bytes ≢ 0) }
+    ensures leads { LeadsTo s (e - s) (e - s) (levels_of tables.now.words columns.0 s) rest.bytes result.bytes }
     ensures some { result.bytes ≢ 0 }
 {
     let mut left = rest;
-    let mut v = 0u64;
+    let mut v = 0;
     let mut i = 0;
-    let mut count = counted(words, columns, s, e, 0);
+    let mut count = counted(tables, columns, s, e, 0);
     // A turn does not always take a place: where no row is kept, the next value is tried.
     while i < e - s {
         if left.is_lone() {
@@ -58,7 +65,7 @@ fn sifted_block(words: &[u64; 16], columns: ColumnList, s: usize, e: usize, rest
         let keep = kept(count, i as u64, left);
         if keep.is_empty() {
             v += 1;
-            count = counted(words, columns, s, e, v);
+            count = counted(tables, columns, s, e, v);
             continue;
         }
         left = keep;
@@ -69,26 +76,25 @@ fn sifted_block(words: &[u64; 16], columns: ColumnList, s: usize, e: usize, rest
 
 // Of the rows of `rest`, those whose next row is least.
 pub fn sifted(
-    words: &[u64; 16],
-    n: usize,
+    tables: &GridTables,
     columns: ColumnList,
-    after: [u8; 16],
+    places: &ColumnPlaces,
     rest: RowSet,
 ) -> RowSet
-    requires { (n ≤ 16) × BlockEnds n (end_of columns.0 after) × LevelWords words.now × (rest.bytes ≢ 0) }
-    ensures sifts { Sifts n (end_of columns.0 after) (levels_of words.now columns.0) (HasRow rest.bytes) n (HasRow result.bytes) }
+    requires { BlockEnds tables.now.n (end_of columns.0 places.now.counts) × (rest.bytes ≢ 0) }
+    ensures sifts { Sifts tables.now.n (end_of columns.0 places.now.counts) (levels_of tables.now.words columns.0) (HasRow rest.bytes) tables.now.n (HasRow result.bytes) }
     ensures some { result.bytes ≢ 0 }
 {
     let mut left = rest;
     let mut s = 0;
     // The step is the width of a block.
-    while s < n {
+    while s < tables.n {
         if left.is_lone() {
             return left;
         }
         let column = columns.column_at(s);
-        let e = 16 - after[column.0 as usize] as usize;
-        left = sifted_block(words, columns, s, e, left);
+        let e = 16 - places.counts[column.0 as usize] as usize;
+        left = sifted_block(tables, columns, s, e, left);
         s = e;
     }
     left

@@ -24,7 +24,7 @@ impl KnownSymmetries {
         first: [RowNumber; 8],
         second: [RowNumber; 8],
     ) -> KnownSymmetries
-        requires { (tables.now.m ≤ 8) × AreKnown tables.now self × IsPadded 8 tables.now.m (rows_of first) × IsPadded 8 tables.now.m (rows_of second) × SameRows tables.now first second }
+        requires { AreKnown tables.now self × IsPadded 8 tables.now.m (rows_of first) × IsPadded 8 tables.now.m (rows_of second) × SameRows tables.now first second }
         ensures { AreKnown tables.now result }
     {
         let kept = self.count as usize;
@@ -70,7 +70,7 @@ impl KnownSymmetries {
 
     // The rows of a set, and their images under the symmetries that move none of the first k rows.
     fn spread(&self, tables: &GridTables, k: usize, rows: [RowNumber; 8], covered: RowSet) -> RowSet
-        requires { (tables.now.m ≤ 8) × (k < tables.now.m) × IsPadded 8 tables.now.m (rows_of rows) × AreKnown tables.now self.now }
+        requires { (k < tables.now.m) × IsPadded 8 tables.now.m (rows_of rows) × AreKnown tables.now self.now }
         ensures { Spreads tables.now.m tables.now.n tables.now.grid.now k (rows_of rows) covered.bytes result.bytes }
     {
         let mut out = covered;
@@ -92,7 +92,7 @@ impl KnownSymmetries {
         covered: RowSet,
         row: RowNumber,
     ) -> RowSet
-        requires { (tables.now.m ≤ 8) × (k < tables.now.m) × IsPadded 8 tables.now.m (rows_of rows) × AreKnown tables.now self.now × (row.0 < 8) }
+        requires { (k < tables.now.m) × IsPadded 8 tables.now.m (rows_of rows) × AreKnown tables.now self.now × (row.0 < 8) }
         ensures { SpreadsWith tables.now.m tables.now.n tables.now.grid.now k (rows_of rows) covered.bytes row.0 result.bytes }
     {
         if self.count == 0 {

@@ -1,7 +1,7 @@
 // The tables of a search.
 ghost use Rattle.std.specs.Prelude.{◌≡◌, ℕ, ◌*◌, ◌<◌, ◌≤◌, length, slice_index};
 ghost use Rattle.branches.specs.Keys.{level, Small};
-ghost use Rattle.search.specs.Tables.{entry, ByRows, ByColumns, ByBits, is_two, HasTables};
+ghost use Rattle.search.specs.Tables.{entry, ByRows, ByColumns, ByBits, Tables, tables-prop, is_two, low_of};
 
 use crate::values;
 use grids::cells;
@@ -19,13 +19,13 @@ pub struct GridTables<'a> {
     pub levels: [u8; 128],
     pub words: [u64; 16],
     pub bits: [u16; 128],
+    pub ghost are_tables: { Tables m n grid.now (is_two low) (low_of low) levels words bits } by { tables-prop m n grid.now (is_two low) (low_of low) levels words bits },
 }
 
 impl<'a> GridTables<'a> {
     // The tables of a grid.
     pub fn of(grid: &'a [u8], m: usize, n: usize) -> GridTables<'a>
         requires { (m ≤ 8) × (n ≤ 16) × (length grid.now ≡ m * n) × Small grid.now }
-        ensures tables { HasTables result }
         ensures rows { result.m ≡ m }
         ensures columns { result.n ≡ n }
         ensures grid { result.grid.now ≡ grid.now }

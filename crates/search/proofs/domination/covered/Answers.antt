@@ -19,7 +19,6 @@ returns-then-not-ascend c = sides-neither _ _ _ _ _ _
 pub by_four-requires : goal.by_four-requires
 by_four-requires c =
     let p = c.requires in (
-      record { words = p.0; first = p.1; second = p.2 },
       c.first_column-c.ensures,
       c.first_column-d.ensures,
       c.first_column-e.ensures,

@@ -3,16 +3,16 @@ use Rattle.search.proofs.ThinnedLaws.{has-below, held_start, held-second, held_f
 use Rattle.search.proofs.domination.held_against.Goals as goal
 
 pub loop-b-init : goal.loop-b-init
-loop-b-init c = held_start _ _ _ _ _ _ _ c.args.left.is_set c.args.against.is_set c.requires.1 c.requires.2 c.requires.3
+loop-b-init c = held_start _ _ _ _ _ _ _ c.args.left.is_set c.args.against.is_set c.requires.0 c.requires.1 c.requires.2
 
 pub covered-requires : goal.covered-requires
-covered-requires c = let p = c.requires in (p.0, has-below _ _ p.1, has-below _ _ c.in-Some.ensures.0)
+covered-requires c = let p = c.requires in (has-below _ _ p.0, has-below _ _ c.in-Some.ensures.0)
 
 pub loop-b-smaller-in-None : goal.loop-b-smaller-in-None
 loop-b-smaller-in-None c = held-less c.loop-b.invariant _ _ c.in-Some.ensures.0 c.in-Some.ensures.1
 
 pub without-requires : goal.without-requires
-without-requires c = has-below _ _ c.requires.1
+without-requires c = has-below _ _ c.requires.0
 
 pub returns-in-Some-First : goal.returns-in-Some-First
 returns-in-Some-First c =

@@ -5,4 +5,4 @@ use Rattle.search.specs.Keys.{Lowest}
 use Rattle.search.proofs.keys.lowest.Given as goal
 
 abbrev pub invariant-loop-t : goal.invariant-loop-t
-invariant-loop-t l = Lowest l.t l.k (l.rows) l.keys l.least
+invariant-loop-t l = Lowest l.t l.k (map row_number l.rows) l.keys l.least

@@ -13,14 +13,14 @@ overflow_add-out-in-loop-r c =
     omega (
       arith,
       l.invariant.sum.todo l.r (omega arith) (omega arith),
-      shifted-exact c.args.bits.now c.args.after c.requires.0 c.requires.1 col l.r,
-      shifted_fits c.args.bits.now c.args.after c.requires.0 c.requires.2 col l.r (omega arith),
+      shifted-exact c.args.bits.now c.args.places.now.counts c.requires.0 c.args.places.now.small col l.r,
+      shifted_fits c.args.bits.now c.args.places.now.counts c.requires.0 c.requires.1 col l.r (omega arith),
     )
 
 pub loop-r-preserved : goal.loop-r-preserved
 loop-r-preserved c =
     let l = c.loop-r.invariant in
-    summed-cell l _ (omega arith) (shifted-exact c.args.bits.now c.args.after c.requires.0 c.requires.1 _ _)
+    summed-cell l _ (omega arith) (shifted-exact c.args.bits.now c.args.places.now.counts c.requires.0 c.args.places.now.small _ _)
 
 pub returns : goal.returns
 returns c = let l = c.loop-c in let e : l.c ≡ 16 = omega arith in keys-summed _ _ _ (rw e at l.invariant)

@@ -5,4 +5,4 @@ use Rattle.search.specs.Keys.{WithKey}
 use Rattle.search.proofs.keys.with_key.Given as goal
 
 abbrev pub invariant-loop-t : goal.invariant-loop-t
-invariant-loop-t l = WithKey l.t l.k (l.rows) l.keys l.key l.out
+invariant-loop-t l = WithKey l.t l.k (map row_number l.rows) l.keys l.key l.out.bytes

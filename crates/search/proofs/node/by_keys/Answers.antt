@@ -1,12 +1,12 @@
 -- `by_keys` meets its contract: the rows with the least key give the least next row.
 use Rattle.std.proofs.Common.{refl, arith}
-use Rattle.search.proofs.NodeLaws.{keys-next, after_is, powers-within, rows-within}
+use Rattle.search.proofs.NodeLaws.{keys-next, powers-within, rows-within}
 use Rattle.search.proofs.node.by_keys.Goals as goal
 
 pub row_keys-keys-requires : goal.row_keys-keys-requires
 row_keys-keys-requires c =
     let p = c.requires in
-    ((p.0.tables.by_bits p.1).bits, (after_is p.0).small, powers-within p.0)
+    ((p.0.tables.by_bits p.1).bits, powers-within p.0)
 
 pub lowest-least-requires : goal.lowest-least-requires
 lowest-least-requires c =

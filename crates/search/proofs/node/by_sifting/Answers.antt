@@ -12,7 +12,7 @@ returns-then-node c =
 pub refined-after-requires : goal.refined-after-requires
 refined-after-requires c =
     let s = c.requires.0 in
-    (row_within _ _ c.first-row.ensures, s.tables.columns-fit, s.tables.by_rows.small, after_is s)
+    (row_within _ _ c.first-row.ensures, after_is s)
 
 pub listed-columns-requires : goal.listed-columns-requires
 listed-columns-requires c =

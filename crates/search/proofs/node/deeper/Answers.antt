@@ -6,12 +6,7 @@ use Rattle.search.proofs.node.deeper.Goals as goal
 pub refined_by-requires : goal.refined_by-requires
 refined_by-requires c =
     let p = c.requires in
-    (p.0.tables, row_small p.0 _ _ p.3 p.4, after_is p.0, p.1.refined)
-
-pub without-requires : goal.without-requires
-without-requires c =
-    let p = c.requires in
-    row_small p.0 _ _ p.3 p.4
+    (row_small p.0 _ _ p.3 p.4, after_is p.0, p.1.refined)
 
 pub returns : goal.returns
 returns c =

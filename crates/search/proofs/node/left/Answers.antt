@@ -1,5 +1,4 @@
 -- `left` meets its contract: where one row is left it is the least, and else the rows are sifted.
-use Rattle.search.proofs.TallyLaws.{level-words}
 use Rattle.search.proofs.NodeLaws.{rest_some, leaves-lone, list-ends, leaves-sifted, columns-after, columns-first}
 use Rattle.search.proofs.node.left.Goals as goal
 
@@ -14,7 +13,7 @@ columns_at-columns-requires c =
 pub sifted-requires : goal.sifted-requires
 sifted-requires c =
     let s = c.requires in
-    (s.tables.columns-fit, list-ends s _ c.columns_at-columns.ensures, level-words _ _ s.tables.by_rows.small s.tables.by-columns, rest_some s)
+    (list-ends s _ c.columns_at-columns.ensures, rest_some s)
 
 pub returns : goal.returns
 returns c =

@@ -6,4 +6,4 @@ use Rattle.search.proofs.LoopLaws.{FilledTo}
 use Rattle.search.proofs.orders.columns_of.Given as goal
 
 abbrev pub invariant-loop-j : goal.invariant-loop-j
-invariant-loop-j l = (length (l.column-items) ≡ 16) × FilledTo (column_at l.list.0) l.j (l.column-items)
+invariant-loop-j l = (length (map column_number l.column-items) ≡ 16) × FilledTo (column_at l.list.0) l.j (map column_number l.column-items)

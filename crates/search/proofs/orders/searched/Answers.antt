@@ -7,19 +7,21 @@ use Rattle.search.proofs.OrdersLaws.{starting, rows-first, listed-columns, liste
 use Rattle.search.proofs.orders.searched.Goals as goal
 
 pub begun-found-requires : goal.begun-found-requires
+unfolding row_numbers
 begun-found-requires c =
     let e = c.identity-identity.ensures.numbers in
     let r = c.first_rows.ensures in
-    (starting _ _ c.requires e c.first_places-after.ensures (rows-first _ _ _ c.requires.rows_fit e c.first_rows.result.is_set r) refl refl c.first_keys-keys.ensures.0 c.first_keys-keys.ensures.1 refl refl refl refl, refl)
+    (starting _ _ c.args.tables.now.are_tables e c.first-after.ensures (rows-first _ _ _ c.args.tables.now.are_tables.rows_fit e c.first_rows.result.is_set r) refl refl c.first_keys-keys.ensures.0 c.first_keys-keys.ensures.1 refl refl refl refl, refl)
 
 pub listed-list-requires : goal.listed-list-requires
 listed-list-requires c =
-    let n16 = c.requires.columns-fit in
+    let n16 = c.args.tables.now.are_tables.columns-fit in
     (n16, places-after _ _ _ _ _ n16 c.begun-found.ensures.known.places)
 
 pub returns : goal.returns
+unfolding row_numbers
 returns c =
-    let p = c.requires in
+    let p = c.args.tables.now.are_tables in
     let o = c.begun-found.ensures in
     let lists = c.listed-list.ensures in
     let h = c.columns_of.ensures in

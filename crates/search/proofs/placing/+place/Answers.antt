@@ -1,13 +1,12 @@
-use Rattle.std.proofs.Common.{sym, refl, ◌∙◌, inl, inr, arith}
+use Rattle.std.proofs.Common.{sym, ◌∙◌, inl, inr, arith}
 use Rattle.search.proofs.NodeLaws.{standing-node}
-use Rattle.search.proofs.FoundLaws.{after_small}
 use Rattle.search.proofs.PlaceLaws.{cut, outcome-for}
 use Rattle.search.proofs.TurnLaws.{some_next, begun-either, begun-order, begun-equal, begun-copy, turn-first, turn-row, turn-row-below, turn-skip, turn-stands, turn-back, turn-next, turn-all}
 use Rattle.search.proofs.placing.+place.Goals as goal
 use Rattle.search.proofs.placing.+place.Goals.{then-is_written, else-is_written, then-is_followed+else-now-k, else-is_followed}
 
 pub is_settled-requires : goal.is_settled-requires
-is_settled-requires t c = let s = c.requires in (s.placed-fits, after_small s.tables.columns-fit s.places)
+is_settled-requires t c = c.requires.placed-fits
 
 pub returns-then-is_cut : goal.returns-then-is_cut
 returns-then-is_cut t c =
@@ -24,7 +23,7 @@ matched-requires t c =
     begun-either {old = c.args.found} ready.stands (omega (arith, s.placed-fits, c.if-k-tables.false)) c.next_rows-next.ensures ready.best ready.ready c.key-known.ensures c.is_cut.ensures c.if-is_cut.false c.is_lower-fresh.ensures c.is_written.ensures {now = c.if-is_written.now}
     (elim c.if-is_written.branch [ then-is_written w ↦ inl (w.if-is_written.true, w.now-is ∙ w.with_key-now.ensures) | else-is_written w ↦ inr (w.if-is_written.false, w.now-is) ]) in
     let last = c.is_last.ensures c.if-is_last.true in
-    (h.stands.tables.rows_fit, h.stands.rows, begun-order h last.0 last.1, (h.following 0).symmetries, begun-equal h last.0 last.1)
+    (h.stands.rows, begun-order h last.0 last.1, (h.following 0).symmetries, begun-equal h last.0 last.1)
 
 pub returns-then-is_last : goal.returns-then-is_last
 returns-then-is_last t c =
@@ -78,7 +77,7 @@ pub covered_with-covered-requires : goal.covered_with-covered-requires
 covered_with-covered-requires t c =
     let h = c.loop-t.invariant.0 in
     let s = h.stands in
-    (s.tables.rows_fit, h.within, s.rows, c.place-now.ensures.symmetries, turn-row-below c.loop-t-test.true h)
+    (h.within, s.rows, c.place-now.ensures.symmetries, turn-row-below c.loop-t-test.true h)
 
 pub loop-t-preserved : goal.loop-t-preserved
 loop-t-preserved t c =

@@ -1,5 +1,4 @@
 -- `chosen` meets its contract: a set is as good as itself, and what is left of it, once covered rows are taken, is as good too.
-use Rattle.search.proofs.TallyLaws.{level-words}
 use Rattle.search.proofs.ThinnedLaws.{thinned-thins}
 use Rattle.search.proofs.TurnLaws.{thins-itself, node-left}
 use Rattle.search.proofs.placing.chosen.Goals as goal
@@ -9,11 +8,6 @@ returns-then-known-ne0 c = thins-itself c.args.rows.is_set
 
 pub returns-then-is_lone : goal.returns-then-is_lone
 returns-then-is_lone c = thins-itself c.args.rows.is_set
-
-pub undominated-requires : goal.undominated-requires
-undominated-requires c =
-    let s = c.requires in
-    (level-words _ _ s.0.tables.by_rows.small s.0.tables.by-columns)
 
 pub returns : goal.returns
 returns c =

@@ -7,10 +7,10 @@ use Rattle.search.proofs.sifting.sifted.Given as goal
 
 abbrev pub invariant-loop-s : goal.invariant-loop-s
 invariant-loop-s l =
-    (l.s ≤ l.n)
-    × Starts (end_of l.columns.0 l.after) l.s
+    (l.s ≤ l.tables.n)
+    × Starts (end_of l.columns.0 l.places.counts) l.s
     × (l.left.bytes ≡ 0 → ⊥)
-    × Sifts l.n (end_of l.columns.0 l.after) (levels_of l.words l.columns.0) (HasRow l.initial.left.bytes) l.s (HasRow l.left.bytes)
+    × Sifts l.tables.n (end_of l.columns.0 l.places.counts) (levels_of l.tables.words l.columns.0) (HasRow l.initial.left.bytes) l.s (HasRow l.left.bytes)
 
 abbrev pub decreases-loop-s : goal.decreases-loop-s
-decreases-loop-s l = l.n - l.s
+decreases-loop-s l = l.tables.n - l.s

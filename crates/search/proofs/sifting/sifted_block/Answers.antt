@@ -1,6 +1,6 @@
 use Rattle.std.proofs.Common.{◌≡◌, ◌+◌, ◌-◌, ◌<◌, ◌∙◌, arith, rules}
 use Rattle.search.specs.ColumnLists.{levels_of}
-use Rattle.search.proofs.TallyLaws.{tally-is, levels-cap}
+use Rattle.search.proofs.TallyLaws.{tally-is, levels-cap, level-words}
 use Rattle.search.proofs.SiftedLaws.{going_start, going-keep, going-skip, going-low, going-lone, at-most-le}
 use Rattle.search.proofs.sifting.sifted_block.Goals as goal
 
@@ -10,8 +10,8 @@ loop-i-init c =
     let pre = c.requires in (
       omega arith,
       omega arith,
-      (λ x l. c.counted-count.ensures x l ∙ tally-is 0 a.words.now a.columns.0 x a.s (a.e - a.s)),
-      going_start _ _ _ _ c.args.rest.is_set pre.3,
+      (λ x l. c.counted-count.ensures x l ∙ tally-is 0 a.tables.now.words a.columns.0 x a.s (a.e - a.s)),
+      going_start _ _ _ _ c.args.rest.is_set pre.2,
     )
 
 pub returns-then-is_lone : goal.returns-then-is_lone
@@ -24,7 +24,7 @@ kept-keep-requires c =
     let l = c.loop-i in
     let a = c.args in (
       omega (arith, c.requires.1),
-      (λ x b. omega (arith, l.invariant.2 x b, at-most-le (a.e - a.s) (levels_of a.words.now a.columns.0 a.s x) l.v, c.requires.1)),
+      (λ x b. omega (arith, l.invariant.2 x b, at-most-le (a.e - a.s) (levels_of a.tables.now.words a.columns.0 a.s x) l.v, c.requires.1)),
     )
 
 pub counted-count-requires-then-is_empty : goal.counted-count-requires-then-is_empty
@@ -34,8 +34,8 @@ counted-count-requires-then-is_empty c =
     let k = c.kept-keep in
     let z : k.result.bytes ≡ 0 = search rules in
     let iw : l.i < a.e - a.s = omega arith in
-    let low : l.v < 15 = going-low _ _ _ _ _ _ _ _ _ iw l.invariant.3 k.ensures l.invariant.2 z (levels-cap a.words.now a.columns.0 a.s c.requires.2) in
-    (c.requires.0, c.requires.1, omega arith, c.requires.2)
+    let low : l.v < 15 = going-low _ _ _ _ _ _ _ _ _ iw l.invariant.3 k.ensures l.invariant.2 z (levels-cap a.tables.now.words a.columns.0 a.s (level-words _ _ a.tables.now.are_tables.by_rows.small a.tables.now.are_tables.by-columns)) in
+    (c.requires.0, c.requires.1, omega arith)
 
 pub loop-i-smaller-then-is_empty : goal.loop-i-smaller-then-is_empty
 loop-i-smaller-then-is_empty c =
@@ -44,7 +44,7 @@ loop-i-smaller-then-is_empty c =
     let k = c.kept-keep in
     let z : k.result.bytes ≡ 0 = search rules in
     let iw : l.i < a.e - a.s = omega arith in
-    let low : l.v < 15 = going-low _ _ _ _ _ _ _ _ _ iw l.invariant.3 k.ensures l.invariant.2 z (levels-cap a.words.now a.columns.0 a.s c.requires.2) in
+    let low : l.v < 15 = going-low _ _ _ _ _ _ _ _ _ iw l.invariant.3 k.ensures l.invariant.2 z (levels-cap a.tables.now.words a.columns.0 a.s (level-words _ _ a.tables.now.are_tables.by_rows.small a.tables.now.are_tables.by-columns)) in
     omega arith
 
 pub loop-i-preserved-then-is_empty : goal.loop-i-preserved-then-is_empty
@@ -54,10 +54,10 @@ loop-i-preserved-then-is_empty c =
     let k = c.kept-keep in
     let z : k.result.bytes ≡ 0 = search rules in
     let iw : l.i < a.e - a.s = omega arith in
-    let low : l.v < 15 = going-low _ _ _ _ _ _ _ _ _ iw l.invariant.3 k.ensures l.invariant.2 z (levels-cap a.words.now a.columns.0 a.s c.requires.2) in (
+    let low : l.v < 15 = going-low _ _ _ _ _ _ _ _ _ iw l.invariant.3 k.ensures l.invariant.2 z (levels-cap a.tables.now.words a.columns.0 a.s (level-words _ _ a.tables.now.are_tables.by_rows.small a.tables.now.are_tables.by-columns)) in (
       l.invariant.0,
       omega arith,
-      (λ x b. c.counted-count-then-is_empty.ensures x b ∙ tally-is (l.v + 1) a.words.now a.columns.0 x a.s (a.e - a.s)),
+      (λ x b. c.counted-count-then-is_empty.ensures x b ∙ tally-is (l.v + 1) a.tables.now.words a.columns.0 x a.s (a.e - a.s)),
       going-skip _ _ _ _ _ _ _ _ _ iw l.invariant.3 k.ensures l.invariant.2 z,
     )
 

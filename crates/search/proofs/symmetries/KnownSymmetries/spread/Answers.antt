@@ -9,20 +9,20 @@ loop-s-init c = spreads-refl _ _ _ _ _ _ c.args.covered.is_set
 pub fixes-requires : goal.fixes-requires
 fixes-requires c =
     let z = c.requires in
-    (omega (arith, z.3.few), z.0, omega arith, z.2)
+    (omega (arith, z.2.few), c.args.tables.now.are_tables.rows_fit, omega arith, z.1)
 
 pub images-out-requires : goal.images-out-requires
 images-out-requires c =
     let z = c.requires in
-    (z.0, omega (arith, z.3.few))
+    (c.args.tables.now.are_tables.rows_fit, omega (arith, z.2.few))
 
 pub loop-s-preserved : goal.loop-s-preserved
 loop-s-preserved c =
     let l = c.loop-s in
     let z = c.requires in
-    let y = z.3.each l.s (omega arith) in
+    let y = z.2.each l.s (omega arith) in
     elim c.if-fixes.branch [
-      | then-fixes w ↦ rw w.out-is (spreads-images _ _ _ _ _ _ l.s _ _ _ _ z.0 z.1 z.2 y w.if-fixes.true c.fixes.ensures l.invariant w.images-out.ensures)
+      | then-fixes w ↦ rw w.out-is (spreads-images _ _ _ _ _ _ l.s _ _ _ _ c.args.tables.now.are_tables.rows_fit z.0 z.1 y w.if-fixes.true c.fixes.ensures l.invariant w.images-out.ensures)
       | else-fixes w ↦ rw w.out-is l.invariant
     ]
 

@@ -7,17 +7,17 @@ use Rattle.search.proofs.symmetries.KnownSymmetries.with.Goals as goal
 pub bounds-out-kept : goal.bounds-out-kept
 bounds-out-kept c =
     let z = c.requires in
-    let h = row_below _ c.args.first c.loop-i.i z.0 (omega arith) z.2 in
-    omega (arith, z.1.few)
+    let h = row_below _ c.args.first c.loop-i.i c.args.tables.now.are_tables.rows_fit (omega arith) z.1 in
+    omega (arith, z.0.few)
 
 pub loop-i-preserved : goal.loop-i-preserved
 loop-i-preserved c =
     let l = c.loop-i in
     let a = c.args in
     let z = c.requires in
-    let room : a.self.count < 4 = omega (arith, z.1.few) in (
+    let room : a.self.count < 4 = omega (arith, z.0.few) in (
       rw (map-set row_number)
-          (carrying-next _ _ _ _ _ l.i _ _ _ z.0 room (omega arith) z.2 (row_at a.first l.i) (row_at a.second l.i) l.invariant.0),
+          (carrying-next _ _ _ _ _ l.i _ _ _ c.args.tables.now.are_tables.rows_fit room (omega arith) z.1 (row_at a.first l.i) (row_at a.second l.i) l.invariant.0),
       l.invariant.1,
     )
 
@@ -25,5 +25,5 @@ pub returns : goal.returns
 returns c =
     let l = c.loop-i in
     let z = c.requires in
-    let room : c.args.self.count < 4 = omega (arith, z.1.few) in
-    rw l.invariant.1 (carrying-all _ _ _ _ _ _ _ l.i _ z.0 room (omega arith) z.2 z.3 z.4 z.1 l.invariant.0)
+    let room : c.args.self.count < 4 = omega (arith, z.0.few) in
+    rw l.invariant.1 (carrying-all _ _ _ _ _ _ _ l.i _ c.args.tables.now.are_tables.rows_fit room (omega arith) z.1 z.2 z.3 z.0 l.invariant.0)
