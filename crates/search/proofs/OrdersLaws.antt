@@ -8,11 +8,12 @@
 use Rattle.std.proofs.Common.{◌≡◌, ℕ, ◌-◌, ◌*◌, ◌<◌, ◌≤◌, Bool, true, false, ltb, ◌↔◌, List, length, get_or, take, sym, ap, ◌∙◌, inl, true≢false, arith, length-take-le, get_or-take, le-ltb, lt-ltb}
 use native.Mathlib.Decide.{dec_lt}
 use lib.ListN.{get_or-eq_default}
-use Rattle.permutations.specs.declared.columns.ColumnPermutation.{ColumnPermutation}
+use Rattle.permutations.specs.Columns.{ColumnPermutation}
 use Rattle.permutations.specs.Lists.{tabulate}
 use Rattle.permutations.specs.Permutations.{identity}
 use Rattle.permutations.specs.Padded.{padded}
-use Rattle.permutations.specs.Columns.{column_numbers, IsColumnPermutation, ListsColumns}
+use Rattle.permutations.specs.Columns.{column_numbers, IsColumnPermutation}
+use Rattle.permutations.specs.Numbered.{Lists as Numbers}
 use Rattle.permutations.proofs.ListLaws.{length-tabulate, at-tabulate, tabulate-is, tabulate-ext}
 use Rattle.permutations.proofs.PermutationLaws.{at-identity}
 use Rattle.permutations.proofs.SwapLaws.{identity-whole}
@@ -82,7 +83,7 @@ starting {m} {n} {g} node f tables rows first rest placed fresh keys ready apart
 
 -- ---- the columns
 
-module _ (n l : ℕ) (a : List ℕ) (n16 : n ≤ 16) (lists : Lists n a l) (c : ColumnPermutation) (h : ListsColumns (tabulate 0 16 (column_at l)) n c) where
+module _ (n l : ℕ) (a : List ℕ) (n16 : n ≤ 16) (lists : Lists n a l) (c : ColumnPermutation) (h : Numbers (tabulate 0 16 (column_at l)) n c) where
   number_at : (j : ℕ) → j < 16 → get_or (column_numbers c) j 0 ≡ column_at l j
   number_at j j16 = rw h.numbers (at-tabulate 16 (column_at l) j 0 j16)
 

@@ -8,15 +8,15 @@ use Rattle.permutations.specs.Rows.{row_numbers, IsRowPermutation}
 use Rattle.permutations.specs.Columns.{column_numbers, IsColumnPermutation}
 use Rattle.grids.specs.Grids.{arrangement}
 use Rattle.grids.specs.Least.{least}
-use Rattle.search.specs.declared.orders.Orders.{Orders}
+use Rattle.permutations.specs.declared.orders.Orders.{Orders}
 
-abbrev pub leading_rows : ℕ → ℕ → List ℕ → Orders → List ℕ
+abbrev pub leading_rows : ℕ → ℕ → List ℕ → Orders 8 → List ℕ
 leading_rows k n g o = arrangement k n (row_numbers o.rows) (column_numbers o.columns) g
 
-pub record IsOrders (m n : ℕ) (o : Orders) : Type 0 where
+pub record IsOrders (m n : ℕ) (o : Orders 8) : Type 0 where
   pub rows : IsRowPermutation m o.rows
   pub columns : IsColumnPermutation n o.columns
 
-pub record LeastOrders (m n : ℕ) (g : List ℕ) (o : Orders) : Type 0 where
+pub record LeastOrders (m n : ℕ) (g : List ℕ) (o : Orders 8) : Type 0 where
   pub orders : IsOrders m n o
   pub gives : leading_rows m n g o ≡ least m n g

@@ -1,11 +1,12 @@
 // The orders of the least arrangement.
 ghost use Rattle.std.specs.Prelude.{◌≡◌, ◌*◌, ◌≤◌, true, length};
 ghost use Rattle.permutations.specs.Lists.{tabulate};
-ghost use Rattle.permutations.specs.Columns.{ListsColumns};
+ghost use Rattle.permutations.specs.Numbered.{Lists};
+ghost use Rattle.permutations.specs.Permutations.{identity};
 ghost use Rattle.branches.specs.Keys.{Small};
 ghost use Rattle.search.specs.ColumnLists.{column_at};
 ghost use Rattle.search.specs.Tables.{is_two};
-ghost use Rattle.search.specs.Search.{keys_of, is_ready, Stands, Finds};
+ghost use Rattle.search.specs.Search.{rows_of, keys_of, is_ready, Stands, Finds};
 ghost use Rattle.search.specs.Orders.{LeastOrders};
 
 use crate::columns::{ColumnList, ColumnPlaces};
@@ -15,15 +16,10 @@ use crate::row_sets::RowSet;
 use crate::symmetries::KnownSymmetries;
 use crate::tables::GridTables;
 use crate::{placing, settled};
-use permutations::columns::{ColumnNumber, ColumnPermutation};
+use permutations::columns::ColumnPermutation;
+use permutations::orders::Orders;
 use permutations::rows::{RowNumber, RowPermutation};
-
-// A row order and a column order: the arrangement of a grid by them.
-#[derive(Clone, Copy)]
-pub struct Orders {
-    pub rows: RowPermutation,
-    pub columns: ColumnPermutation,
-}
+use std::array;
 
 // What the search finds from its start: where no row tells columns apart, the rows need only be sorted.
 fn begun(tables: &GridTables, node: Node, found: Found) -> Found
@@ -39,13 +35,9 @@ fn begun(tables: &GridTables, node: Node, found: Found) -> Found
 
 // The columns of a list.
 fn columns_of(list: ColumnList, n: usize) -> ColumnPermutation
-    ensures { ListsColumns (tabulate 0 16 (column_at list.0)) n result }
+    ensures { Lists (tabulate 0 16 (column_at list.0)) n result }
 {
-    let mut at = [ColumnNumber(0); 16];
-    for (j, column) in at.iter_mut().enumerate() {
-        *column = list.column_at(j);
-    }
-    ColumnPermutation { at, size: n }
+    ColumnPermutation::listed(array::from_fn(|j| list.column_at(j).0), n)
 }
 
 // The keys before there is a best: in a grid of two values they are always made.
@@ -55,12 +47,25 @@ fn first_keys(tables: &GridTables) -> Option<[u64; 8]>
     if tables.is_two() { Some([0; 8]) } else { None }
 }
 
+// The rows in their own order.
+fn own_rows() -> [RowNumber; 8]
+    ensures { rows_of result ≡ identity 8 }
+{
+    array::from_fn(|i| RowNumber(i as u8))
+}
+
+// The rows in this order.
+fn rows_as(rows: [RowNumber; 8], m: usize) -> RowPermutation
+    ensures { Lists (rows_of rows) m result }
+{
+    RowPermutation::listed(array::from_fn(|i| rows[i].0), m)
+}
+
 // The orders of the least arrangement, by the grid's tables.
-fn searched(tables: &GridTables) -> Orders
+fn searched(tables: &GridTables) -> Orders<8>
     ensures { LeastOrders tables.now.m tables.now.n tables.now.grid.now result }
 {
-    let identity = RowPermutation::identity(tables.m);
-    let rows = identity.at;
+    let rows = own_rows();
     let after = ColumnPlaces::first(tables.n);
     let node = Node {
         rows,
@@ -84,15 +89,14 @@ fn searched(tables: &GridTables) -> Orders
     };
     let found = begun(tables, node, start);
     let list = found.after.listed(tables.n);
-    let at = found.best;
     Orders {
-        rows: RowPermutation { at, size: tables.m },
+        rows: rows_as(found.best, tables.m),
         columns: columns_of(list, tables.n),
     }
 }
 
 // The orders of the least arrangement.
-pub fn least_orders(grid: &[u8], m: usize, n: usize) -> Orders
+pub fn least_orders(grid: &[u8], m: usize, n: usize) -> Orders<8>
     requires { (m ≤ 8) × (n ≤ 16) × (length grid.now ≡ m * n) × Small grid.now }
     ensures { LeastOrders m n grid.now result }
 {

@@ -6,17 +6,6 @@ ghost use Rattle.search.specs.Tables.{is_two, low_of};
 
 use grids::cells;
 
-// The lower of two values.
-fn lower(a: u8, b: u8) -> u8
-    ensures { (rank result ≤ rank a) × (rank result ≤ rank b) × ((result ≡ a) ⊎ (result ≡ b)) }
-{
-    if cells::rank(b) < cells::rank(a) {
-        b
-    } else {
-        a
-    }
-}
-
 // The lowest value of a grid.
 fn lowest(grid: &[u8]) -> u8
     requires { (0 < length grid.now) × Small grid.now }
@@ -24,18 +13,9 @@ fn lowest(grid: &[u8]) -> u8
 {
     let mut low = grid[0];
     for value in grid {
-        low = lower(low, *value);
+        low = cells::lower(low, *value);
     }
     low
-}
-
-// The higher of two values.
-fn higher(a: u8, b: u8) -> u8 {
-    if cells::rank(a) < cells::rank(b) {
-        b
-    } else {
-        a
-    }
 }
 
 // The highest value of a grid.
@@ -44,7 +24,7 @@ fn highest(grid: &[u8]) -> u8
 {
     let mut high = grid[0];
     for value in grid {
-        high = higher(high, *value);
+        high = cells::higher(high, *value);
     }
     high
 }
