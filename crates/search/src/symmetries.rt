@@ -44,8 +44,7 @@ impl KnownSymmetries {
         requires { (s < 4) × (m ≤ 8) × (k ≤ m) × IsPadded 8 m (rows_of rows) }
         ensures { Fixes (rows_of self.now.maps) s (rows_of rows) k result }
     {
-        for i in 0..k {
-            let row = rows[i];
+        for row in &rows[..k] {
             if self.maps[s * 8 + row.0 as usize].0 != row.0 {
                 return false;
             }

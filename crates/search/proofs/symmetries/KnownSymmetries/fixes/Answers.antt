@@ -1,15 +1,19 @@
-use Rattle.std.proofs.Common.{sym, ◌∙◌, arith}
+use Rattle.std.proofs.Common.{◌<◌, sym, ◌∙◌, arith, get_or-take, length-take}
 use Rattle.search.proofs.SymmetryLaws.{row_at, row_below, fixes-next}
 use Rattle.search.proofs.symmetries.KnownSymmetries.fixes.Goals as goal
 
 pub bounds-self-s : goal.bounds-self-s
 bounds-self-s c =
     let z = c.requires in
-    let h = row_below _ c.args.rows c.loop-i.i z.1 (omega arith) z.3 in
-    omega arith
-
-pub loop-i-preserved : goal.loop-i-preserved
-loop-i-preserved c =
-    let l = c.loop-i in
     let a = c.args in
-    fixes-next _ _ _ l.i _ (row_at a.rows l.i) (sym (row_at a.self.now.maps _) ∙ c.if-self-s.false) l.invariant
+    let i = c.loop-row.row-index in
+    let ik : i < a.k = omega (arith, length-take a.k a.rows) in
+    rw (get_or-take a.k a.rows i (record { 0 = 0 }) ik) (omega (arith, row_below _ a.rows i z.1 (omega arith) z.3))
+
+pub loop-row-preserved : goal.loop-row-preserved
+loop-row-preserved c =
+    let a = c.args in
+    let i = c.loop-row.row-index in
+    let ik : i < a.k = omega (arith, length-take a.k a.rows) in
+    let row = get_or-take a.k a.rows i (record { 0 = 0 }) ik in
+    fixes-next _ _ _ i _ (row_at a.rows i) (sym (row_at a.self.now.maps _) ∙ (rw row at c.if-self-s.false)) c.loop-row.invariant

@@ -3,5 +3,5 @@ use Rattle.search.specs.Search.{rows_of}
 use Rattle.search.proofs.SymmetryLaws.{FixesUpTo}
 use Rattle.search.proofs.symmetries.KnownSymmetries.fixes.Given as goal
 
-abbrev pub invariant-loop-i : goal.invariant-loop-i
-invariant-loop-i l = FixesUpTo (rows_of l.self.maps) l.s (rows_of l.rows) l.i
+abbrev pub invariant-loop-row : goal.invariant-loop-row
+invariant-loop-row l = FixesUpTo (rows_of l.self.maps) l.s (rows_of l.fn.rows) l.row-index
