@@ -1,6 +1,5 @@
 -- The steps of `place`, which follows the rows that can come next one after another.
 --
---   followed-bound      ==  at first, with the candidates that the bound covers
 --   followed-above      ==  past a candidate that the bound covers
 --   followed-repeated   ==  past a row that repeats one before it
 --   followed-self, followed-better  ==  a row is followed from what the rows before it gave, and what that gives
@@ -28,10 +27,9 @@ use Rattle.grids.specs.Grids.{cell, row, OneClass}
 use Rattle.grids.proofs.LeastLaws.{is-least}
 use Rattle.permutations.specs.declared.orders.Orders.{Orders}
 use Rattle.general_search.specs.declared.state.Branch.{Branch}
-use Rattle.general_search.specs.declared.state.Bound.{Bound}
 use Rattle.general_search.specs.declared.state.Found.{Found}
 use Rattle.branches.specs.Branches.{Covers}
-use Rattle.general_search.specs.Search.{leading_rows, row_at, IsOrders, Searching, Candidate, Improves, Bounded, Searched, InCommon, back_to, BranchOutcome, Followed, IsRoot, LeastOrders}
+use Rattle.general_search.specs.Search.{leading_rows, row_at, IsOrders, Searching, Candidate, Improves, Searched, InCommon, back_to, BranchOutcome, Followed, IsRoot, LeastOrders}
 use Rattle.general_search.proofs.BlockLaws.{blocked-ascending, blocked-start}
 use Rattle.branches.proofs.LeadingRows.{leading-is, leading-more}
 use Rattle.general_search.proofs.RepeatedRows.{row-cells}
@@ -64,9 +62,6 @@ placed-last m n g k placed breaks best next out e s c i l = record {
         (covers-lower m n g m (row_numbers next.rows) (leading_rows m n g next) (leading_rows m n g out) (rw e at l)
         (covers-placed m n g (row_numbers next.rows) (column_numbers next.columns) (row_numbers next.rows) (column_numbers next.columns) c.orders.columns.whole
         (rw e at c.ascending) refl))
-
-pub followed-bound : (m n : ℕ) (g : List ℕ) (k : ℕ) (placed : Orders 8) (breaks : List Bool) (best : Orders 8) (b : Bound) → Bounded m n g k placed breaks best b → Followed m n g k b.from placed b.best b.best
-followed-bound m n g k placed breaks best b h = record { improves = improves-refl m n g k b.best h.improves.orders; covers = h.before }
 
 module _ (m n : ℕ) (g : List ℕ) (k t : ℕ) (placed : Orders 8) (breaks : List Bool) (best out : Orders 8) (s : Searching m n g k placed breaks best)
     (h : Followed m n g k t placed best out) where

@@ -6,7 +6,7 @@
 --   candidate-lower     ==  a candidate whose next row is lower improves the best
 --   bound-below, bound-above  ==  a best whose next row is no higher comes no later than the candidate, and the other way round
 --   equal-not-greater   ==  what was found equal was not found greater
---   lesser-less, lesser-not, lesser-is  ==  the lesser of two orders, by the test, and the other way round
+--   lesser-is           ==  the lesser of two orders is the one that was found less
 --   lesser-improves, lesser-lower  ==  the lesser of a candidate and the best improves the best, and comes no later than the candidate
 --   lesser-equal        ==  its next row is the candidate's, unless the candidate was found greater
 use mathlib.Core.Path.{◌≡◌, refl, sym, ◌∙◌}
@@ -122,16 +122,6 @@ module _ (m n : ℕ) (g : List ℕ) (k t : ℕ) (placed : Orders 8) (breaks : Li
           (≼_refl (row_at n g k best)))
 
 -- ---- the lesser of a candidate and the best
-
-pub lesser-less : (found : Ordering) (t : Bool) (next best : Orders 8) → t ≡ is_lt found → t ≡ true → next ≡ lesser_orders found next best
-lesser-less Less t next best e h = refl
-lesser-less Equal t next best e h = absurd (true≢false (sym h ∙ e))
-lesser-less Greater t next best e h = absurd (true≢false (sym h ∙ e))
-
-pub lesser-not : (found : Ordering) (t : Bool) (next best : Orders 8) → t ≡ is_lt found → t ≡ false → best ≡ lesser_orders found next best
-lesser-not Less t next best e h = absurd (true≢false (sym e ∙ h))
-lesser-not Equal t next best e h = refl
-lesser-not Greater t next best e h = refl
 
 pub lesser-is : (found : Ordering) (next best out : Orders 8) → is_lt found ≡ true → out ≡ lesser_orders found next best → out ≡ next
 lesser-is Less next best out h o = o

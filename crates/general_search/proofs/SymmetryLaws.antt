@@ -2,12 +2,11 @@
 --
 --   alike-fewer     ==  a branch that holds a copy of the best is in a larger one that does
 --   alike-covered   ==  a branch that is a copy of one tried before is covered
---   common-none, common-next  ==  counting the rows that two orders begin with in common
+--   common-found    ==  the rows that two orders begin with in common, up to where they are found to part
 --   alike-last      ==  the last row placed gives the best's arrangement: the branch holds a copy of it
 use mathlib.Core.Path.{◌≡◌, sym, ap₂, ◌∙◌}
 use mathlib.Core.List.{List}
-use Prim.Native.Nat.{ℕ, suc, ◌+◌, ◌≤◌, ◌<◌}
-use native.Mathlib.Nat.{not-suc-le-zero}
+use Prim.Native.Nat.{ℕ, suc, ◌≤◌, ◌<◌}
 use native.Mathlib.Decide.{ℕ_discrete}
 use native.Mathlib.Omega.{arith}
 use lib.ListN.{get_or, take}
@@ -22,7 +21,6 @@ use Rattle.permutations.specs.Padded.{IsPadded}
 use Rattle.permutations.specs.Rows.{row_numbers}
 use Rattle.permutations.specs.Columns.{column_numbers}
 use Rattle.grids.specs.Grids.{cell, arrangement}
-use Rattle.grids.proofs.OrderLaws.{agree-next}
 use Rattle.permutations.specs.declared.orders.Orders.{Orders}
 use Rattle.branches.specs.Branches.{Begins, Covers}
 use Rattle.general_search.specs.Search.{leading_rows, IsOrders, Alike, InCommon}
@@ -84,12 +82,6 @@ alike-last m n g k placed next out back km io same e common bm = record {
 }
 
 -- ---- how many rows two orders begin with in common
-
-pub common-none : (a b : List ℕ) (count : ℕ) → InCommon a b count 0
-common-none a b count = record { up_to = omega arith; same = λ i h. absurd (not-suc-le-zero h) }
-
-pub common-next : (a b : List ℕ) (count i : ℕ) → i < count → get_or a i 0 ≡ get_or b i 0 → InCommon a b count i → InCommon a b count (i + 1)
-common-next a b count i ic e c = record { up_to = omega arith; same = agree-next a b i c.same e }
 
 pub common-found : (a b : List ℕ) (count : ℕ) (r : Option ℕ) →
     MatchOption r (AllWithin (λ (i : ℕ). get_or a i 0 ≡ get_or b i 0) (range_with_len 0 count) 0 (length (range_with_len 0 count)))

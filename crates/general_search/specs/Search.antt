@@ -5,7 +5,6 @@
 --   row_at n g k o            ==  its row k
 --   lesser_orders found next best  ==  next, if it was found less; else best
 --   IsOrders m n o           ==  o holds a permutation of m rows and one of n columns
---   EqualRows n g a b r      ==  r tells whether rows a and b are equal
 --   Repeats n g p k t b      ==  b tells whether the row at position t of p equals one at a position from k up to t
 --   Searching m n g k placed breaks best  ==  the search stands so: the first k rows of `placed` are placed, its columns are sorted by them, and `best` begins with the same rows
 --   Candidate m n g k t placed breaks next  ==  `next` places the row at position t as well, and sorts the columns by it
@@ -59,10 +58,6 @@ row_at n g k o = permuted_row n g (get_or (row_numbers o.rows) k 0) (column_numb
 pub record IsOrders (m n : ℕ) (o : Orders 8) : Type 0 where
   pub rows : IsRowPermutation m o.rows
   pub columns : IsColumnPermutation n o.columns
-
-pub record EqualRows (n : ℕ) (g : List ℕ) (a b : ℕ) (r : Bool) : Type 0 where
-  pub yes : r ≡ true → row n g a ≡ row n g b
-  pub no : r ≡ false → row n g a ≡ row n g b → ⊥
 
 pub record Repeats (n : ℕ) (g p : List ℕ) (k t : ℕ) (b : Bool) : Type 0 where
   pub found : b ≡ true → (s : ℕ) × (k ≤ s) × (s < t) × (row n g (get_or p s 0) ≡ row n g (get_or p t 0))

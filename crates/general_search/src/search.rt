@@ -81,17 +81,14 @@ impl Search<'_> {
             breaks: blocks::split(self.grid, self.n, next.rows, k, next.columns, branch.breaks),
         };
         if self.m <= k + 2 {
-            let ended = self.last(&further, out, jumps);
-            return ended;
+            return self.last(&further, out, jumps);
         }
         let low = self.bounded(&further, out);
         let deeper = self.place(&further, low, jumps);
         if deeper.goes_back(k) || self.settled(branch, t, &deeper) {
             return deeper;
         }
-        // a name for the result makes the search faster (docs/DECISIONS.md, "The search")
-        let again = self.place(&further, Bound::unknown(deeper.best, k + 1), false);
-        again
+        self.place(&further, Bound::unknown(deeper.best, k + 1), false)
     }
 
     // The best of the branch, and of the bound's best. The candidates that the bound's best comes before are skipped. Where an

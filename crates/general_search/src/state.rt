@@ -24,7 +24,7 @@ pub struct Branch {
 }
 
 // The best, and what is known of the candidates: those before position `from`, and those that `above` marks, come after it. Where
-// `made` says so, the best is the candidate at `from`.
+// `made` says so, the best is the candidate at `from`; there is a best in any case, so `made` is no Option.
 #[derive(Clone, Copy)]
 pub struct Bound {
     pub best: Orders<8>,

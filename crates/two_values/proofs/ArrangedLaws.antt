@@ -51,7 +51,7 @@ places-first n g p a h = record { size = h.size; holds = λ c c16. h.holds c c16
     go c (no l) = first_past n c (omega arith) ∙ sym ((places-start n g p c).1 (omega arith))
 
 pub starting : (m n : ℕ) (g : List ℕ) (low : ℕ) (x y : List ℕ) (P : RowPermutation) (a : List ℕ) (f : Found) → Tables m n g low x y →
-    Lists (identity 8) m P → FirstPlaces n a → length f.keys ≡ 8 → length f.symmetries ≡ 32 → f.kept ≡ 0 → Standing m n g low x y 0 P a true f
+    Lists (identity 8) m P → FirstPlaces n a → length f.keys ≡ 8 → length f.kept.maps ≡ 4 → f.kept.count ≡ 0 → Standing m n g low x y 0 P a true f
 starting m n g low x y P a f tables lists first keys symmetries kept = record {
   tables = tables;
   placed-fits = omega arith;

@@ -5,20 +5,16 @@
 --   drops-none, drops-twice  ==  marks that stay, and marks dropped twice
 --   drops-one          ==  a mark dropped where a marked row is as good
 --   left-all           ==  all positions may be left
---   left-marks         ==  of the marked rows those that stay so are left
+--   chosen-marks       ==  of the marked rows those that are not dropped are left
 --   none-marked        ==  at first no position is marked
---   marks-none, marks-next  ==  the rows with the least key are marked: none, and with a row more
 use mathlib.Core.Path.{◌≡◌, sym, ◌∙◌}
 use mathlib.Core.List.{List}
 use mathlib.Core.Bool.{Bool, true, false, true≢false}
-use Prim.Native.Nat.{ℕ, ◌+◌, ◌≤◌, ◌<◌}
+use Prim.Native.Nat.{ℕ, ◌≤◌, ◌<◌}
 use native.Mathlib.Decide.{ℕ_discrete, dec_lt}
 use native.Mathlib.Omega.{arith}
 use lib.ListN.{length, get_or, set, replicate, length-set, length-replicate, get_or-replicate, get_or-eq_default}
 use lib.Seq.{get_or-set_same, get_or-set_other}
-use lib.Dec.{eqb}
-use borrow.Author.Tests.{eqb-true}
-use Rattle.std.proofs.Common.{eq-eqb}
 use Rattle.permutations.specs.Rows.{RowPermutation}
 use Rattle.permutations.specs.Rows.{row_numbers, IsRowPermutation}
 use Rattle.permutations.proofs.SwapLaws.{at-whole}
@@ -76,11 +72,11 @@ module _ (m n : ℕ) (g : List ℕ) (k : ℕ) (p : List ℕ) where
     as-good = λ t kt tm h. (t, kt, tm, record { has-least = h; stays = get_or-replicate 8 t true false (omega arith) }, next-same t);
   }
 
-  pub left-marks : (keys : List ℕ) (least : ℕ) (a b : List Bool) → MarksLeast k m p keys least a → Drops m n g k p a b → Left m n g k p keys least b
-  left-marks keys least a b x y = record {
+  pub chosen-marks : (keys : List ℕ) (least : ℕ) (a b : List Bool) → MarksLeast k m p keys least a → Drops m n g k p a b → Left m n g k p keys least b
+  chosen-marks keys least a b x y = record {
     size = y.size;
-    as-good = λ t kt tm e.
-        let u = y.as-good t kt tm (x.every-least t kt tm e) in
+    as-good = λ t kt tm h.
+        let u = y.as-good t kt tm (x.every-least t kt tm h) in
         (u.0, u.1, u.2, record { has-least = x.only-least u.0 (y.fewer u.0 u.3); stays = u.3 }, u.4);
   }
 
@@ -95,32 +91,3 @@ none-marked t = go (dec_lt t 8)
     go : Dec (t < 8) → get_or unmarked t false ≡ false
     go (yes h) = get_or-replicate 8 t false false h
     go (no h) = get_or-eq_default unmarked false (let e : length unmarked ≡ 8 = length-replicate 8 false in omega arith)
-
-module _ (k : ℕ) (p keys : List ℕ) (least : ℕ) where
-  pub marks-none : MarksLeast k k p keys least unmarked
-  marks-none = record {
-    size = length-replicate 8 false;
-    only-least = λ t marked. never (sym (none-marked t) ∙ marked);
-    every-least = λ t kt tk f. absurd (omega arith);
-  }
-
-  pub marks-next : (t r : ℕ) (b : List Bool) → t < 8 → r ≡ get_or p t 0 → MarksLeast k t p keys least b → MarksLeast k (t + 1) p keys least (set b t (eqb (get_or keys r 0) least))
-  marks-next t r b t8 er x = record {
-    size = length-set b t _ ∙ x.size;
-    only-least = λ u marked. only u marked (ℕ_discrete u t);
-    every-least = λ u ku ut f. all u ku ut f (ℕ_discrete u t);
-  }
-    where
-      test : Bool
-      test = eqb (get_or keys r 0) least
-
-      same : get_or (set b t test) t false ≡ test
-      same = get_or-set_same b t test false (omega (arith, x.size))
-
-      only : (u : ℕ) → get_or (set b t test) u false ≡ true → Dec (u ≡ t) → get_or keys (get_or p u 0) 0 ≡ least
-      only u marked (yes f) = rw (f, ← er) (eqb-true _ _ (sym same ∙ rw f at marked))
-      only u marked (no nf) = x.only-least u (sym (get_or-set_other b t u test false nf) ∙ marked)
-
-      all : (u : ℕ) → k ≤ u → u < t + 1 → get_or keys (get_or p u 0) 0 ≡ least → Dec (u ≡ t) → get_or (set b t test) u false ≡ true
-      all u ku ut f (yes h) = rw h (same ∙ eq-eqb _ _ (rw (h, ← er) at f))
-      all u ku ut f (no nh) = get_or-set_other b t u test false nh ∙ x.every-least u ku (omega arith) f

@@ -1,11 +1,11 @@
 -- Laws of a row that is dropped, since the row at another position is over it.
 --
---   loses-none, loses-second, loses-first  ==  no row is dropped, that at the second position is, that at the first is
+--   loses-second, loses-first  ==  the row at the second position is dropped, that at the first is
 --   drops-loser  ==  its mark goes, and a marked row is as good
 use mathlib.Core.Path.{◌≡◌, refl}
 use mathlib.Core.List.{List}
 use mathlib.Core.Bool.{Bool, true, false}
-use Rattle.std.proofs.Common.{None, Some}
+use Rattle.std.proofs.Common.{Some}
 use mathlib.Core.Logic.{◌⊎◌, inl, inr}
 use Prim.Native.Nat.{ℕ, ◌≤◌, ◌<◌}
 use native.Mathlib.Omega.{arith}
@@ -18,9 +18,6 @@ use Rattle.two_values.proofs.DominationLaws.{drops-one}
 use Rattle.two_values.proofs.OverLaws.{over-next}
 
 module _ (y u v a : List ℕ) (n : ℕ) (p : List ℕ) (b : List Bool) (s t : ℕ) where
-  pub loses-none : Loses y u v a n p b s t None
-  loses-none = record { marked = λ j e. absurd (cc); over = λ j e. absurd (cc) }
-
   module _ (r q : ℕ) (er : r ≡ get_or p s 0) (eq : q ≡ get_or p t 0) (marked : get_or b s false ≡ true) (other : get_or b t false ≡ true) where
     pub loses-second : Over y u v a n r q → Loses y u v a n p b s t (Some t)
     loses-second over = record { marked = λ j e. (marked, other); over = λ j e. inl (cc, rw (← er, ← eq) over) }

@@ -67,7 +67,7 @@ pub record Following (m n : ℕ) (g : List ℕ) (low k : ℕ) (p : List ℕ) (fr
   pub uncovered : new ≡ true → (r : ℕ) → get_or covered r false ≡ false
   pub lowering : new ≡ true → fresh ≡ false → least < get_or before.keys k 0
   pub started : new ≡ false → Started m n g low k p fresh before keys picked least t now covered
-  pub symmetries : Symmetries m n g now.symmetries now.kept
+  pub symmetries : Symmetries m n g now.kept.maps now.kept.count
 
 -- whatever else changed, the best, its columns and the numbers of its rows did not
 pub known-still : (m n : ℕ) (g : List ℕ) (low : ℕ) (f r : Found) → r.best ≡ f.best → r.after ≡ f.after → ((i : ℕ) → get_or r.keys i 0 ≡ get_or f.keys i 0) →
@@ -171,7 +171,7 @@ module _ (m n : ℕ) (g : List ℕ) (low : ℕ) (x y : List ℕ) (k : ℕ) (P : 
           let w : key n g low k (row_numbers r.best) ≡ known = rw rk'.best (sym (f.known.keys k km) ∙ sym e) in
           omega arith);
       alike = λ z. let w = rk'.back in absurd (omega arith);
-      symmetries = rw (rk'.symmetries, rk'.kept) s.symmetries;
+      symmetries = rw rk'.kept s.symmetries;
     }
       where
         f : Follows m n g low k p before
@@ -194,7 +194,7 @@ module _ (m n : ℕ) (g : List ℕ) (low : ℕ) (x y : List ℕ) (k : ℕ) (P : 
       uncovered = λ z. zero;
       lowering = λ z w. let v = l.yes z w in omega arith;
       started = started;
-      symmetries = rw (rk'.symmetries, rk'.kept) s.symmetries;
+      symmetries = rw rk'.kept s.symmetries;
     }
       where
         started : new ≡ false → Started m n g low k p fresh before keys picked least k now covered

@@ -21,10 +21,10 @@ use Rattle.two_values.specs.Search.{Symmetries, Follows, Standing, Alike, Outcom
 use Rattle.two_values.proofs.SortedRows.{sorted-agree, sorted-placed}
 
 module _ (m n : ℕ) (g : List ℕ) (low : ℕ) (x y : List ℕ) (P : RowPermutation) (a : List ℕ) (fresh : Bool) (before : Found) (s : Standing m n g low x y m P a fresh before) where
-  pub reached-new : fresh ≡ true → (f : Found) → f.best ≡ P → f.after ≡ a → f.keys ≡ before.keys → f.back ≡ m → f.symmetries ≡ before.symmetries → f.kept ≡ before.kept →
+  pub reached-new : fresh ≡ true → (f : Found) → f.best ≡ P → f.after ≡ a → f.keys ≡ before.keys → f.back ≡ m → f.kept ≡ before.kept →
       Outcome m n g low m (row_numbers P) fresh before f
   unfolding Begins
-  reached-new z f b c k l v w = record {
+  reached-new z f b c k l w = record {
     known = record { rows = rw b s.rows; keys = λ i im. rw (k, b) (s.keys i im); places = rw (b, c) s.places };
     keys-size = rw k s.keys-size;
     leading = ap (λ (o : RowPermutation). sorted_rows m n g (row_numbers o)) b;
@@ -32,11 +32,11 @@ module _ (m n : ℕ) (g : List ℕ) (low : ℕ) (x y : List ℕ) (P : RowPermuta
     from = inr (λ i im. ap (λ (o : RowPermutation). get_or (row_numbers o) i 0) b);
     covers = λ e. sorted-placed m n g (row_numbers P) (row_numbers f.best) (ap (λ (o : RowPermutation). sorted_rows m n g (row_numbers o)) b);
     alike = λ e. absurd (omega arith);
-    symmetries = rw (v, w) s.symmetries;
+    symmetries = rw w s.symmetries;
   }
 
   pub reached-copy : fresh ≡ false → (f : Found) → f.best ≡ before.best → f.after ≡ before.after → f.keys ≡ before.keys → InCommon (row_numbers P) (row_numbers before.best) m f.back →
-      Symmetries m n g f.symmetries f.kept → Outcome m n g low m (row_numbers P) fresh before f
+      Symmetries m n g f.kept.maps f.kept.count → Outcome m n g low m (row_numbers P) fresh before f
   unfolding Begins
   reached-copy z f b c k common symmetries = record {
     known = record { rows = rw b h.known.rows; keys = λ i im. rw (k, b) (h.known.keys i im); places = rw (b, c) h.known.places };

@@ -1,10 +1,9 @@
 -- Steps of the small functions of the search.
 --
---   lowest-one, lowest-next  ==  the least of some numbers: of one, and with a number more
+--   lowest-next    ==  the least of some numbers with a number more
 use mathlib.Core.Path.{◌≡◌, sym, ap, ◌∙◌}
 use mathlib.Core.List.{List}
 use Prim.Native.Nat.{ℕ, min, ◌+◌, ◌≤◌, ◌<◌}
-use native.Mathlib.Nat.{not-suc-le-zero}
 use native.Mathlib.Decide.{ℕ_discrete, dec_lt}
 use native.Mathlib.Omega.{arith}
 use lib.ListN.{get_or}
@@ -14,12 +13,6 @@ use Rattle.two_values.specs.Search.{Lowest}
 
 at_row : (p keys : List ℕ) (t row key : ℕ) → row ≡ get_or p t 0 → key ≡ get_or keys row 0 → get_or keys (get_or p t 0) 0 ≡ key
 at_row p keys t row key e f = ap (λ (i : ℕ). get_or keys i 0) (sym e) ∙ sym f
-
-pub lowest-one : (p keys : List ℕ) (k row key : ℕ) → row ≡ get_or p k 0 → key ≡ get_or keys row 0 → Lowest (k + 1) k p keys key
-lowest-one p keys k row key e f = record { no_more = λ t kt tk. one t (omega arith); reached = (k, omega arith, omega arith, at_row p keys k row key e f) }
-  where
-    one : (t : ℕ) → t ≡ k → key ≤ get_or keys (get_or p t 0) 0
-    one t g = rw g (omega (arith, at_row p keys k row key e f))
 
 module _ (p keys : List ℕ) (k t row key least : ℕ) (e : row ≡ get_or p t 0) (f : key ≡ get_or keys row 0) (kt : k ≤ t) (l : Lowest t k p keys least) where
   lowest-below : key < least → Lowest (t + 1) k p keys key

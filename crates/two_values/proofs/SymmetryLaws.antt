@@ -2,20 +2,15 @@
 --
 --   symmetry-next   ==  a symmetry that moves none of the rows placed carries the branch of a row to that of its image
 --   symmetry-of     ==  two row orders with the same sorted rows give a symmetry
---   symmetry-agree  ==  only the images of the rows matter
---   Carrying p r a kept i b  ==  b is a with the images of the first i rows of p, which r has, written as symmetry `kept`
---   carrying-none, carrying-next, carrying-all  ==  a symmetry written row by row
---   rows-below      ==  the rows placed are below 8
---   FixesUpTo l s p i  ==  the symmetry s of l moves none of the first i rows of p
---   fixes-none, fixes-next, fixes-not, fixes-all  ==  the rows placed compared with their images, one by one
+--   Carrying p r i l  ==  the map l has the images of the first i rows of p, which r has
+--   symmetries-more, symmetries-each  ==  one symmetry more; each of the first maps is one
 --   reached-none, reached-next  ==  the images of the marked rows marked, row by row
---   spreads-refl, spreads-images  ==  what covers the rows marked covers their images
+--   spreads-images  ==  what covers the rows marked covers their images
 --   spreads-marked  ==  what covers the rows marked with one more covers those without it
 use mathlib.Core.Path.{◌≡◌, refl, sym, ap, ◌∙◌}
-use mathlib.Core.List.{List}
-use mathlib.Core.Bool.{Bool, true, false, true≢false}
-use Prim.Native.Nat.{ℕ, suc, ◌+◌, ◌*◌, ◌≤◌, ◌<◌}
-use native.Mathlib.Nat.{not-suc-le-zero}
+use mathlib.Core.List.{List, []}
+use mathlib.Core.Bool.{Bool, true, false}
+use Prim.Native.Nat.{ℕ, suc, ◌+◌, ◌≤◌, ◌<◌}
 use native.Mathlib.Decide.{ℕ_discrete, dec_lt}
 use native.Mathlib.Omega.{arith}
 use lib.ListN.{length, get_or, set, take, length-set}
@@ -23,7 +18,7 @@ use lib.Seq.{get_or-take, get_or-set_same, get_or-set_other}
 use Rattle.permutations.specs.Permutations.{IsPermutation, identity, composed, inverse, swapped}
 use Rattle.permutations.specs.Padded.{IsPadded}
 use Rattle.permutations.proofs.PermutationLaws.{listed, at-composed, identity-permutation, composed-permutation, inverse-permutation, through}
-use Rattle.permutations.proofs.SwapLaws.{at-whole, swapped-whole}
+use Rattle.permutations.proofs.SwapLaws.{swapped-whole}
 use Rattle.grids.specs.Grids.{cell, arrangement}
 use Rattle.grids.proofs.GridLaws.{arrangement-twice}
 use Rattle.branches.specs.Branches.{Covers}
@@ -32,7 +27,8 @@ use Rattle.branches.proofs.BranchLaws.{covers-agree, placed-stay, placed-next}
 use Rattle.branches.proofs.BranchSymmetry.{covers-alike}
 use Rattle.two_values.specs.TwoValues.{column_order, sorted_rows}
 use Rattle.two_values.specs.Search.{Next, IsSymmetry, Symmetries, CoveredRows, Spreads}
-use Rattle.two_values.specs.Symmetries.{Fixes, Reached, reached-marked, reached-image, Images}
+use Rattle.two_values.specs.Symmetries.{Carries, Fixes, Reached, reached-marked, reached-image, Images}
+use Rattle.std.proofs.lemmas.List.{length-take}
 use Rattle.two_values.proofs.SortedRows.{order-permutation}
 
 -- ---- the branches of a row and of its image
@@ -117,102 +113,42 @@ symmetry-of m n g p r f op or e h = record {
   carries = λ i im. ap f (get_or-take m p i 0 im) ∙ h i im ∙ sym (get_or-take m r i 0 im);
 }
 
-pub symmetry-agree : (m n : ℕ) (g : List ℕ) (f h : ℕ → ℕ) → ((x : ℕ) → x < m → h x ≡ f x) → IsSymmetry m n g f → IsSymmetry m n g h
-symmetry-agree m n g f h same y = record {
-  rows = y.rows;
-  columns = y.columns;
-  other-rows = y.other-rows;
-  other-columns = y.other-columns;
-  row-permutation = y.row-permutation;
-  column-permutation = y.column-permutation;
-  other-row-permutation = y.other-row-permutation;
-  other-column-permutation = y.other-column-permutation;
-  gives = y.gives;
-  carries = λ i im. same (get_or y.rows i 0) (y.row-permutation.within i im) ∙ y.carries i im;
-}
+-- ---- a map written row by row
 
--- ---- a symmetry written row by row
+-- the images of the first i rows of p are written
+pub record Carrying (p r : List ℕ) (i : ℕ) (l : List ℕ) : Type 0 where
+  pub size : length l ≡ 8
+  pub carried : (j : ℕ) → j < i → get_or l (get_or p j 0) 0 ≡ get_or r j 0
 
--- of the symmetry `kept`, the images of the first i rows of p are written; the symmetries before it are as they were in a
-pub record Carrying (p r a : List ℕ) (kept i : ℕ) (b : List ℕ) : Type 0 where
-  pub size : length b ≡ 32
-  pub earlier : (j : ℕ) → j < kept * 8 → get_or b j 0 ≡ get_or a j 0
-  pub carried : (j : ℕ) → j < i → get_or b (kept * 8 + get_or p j 0) 0 ≡ get_or r j 0
+-- ---- one symmetry more
 
-pub carrying-none : (p r a : List ℕ) (kept : ℕ) → length a ≡ 32 → Carrying p r a kept 0 a
-carrying-none p r a kept e = record { size = e; earlier = λ j h. refl; carried = λ j h. absurd (not-suc-le-zero h) }
-
-pub carrying-next : (m : ℕ) (p r a : List ℕ) (kept i : ℕ) (b : List ℕ) (x v : ℕ) → m ≤ 8 → kept < 4 → i < m → IsPadded 8 m p →
-    x ≡ get_or p i 0 → v ≡ get_or r i 0 → Carrying p r a kept i b → Carrying p r a kept (i + 1) (set b (kept * 8 + x) v)
-carrying-next m p r a kept i b x v m8 k4 im o ex ev h = record {
-  size = length-set b at v ∙ h.size;
-  earlier = λ j jk. get_or-set_other b at j v 0 (omega arith) ∙ h.earlier j jk;
-  carried = λ j ji. go j ji (ℕ_discrete j i);
-}
+pub symmetries-more : (m n : ℕ) (g p r l : List ℕ) (a b : List (List ℕ)) (count more : ℕ) → IsPadded 8 m p → IsPadded 8 m r → sorted_rows m n g p ≡ sorted_rows m n g r →
+    count < 4 → b ≡ set a count l → more ≡ count + 1 → Symmetries m n g a count → Carries m p r l → Symmetries m n g b more
+symmetries-more m n g p r l a b count more op or e few eb em y h = rw (eb, em) (record { few = omega arith; size = length-set a count l ∙ y.size; each = λ s sc. go s sc (ℕ_discrete s count) })
   where
-    at : ℕ
-    at = kept * 8 + x
+    go : (s : ℕ) → s < count + 1 → Dec (s ≡ count) → IsSymmetry m n g (λ x. get_or (get_or (set a count l) s []) x 0)
+    go s sc (yes z) = rw (z, get_or-set_same a count l [] (omega (arith, y.size))) (symmetry-of m n g p r (λ x. get_or l x 0) op or e h.carries)
+    go s sc (no nz) = rw (get_or-set_other a count s l [] nz) (y.each s (omega arith))
 
-    go : (j : ℕ) → j < i + 1 → Dec (j ≡ i) → get_or (set b at v) (kept * 8 + get_or p j 0) 0 ≡ get_or r j 0
-    go j ji (yes e) = rw (e, ← ex) (get_or-set_same b at v 0 (omega (arith, h.size, ex, at-whole 8 m p o i im)) ∙ ev)
-    go j ji (no ne) =
-        get_or-set_other b at (kept * 8 + get_or p j 0) v 0
-        (λ e.
-        let z : get_or p j 0 ≡ get_or p i 0 = omega (arith, ex, e) in
-        ne (o.permutation.once j i (omega arith) im (get_or-take m p j 0 (omega arith) ∙ z ∙ sym (get_or-take m p i 0 im))))
-        ∙ h.carried j (omega arith)
-
-pub carrying-all : (m n : ℕ) (g p r a : List ℕ) (kept i : ℕ) (b : List ℕ) → m ≤ 8 → kept < 4 → m ≤ i → IsPadded 8 m p → IsPadded 8 m r →
-    sorted_rows m n g p ≡ sorted_rows m n g r → Symmetries m n g a kept → Carrying p r a kept i b → Symmetries m n g b (kept + 1)
-carrying-all m n g p r a kept i b m8 k4 mi op or e y h = record { few = omega arith; size = h.size; each = λ s sk. go s sk (ℕ_discrete s kept) }
-  where
-    go : (s : ℕ) → s < kept + 1 → Dec (s ≡ kept) → IsSymmetry m n g (λ x. get_or b (s * 8 + x) 0)
-    go s sk (yes z) = rw z (symmetry-of m n g p r (λ x. get_or b (kept * 8 + x) 0) op or e (λ j jm. h.carried j (omega arith)))
-    go s sk (no nz) =
-        symmetry-agree m n g (λ x. get_or a (s * 8 + x) 0) (λ x. get_or b (s * 8 + x) 0) (λ x xm. h.earlier (s * 8 + x) (omega arith)) (y.each s (omega arith))
-
--- ---- whether a symmetry moves none of the rows placed
-
-pub rows-below : (m k : ℕ) (p : List ℕ) → m ≤ 8 → k < m → IsPadded 8 m p → (i : ℕ) → i < k → get_or p i 0 < 8
-rows-below m k p m8 km o i ik = omega (arith, at-whole 8 m p o i (omega arith))
-
--- the symmetry s moves none of the first i rows of p
-pub record FixesUpTo (l : List ℕ) (s : ℕ) (p : List ℕ) (i : ℕ) : Type 0 where
-  pub fixed : (j : ℕ) → j < i → get_or l (s * 8 + get_or p j 0) 0 ≡ get_or p j 0
-
-pub fixes-none : (l : List ℕ) (s : ℕ) (p : List ℕ) → FixesUpTo l s p 0
-fixes-none l s p = record { fixed = λ j h. absurd (not-suc-le-zero h) }
-
-pub fixes-next : (l : List ℕ) (s : ℕ) (p : List ℕ) (i x : ℕ) → x ≡ get_or p i 0 → get_or l (s * 8 + x) 0 ≡ x → FixesUpTo l s p i → FixesUpTo l s p (i + 1)
-fixes-next l s p i x e f h = record { fixed = λ j ji. go j ji (ℕ_discrete j i) }
-  where
-    go : (j : ℕ) → j < i + 1 → Dec (j ≡ i) → get_or l (s * 8 + get_or p j 0) 0 ≡ get_or p j 0
-    go j ji (yes z) = rw (z, ← e) f
-    go j ji (no nz) = h.fixed j (omega arith)
-
-pub fixes-not : (l : List ℕ) (s : ℕ) (p : List ℕ) (k : ℕ) → Fixes l s p k false
-fixes-not l s p k = record { fixed = λ e. absurd (true≢false (sym e)) }
-
-pub fixes-all : (l : List ℕ) (s : ℕ) (p : List ℕ) (k i : ℕ) → k ≤ i → FixesUpTo l s p i → Fixes l s p k true
-fixes-all l s p k i ki h = record { fixed = λ e j jk. h.fixed j (omega arith) }
+pub symmetries-each : (m n : ℕ) (g : List ℕ) (l : List (List ℕ)) (count s : ℕ) → Symmetries m n g l count → s < length (take count l) → IsSymmetry m n g (λ x. get_or (get_or (take count l) s []) x 0)
+symmetries-each m n g l count s y sc =
+    let b : s < count = omega (arith, length-take count l) in
+    rw (get_or-take count l s [] b) (y.each s b)
 
 -- ---- the images of the marked rows
 
-pub reached-none : (m : ℕ) (l : List ℕ) (s : ℕ) (a : List Bool) → length a ≡ 8 → Images m l s a a
-reached-none m l s a e = record { size = e; reached = λ x h. reached-marked h }
+pub reached-none : (m : ℕ) (l : List ℕ) (a : List Bool) → length a ≡ 8 → Images m l a a
+reached-none m l a e = record { size = e; reached = λ x h. reached-marked h }
 
-pub reached-next : (m : ℕ) (l : List ℕ) (s : ℕ) (a b : List Bool) (x v : ℕ) → x < m → get_or b x false ≡ true → v ≡ get_or l (s * 8 + x) 0 →
-    Images m l s a b → Images m l s a (set b v true)
-reached-next m l s a b x v xm ne e h = record { size = length-set b v true ∙ h.size; reached = λ y hy. go y hy (ℕ_discrete y v) }
+pub reached-next : (m : ℕ) (l : List ℕ) (a b : List Bool) (x v : ℕ) → x < m → get_or b x false ≡ true → v ≡ get_or l x 0 →
+    Images m l a b → Images m l a (set b v true)
+reached-next m l a b x v xm ne e h = record { size = length-set b v true ∙ h.size; reached = λ y hy. go y hy (ℕ_discrete y v) }
   where
-    go : (y : ℕ) → get_or (set b v true) y false ≡ true → Dec (y ≡ v) → Reached m l s a y
+    go : (y : ℕ) → get_or (set b v true) y false ≡ true → Dec (y ≡ v) → Reached m l a y
     go y hy (yes z) = rw (z, e) (reached-image xm (h.reached x ne))
     go y hy (no nz) = h.reached y (sym (get_or-set_other b v y true false nz) ∙ hy)
 
 -- ---- what covers the rows marked covers their images
-
-pub spreads-refl : (m n : ℕ) (g : List ℕ) (k : ℕ) (p : List ℕ) (a : List Bool) → length a ≡ 8 → Spreads m n g k p a a
-spreads-refl m n g k p a e = record { size = e; covers = λ r c. c }
 
 pub spreads-marked : (m n : ℕ) (g : List ℕ) (k : ℕ) (p : List ℕ) (a : List Bool) (x : ℕ) → x < 8 → length a ≡ 8 → Spreads m n g k p (set a x true) a
 unfolding CoveredRows
@@ -222,10 +158,10 @@ spreads-marked m n g k p a x x8 e = record { size = e; covers = λ r c t kt tm h
     still y h (yes f) = rw f (get_or-set_same a x true false (omega arith))
     still y h (no nf) = get_or-set_other a x y true false nf ∙ h
 
-module _ (m n : ℕ) (g : List ℕ) (k : ℕ) (p l : List ℕ) (s : ℕ) (m8 : m ≤ 8) (km : k < m) (o : IsPadded 8 m p) (y : IsSymmetry m n g (λ x. get_or l (s * 8 + x) 0))
-    (fixed : (i : ℕ) → i < k → get_or l (s * 8 + get_or p i 0) 0 ≡ get_or p i 0) (r : List ℕ) (a : List Bool) (c : CoveredRows m n g k p r a) where
+module _ (m n : ℕ) (g : List ℕ) (k : ℕ) (p l : List ℕ) (m8 : m ≤ 8) (km : k < m) (o : IsPadded 8 m p) (y : IsSymmetry m n g (λ x. get_or l x 0))
+    (fixed : (i : ℕ) → i < k → get_or l (get_or p i 0) 0 ≡ get_or p i 0) (r : List ℕ) (a : List Bool) (c : CoveredRows m n g k p r a) where
   -- the row x, placed next, is covered
-  reached-covered : (x : ℕ) → Reached m l s a x → (t : ℕ) → k ≤ t → t < m → get_or p t 0 ≡ x → Covers m n g (suc k) (swapped p k t) r
+  reached-covered : (x : ℕ) → Reached m l a x → (t : ℕ) → k ≤ t → t < m → get_or p t 0 ≡ x → Covers m n g (suc k) (swapped p k t) r
   unfolding CoveredRows Next
   reached-covered x (reached-marked h) t kt tm e = c t kt tm (rw e h)
   reached-covered x (reached-image {x = v} vm h) t kt tm e =
@@ -240,12 +176,12 @@ module _ (m n : ℕ) (g : List ℕ) (k : ℕ) (p l : List ℕ) (s : ℕ) (m8 : m
           let w : t ≡ i = o.permutation.once t i tm im (get_or-take m p t 0 tm ∙ z ∙ sym (get_or-take m p i 0 im)) in
           absurd (omega arith)
       go i im f (no ik) ih =
-          symmetry-next m n g k p (λ x. get_or l (s * 8 + x) 0) i t m8 km o y fixed (omega arith) im kt tm (rw f (sym e)) r (ih i (omega arith) im f)
+          symmetry-next m n g k p (λ x. get_or l x 0) i t m8 km o y fixed (omega arith) im kt tm (rw f (sym e)) r (ih i (omega arith) im f)
 
-pub spreads-images : (m n : ℕ) (g : List ℕ) (k : ℕ) (p l : List ℕ) (s : ℕ) (test : Bool) (a b c : List Bool) → m ≤ 8 → k < m → IsPadded 8 m p → IsSymmetry m n g (λ x. get_or l (s * 8 + x) 0) →
-    test ≡ true → Fixes l s p k test → Spreads m n g k p a b → Images m l s b c → Spreads m n g k p a c
+pub spreads-images : (m n : ℕ) (g : List ℕ) (k : ℕ) (p l : List ℕ) (test : Bool) (a b c : List Bool) → m ≤ 8 → k < m → IsPadded 8 m p → IsSymmetry m n g (λ x. get_or l x 0) →
+    test ≡ true → Fixes l p k test → Spreads m n g k p a b → Images m l b c → Spreads m n g k p a c
 unfolding CoveredRows
-spreads-images m n g k p l s test a b c m8 km o y e f h i = record {
+spreads-images m n g k p l test a b c m8 km o y e f h i = record {
   size = i.size;
-  covers = λ r cr t kt tm ne. reached-covered m n g k p l s m8 km o y (f.fixed e) r b (h.covers r cr) (get_or p t 0) (i.reached (get_or p t 0) ne) t kt tm refl;
+  covers = λ r cr t kt tm ne. reached-covered m n g k p l m8 km o y (f.fixed e) r b (h.covers r cr) (get_or p t 0) (i.reached (get_or p t 0) ne) t kt tm refl;
 }

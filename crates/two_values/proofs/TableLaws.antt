@@ -6,7 +6,6 @@
 --   table_none, table-cell, table-row  ==  before the first cell, after a cell, after a row
 --   bit_byte, unbit-byte       ==  the test of a cell as a number
 --   byte-most                  ==  a test as a number is at most 1
---   cell-inside                ==  the index of a cell is below the grid's length
 --   cell_bit n g low r c, cell_unbit n g low r c  ==  0 where the cell in row r, column c is `low`, else 1; and 1 less that
 --   columns-table, rows-table  ==  the tables at the end
 use mathlib.Core.Path.{◌≡◌, refl, sym, ap, ◌∙◌}
@@ -19,7 +18,6 @@ use native.Mathlib.Omega.{arith}
 use lib.ListN.{length, get_or, set, replicate, length-set, length-replicate, get_or-replicate, get_or-eq_default}
 use lib.Seq.{get_or-set_same, get_or-set_other}
 use lib.Dec.{eqb}
-use lib.Arith.{digits_lt}
 use borrow.Author.Tests.{lt-ltb, le-ltb}
 use mir.Val.{bool_byte}
 use Rattle.grids.specs.Grids.{cell}
@@ -133,9 +131,6 @@ unbit-byte low v = go (eqb v low)
 pub byte-most : (b : Bool) → bool_byte b ≤ 1
 byte-most true = omega arith
 byte-most false = omega arith
-
-pub cell-inside : (m n i j at : ℕ) (g : List ℕ) → length g ≡ m * n → at ≡ i * n + j → i < m → j < n → at < length g
-cell-inside m n i j at g e q h k = omega (arith, digits_lt h k)
 
 -- ---- the whole tables
 

@@ -7,3 +7,4 @@ pub mod Domination
 pub mod Arranged
 pub mod Settled
 pub mod Nodes
+pub mod Contests

@@ -8,7 +8,7 @@
 --   Marked p keys least b t  ==  the row at position t of p has the least number, and b leaves the position
 --   Left m n g k p keys least b  ==  for each position of p from k on with the least number there is one that b leaves, whose branch is as good
 --   IsSymmetry m n g f   ==  the map f of row numbers carries a row order to another with the same arrangement
---   Symmetries m n g l count  ==  l holds `count` of them, eight numbers each
+--   Symmetries m n g l count  ==  the first `count` maps that l holds are such
 --   CoveredRows m n g k p r l  ==  of the rows that l marks, each branch with one of them placed next is covered by r
 --   Spreads m n g k p a b ==  what covers the rows that a marks covers those that b marks
 --   Follows m n g low k p f ==  all is known of f's best, which begins with the same k rows of cells by another row order
@@ -20,7 +20,7 @@
 --   Standing ..          ==  the search stands so: the first k rows of p are placed, and f holds the best
 --   Alike m n g k p best back  ==  a row order of the branch has the best's arrangement, begins with the best's first `back` rows, and goes on with another
 --   Outcome ..           ==  the search of the branch found f
-use Rattle.std.specs.Prelude.{◌≡◌, List, Bool, true, false, ◌⊎◌, ℕ, suc, ◌+◌, ◌*◌, ◌≤◌, ◌<◌, length, get_or, set}
+use Rattle.std.specs.Prelude.{◌≡◌, List, [], Bool, true, false, ◌⊎◌, ℕ, suc, ◌≤◌, ◌<◌, length, get_or, set}
 use Rattle.permutations.specs.Rows.{RowPermutation}
 use Rattle.permutations.specs.Permutations.{IsPermutation, swapped}
 use Rattle.permutations.specs.Rows.{row_numbers, IsRowPermutation}
@@ -63,10 +63,10 @@ pub record IsSymmetry (m n : ℕ) (g : List ℕ) (f : ℕ → ℕ) : Type 0 wher
   pub gives : arrangement m n rows columns g ≡ arrangement m n other-rows other-columns g
   pub carries : (i : ℕ) → i < m → f (get_or rows i 0) ≡ get_or other-rows i 0
 
-pub record Symmetries (m n : ℕ) (g l : List ℕ) (count : ℕ) : Type 0 where
+pub record Symmetries (m n : ℕ) (g : List ℕ) (l : List (List ℕ)) (count : ℕ) : Type 0 where
   pub few : count ≤ 4
-  pub size : length l ≡ 32
-  pub each : (s : ℕ) → s < count → IsSymmetry m n g (λ r. get_or l (s * 8 + r) 0)
+  pub size : length l ≡ 4
+  pub each : (s : ℕ) → s < count → IsSymmetry m n g (λ r. get_or (get_or l s []) r 0)
 
 unfoldable pub CoveredRows : ℕ → ℕ → List ℕ → ℕ → List ℕ → List ℕ → List Bool → Type 0
 CoveredRows m n g k p r l = (t : ℕ) → k ≤ t → t < m → get_or l (get_or p t 0) false ≡ true → Covers m n g (suc k) (swapped p k t) r
@@ -102,7 +102,6 @@ pub record Rekeyed (m k least : ℕ) (f r : Found) : Type 0 where
   pub after : r.after ≡ f.after
   pub keys : r.keys ≡ set f.keys k least
   pub back : r.back ≡ m
-  pub symmetries : r.symmetries ≡ f.symmetries
   pub kept : r.kept ≡ f.kept
 
 pub record Standing (m n : ℕ) (g : List ℕ) (low : ℕ) (x y : List ℕ) (k : ℕ) (p : RowPermutation) (a : List ℕ) (fresh : Bool) (f : Found) : Type 0 where
@@ -113,7 +112,7 @@ pub record Standing (m n : ℕ) (g : List ℕ) (low : ℕ) (x y : List ℕ) (k :
   pub keys-size : length f.keys ≡ 8
   pub keys : (i : ℕ) → i < k → get_or f.keys i 0 ≡ key n g low i (row_numbers p)
   pub follows : fresh ≡ false → Follows m n g low k (row_numbers p) f
-  pub symmetries : Symmetries m n g f.symmetries f.kept
+  pub symmetries : Symmetries m n g f.kept.maps f.kept.count
 
 pub record Alike (m n : ℕ) (g : List ℕ) (k : ℕ) (p best : List ℕ) (back : ℕ) : Type 0 where
   pub rows : List ℕ
@@ -131,4 +130,4 @@ pub record Outcome (m n : ℕ) (g : List ℕ) (low k : ℕ) (p : List ℕ) (fres
   pub from : ((fresh ≡ false) × (row_numbers f.best ≡ row_numbers before.best)) ⊎ Begins k p (row_numbers f.best)
   pub covers : k ≤ f.back → Covers m n g k p (sorted_rows m n g (row_numbers f.best))
   pub alike : f.back < k → Alike m n g k p (row_numbers f.best) f.back
-  pub symmetries : Symmetries m n g f.symmetries f.kept
+  pub symmetries : Symmetries m n g f.kept.maps f.kept.count

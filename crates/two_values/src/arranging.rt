@@ -4,6 +4,7 @@ ghost use Rattle.two_values.specs.Arranged.{ArrangedLeast, first_place, FirstPla
 
 use crate::nodes::Node;
 use crate::search::Found;
+use crate::symmetries::Kept;
 use crate::tables::TwoValuedGrid;
 use crate::{columns, search, values};
 use permutations::orders::Orders;
@@ -48,8 +49,10 @@ fn searched(grid: &TwoValuedGrid) -> Orders<8>
         after,
         keys: [0; 8],
         back: grid.m,
-        symmetries: [0; 32],
-        kept: 0,
+        kept: Kept {
+            maps: [[0; 8]; 4],
+            count: 0,
+        },
     };
     search::place(grid, &root, &mut found);
     Orders {

@@ -1,7 +1,7 @@
 // The rows that can come next at a node of the search, to be held against each other.
-ghost use Rattle.std.specs.Prelude.{◌≡◌, ◌<◌, get_or};
-ghost use Rattle.permutations.specs.Rows.{row_numbers, IsRowPermutation};
-ghost use Rattle.two_values.specs.Search.{PlacesBy};
+ghost use Rattle.std.specs.Prelude.{◌≡◌, get_or};
+ghost use Rattle.permutations.specs.Rows.{row_numbers};
+ghost use Rattle.two_values.specs.Nodes.{GoesOn};
 ghost use Rattle.two_values.specs.Domination.{Prepared};
 
 use crate::nodes::Node;
@@ -20,7 +20,7 @@ pub struct Contest<'a> {
 
 impl<'a> Contest<'a> {
     pub fn new(grid: &'a TwoValuedGrid<'a>, node: &'a Node) -> Contest<'a>
-        requires { IsRowPermutation grid.now.m node.now.rows × (node.now.k < grid.now.m) × PlacesBy node.now.k grid.now.n grid.now.cells.now (row_numbers node.now.rows) node.now.after }
+        requires { GoesOn grid.now node.now }
         ensures { (result.grid.now ≡ grid.now) × (result.node.now ≡ node.now) }
     {
         let words = words::words::<16, 8>(&grid.columns);

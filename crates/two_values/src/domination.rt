@@ -1,8 +1,9 @@
 // Rows that need not be placed next, since another row can be that gives no later arrangement.
 ghost use Rattle.std.specs.Prelude.{◌≡◌, ◌≤◌, ◌<◌, length};
 ghost use Rattle.permutations.specs.Rows.{row_numbers, IsRowPermutation};
-ghost use Rattle.two_values.specs.Search.{PlacesBy, Drops, Left};
-ghost use Rattle.two_values.specs.Domination.{Loses, MarksLeast};
+ghost use Rattle.two_values.specs.Nodes.{GoesOn, DropsAt, LeftAt};
+ghost use Rattle.two_values.specs.Contests.{LosesIn};
+ghost use Rattle.two_values.specs.Domination.{MarksLeast};
 
 use crate::contests::Contest;
 use crate::nodes::Node;
@@ -14,7 +15,7 @@ impl Contest<'_> {
     // Of the rows at positions s and t, the position of one that the other is over, if both are marked.
     fn loser(&self, marks: &[bool; 8], s: usize, t: usize) -> Option<usize>
         requires { (s < self.now.grid.now.m) × (t < self.now.grid.now.m) }
-        ensures { Loses self.now.grid.now.rows self.now.words self.now.lows self.now.node.now.after self.now.grid.now.n (row_numbers self.now.node.now.rows) marks.now s t result }
+        ensures { LosesIn self.now marks.now s t result }
     {
         if !marks[s] || !marks[t] {
             return None;
@@ -28,7 +29,7 @@ impl Contest<'_> {
     // The marks after the row at s is held against each that comes later.
     fn against(&self, marks: [bool; 8], s: usize) -> [bool; 8]
         requires { (length marks ≡ 8) × (self.now.node.now.k ≤ s) × (s < self.now.grid.now.m) }
-        ensures { Drops self.now.grid.now.m self.now.grid.now.n self.now.grid.now.cells.now self.now.node.now.k (row_numbers self.now.node.now.rows) marks result }
+        ensures { DropsAt self.now.grid.now self.now.node.now marks result }
     {
         let mut out = marks;
         for t in s + 1..self.grid.m {
@@ -42,7 +43,7 @@ impl Contest<'_> {
     // The marks after the marked rows are held against each other: only the first of them, where nothing comes of that.
     fn all_dropped(&self, marks: [bool; 8]) -> [bool; 8]
         requires { length marks ≡ 8 }
-        ensures { Drops self.now.grid.now.m self.now.grid.now.n self.now.grid.now.cells.now self.now.node.now.k (row_numbers self.now.node.now.rows) marks result }
+        ensures { DropsAt self.now.grid.now self.now.node.now marks result }
     {
         let mut out = marks;
         for s in self.node.k..self.grid.m {
@@ -83,8 +84,8 @@ fn count_least(m: usize, k: usize, rows: RowPermutation, keys: [u16; 8], least: 
 // The positions whose rows may have to be placed next: of the rows with the least key, only those that no other dominates. All are left where
 // only one row has the least key, or where symmetries are kept, which tell more.
 pub fn left(grid: &TwoValuedGrid, node: &Node, keys: [u16; 8], least: u16, kept: usize) -> [bool; 8]
-    requires { IsRowPermutation grid.now.m node.now.rows × (node.now.k < grid.now.m) × PlacesBy node.now.k grid.now.n grid.now.cells.now (row_numbers node.now.rows) node.now.after }
-    ensures { Left grid.now.m grid.now.n grid.now.cells.now node.now.k (row_numbers node.now.rows) keys least result }
+    requires { GoesOn grid.now node.now }
+    ensures { LeftAt grid.now node.now keys least result }
 {
     if kept != 0 || count_least(grid.m, node.k, node.rows, keys, least) < 2 {
         return [true; 8];

@@ -1,7 +1,8 @@
 // Rows that dominate others: they differ in one pair of columns, or in two. In comments and names row a has the higher value in c, and
 // row b in d.
 ghost use Rattle.std.specs.Prelude.{◌≡◌, true, ◌-◌, ◌^◌, ◌≤◌, ◌<◌, IfSome};
-ghost use Rattle.two_values.specs.Domination.{Alone, Crossed, ByOne, TwoPairs, ByTwo, Sides};
+ghost use Rattle.two_values.specs.Contests.{SidesIn};
+ghost use Rattle.two_values.specs.Domination.{Alone, Crossed, ByOne, TwoPairs, ByTwo};
 
 use crate::contests::Contest;
 
@@ -92,7 +93,7 @@ impl Contest<'_> {
     // Which of rows a and b dominates the other by columns c and d.
     fn side_by_one(&self, a: usize, b: usize, c: usize, d: usize) -> Option<Side>
         requires { (a < 8) × (b < 8) × (c < self.now.grid.now.n) × (d < self.now.grid.now.n) }
-        ensures { Sides self.now.grid.now.rows self.now.words self.now.lows self.now.node.now.after self.now.grid.now.n a b result }
+        ensures { SidesIn self.now a b result }
     {
         if self.by_one(a, b, c, d) {
             Some(Side::First)
@@ -114,7 +115,7 @@ impl Contest<'_> {
         f: usize,
     ) -> Option<Side>
         requires { (a < 8) × (b < 8) × (c < self.now.grid.now.n) × (d < self.now.grid.now.n) × (e < self.now.grid.now.n) × (f < self.now.grid.now.n) }
-        ensures { Sides self.now.grid.now.rows self.now.words self.now.lows self.now.node.now.after self.now.grid.now.n a b result }
+        ensures { SidesIn self.now a b result }
     {
         if self.by_two(a, b, c, d, e, f) {
             Some(Side::First)
@@ -129,7 +130,7 @@ impl Contest<'_> {
     // values that the other has not, both ways to pair the columns are tried.
     pub fn side(&self, a: usize, b: usize) -> Option<Side>
         requires { (a < 8) × (b < 8) }
-        ensures { Sides self.now.grid.now.rows self.now.words self.now.lows self.now.node.now.after self.now.grid.now.n a b result }
+        ensures { SidesIn self.now a b result }
     {
         let first = self.words[a];
         let second = self.words[b];

@@ -6,6 +6,7 @@ ghost use Rattle.two_values.specs.Search.{Lowest, Cuts, Lowers, Rekeyed};
 ghost use Rattle.two_values.specs.Nodes.{Stands, Finds};
 
 use crate::nodes::Node;
+use crate::symmetries::Kept;
 use crate::tables::TwoValuedGrid;
 use crate::{columns, domination, settled, symmetries};
 use permutations::rows::RowPermutation;
@@ -19,8 +20,7 @@ pub struct Found {
     pub after: [u8; 16],
     pub keys: [u16; 8],
     pub back: usize,
-    pub symmetries: [u8; 32],
-    pub kept: usize,
+    pub kept: Kept,
 }
 
 impl Found {
@@ -73,10 +73,9 @@ pub fn reached(grid: &TwoValuedGrid, node: &Node, found: &mut Found)
         return;
     }
     found.back = node.rows.in_common(&found.best, grid.m);
-    if found.kept < 4 {
-        let more = symmetries::with_symmetry(grid, found, node.rows);
-        found.symmetries = more;
-        found.kept += 1;
+    if found.kept.count < 4 {
+        let map = symmetries::carrying(grid.m, found.best, node.rows);
+        found.kept.keep(map);
     }
 }
 
@@ -103,7 +102,7 @@ pub fn place(grid: &TwoValuedGrid, node: &Node, found: &mut Found)
         found.rekey(m, k, known);
         return;
     }
-    let left = domination::left(grid, node, keys, least, found.kept);
+    let left = domination::left(grid, node, keys, least, found.kept.count);
     found.rekey(m, k, least);
     let mut fresh = is_lower(node.fresh, known, least);
     let mut covered = [false; 8];
@@ -122,7 +121,7 @@ pub fn place(grid: &TwoValuedGrid, node: &Node, found: &mut Found)
                 return;
             }
             fresh = false;
-            covered = symmetries::covered_with(grid, node, found, covered, row);
+            covered = symmetries::covered_with(grid, node, &found.kept, covered, row);
         }
     }
 }

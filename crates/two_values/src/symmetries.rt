@@ -1,37 +1,51 @@
-// Symmetries of the grid that the search finds: maps of row numbers, eight numbers each.
+// Symmetries of the grid that the search finds: maps of row numbers.
 ghost use Rattle.std.specs.Prelude.{◌≡◌, true, ℕ, ◌+◌, ◌≤◌, ◌<◌, get_or, set};
 ghost use Rattle.permutations.specs.Rows.{row_numbers, IsRowPermutation};
-ghost use Rattle.two_values.specs.TwoValues.{sorted_rows};
-ghost use Rattle.two_values.specs.Search.{Symmetries, Spreads};
-ghost use Rattle.two_values.specs.Symmetries.{Fixes, Images};
+ghost use Rattle.two_values.specs.Nodes.{Keeps, SpreadsAt};
+ghost use Rattle.two_values.specs.Symmetries.{Carries, Fixes, Images};
 
 use crate::nodes::Node;
-use crate::search::Found;
 use crate::tables::TwoValuedGrid;
 use permutations::rows::{RowNumber, RowPermutation};
 
-// The symmetries found with one more: that which carries the best row order to another.
-pub fn with_symmetry(grid: &TwoValuedGrid, found: &Found, other: RowPermutation) -> [u8; 32]
-    requires { (found.now.kept < 4) × Symmetries grid.now.m grid.now.n grid.now.cells.now found.now.symmetries found.now.kept × IsRowPermutation grid.now.m found.now.best × IsRowPermutation grid.now.m other × (sorted_rows grid.now.m grid.now.n grid.now.cells.now (row_numbers found.now.best) ≡ sorted_rows grid.now.m grid.now.n grid.now.cells.now (row_numbers other)) }
-    ensures { Symmetries grid.now.m grid.now.n grid.now.cells.now result (found.now.kept + 1) }
-{
-    let mut out = found.symmetries;
-    for i in 0..grid.m {
-        let from = found.best.number(i);
-        let to = other.number(i);
-        out[found.kept * 8 + from.0 as usize] = to.0;
+// The symmetries kept: the first `count` of four maps.
+#[derive(Clone, Copy)]
+pub struct Kept {
+    pub maps: [[u8; 8]; 4],
+    pub count: usize,
+}
+
+impl Kept {
+    // Keeps one more.
+    pub fn keep(&mut self, map: [u8; 8])
+        requires { self.old.count < 4 }
+        ensures { (self.new.maps ≡ set self.old.maps self.old.count map) × (self.new.count ≡ self.old.count + 1) }
+    {
+        self.maps[self.count] = map;
+        self.count += 1;
     }
-    out
+}
+
+// The map that carries the first row order to the second.
+pub fn carrying(m: usize, first: RowPermutation, second: RowPermutation) -> [u8; 8]
+    requires { (m ≤ 8) × IsRowPermutation m first }
+    ensures { Carries m (row_numbers first) (row_numbers second) result }
+{
+    let mut map = [0u8; 8];
+    for i in 0..m {
+        map[first.number(i).0 as usize] = second.number(i).0;
+    }
+    map
 }
 
 // Whether a symmetry moves none of the first k rows.
-fn fixes(symmetries: &[u8; 32], s: usize, rows: RowPermutation, k: usize) -> bool
-    requires { (s < 4) × ((i : ℕ) → i < k → get_or (row_numbers rows) i 0 < 8) }
-    ensures { Fixes symmetries.now s (row_numbers rows) k result }
+fn fixes(map: &[u8; 8], rows: RowPermutation, k: usize) -> bool
+    requires { (i : ℕ) → i < k → get_or (row_numbers rows) i 0 < 8 }
+    ensures { Fixes map.now (row_numbers rows) k result }
 {
     for i in 0..k {
-        let row = rows.number(i);
-        if symmetries[s * 8 + row.0 as usize] != row.0 {
+        let row = rows.number(i).0;
+        if map[row as usize] != row {
             return false;
         }
     }
@@ -39,13 +53,13 @@ fn fixes(symmetries: &[u8; 32], s: usize, rows: RowPermutation, k: usize) -> boo
 }
 
 // The rows marked, and images of them under a symmetry.
-fn images(symmetries: &[u8; 32], s: usize, m: usize, covered: [bool; 8]) -> [bool; 8]
-    requires { (m ≤ 8) × (s < 4) }
-    ensures { Images m symmetries.now s covered result }
+fn images(map: &[u8; 8], m: usize, covered: [bool; 8]) -> [bool; 8]
+    requires { m ≤ 8 }
+    ensures { Images m map.now covered result }
 {
     let mut out = covered;
     for r in 0..m {
-        let image = symmetries[s * 8 + r] as usize;
+        let image = map[r] as usize;
         if out[r] && image < 8 {
             out[image] = true;
         }
@@ -58,21 +72,21 @@ fn images(symmetries: &[u8; 32], s: usize, m: usize, covered: [bool; 8]) -> [boo
 pub fn covered_with(
     grid: &TwoValuedGrid,
     node: &Node,
-    found: &Found,
+    kept: &Kept,
     covered: [bool; 8],
     row: RowNumber,
 ) -> [bool; 8]
-    requires { (node.now.k < grid.now.m) × IsRowPermutation grid.now.m node.now.rows × Symmetries grid.now.m grid.now.n grid.now.cells.now found.now.symmetries found.now.kept × (row.0 < 8) }
-    ensures { Spreads grid.now.m grid.now.n grid.now.cells.now node.now.k (row_numbers node.now.rows) (set covered row.0 true) result }
+    requires { (node.now.k < grid.now.m) × IsRowPermutation grid.now.m node.now.rows × Keeps grid.now kept.now × (row.0 < 8) }
+    ensures { SpreadsAt grid.now node.now (set covered row.0 true) result }
 {
-    if found.kept == 0 {
+    if kept.count == 0 {
         return covered;
     }
     let mut out = covered;
     out[row.0 as usize] = true;
-    for s in 0..found.kept {
-        if fixes(&found.symmetries, s, node.rows, node.k) {
-            out = images(&found.symmetries, s, grid.m, out);
+    for map in &kept.maps[..kept.count] {
+        if fixes(map, node.rows, node.k) {
+            out = images(map, grid.m, out);
         }
     }
     out

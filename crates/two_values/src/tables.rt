@@ -1,7 +1,7 @@
 // A grid with two values, and its cells as 0 and 1.
 ghost use Rattle.std.specs.Prelude.{◌≡◌, ◌*◌, ◌≤◌, length};
 ghost use Rattle.two_values.specs.TwoValues.{TwoValued};
-ghost use Rattle.two_values.specs.Tables.{ByColumns, ByRows, Tables};
+ghost use Rattle.two_values.specs.Tables.{Tables};
 
 // The cells of m rows and n columns, of which `low` is the lower value. `columns` has 1 for each cell with the higher value, column after
 // column; `rows` has 0 for each of them and 1 elsewhere, row after row.
@@ -21,8 +21,15 @@ impl<'a> TwoValuedGrid<'a> {
         requires { (m ≤ 8) × (n ≤ 16) × (length cells.now ≡ m * n) × TwoValued cells.now low }
         ensures { (result.cells.now ≡ cells.now) × (result.m ≡ m) × (result.n ≡ n) × (result.low ≡ low) }
     {
-        let columns = by_columns(cells, m, n, low);
-        let rows = by_rows(cells, m, n, low);
+        let mut columns = [0u8; 128];
+        let mut rows = [1u8; 128];
+        for i in 0..m {
+            for j in 0..n {
+                let is_low = cells[i * n + j] == low;
+                columns[j * 8 + i] = !is_low as u8;
+                rows[i * 16 + j] = is_low as u8;
+            }
+        }
         TwoValuedGrid {
             cells,
             m,
@@ -32,34 +39,4 @@ impl<'a> TwoValuedGrid<'a> {
             rows,
         }
     }
-}
-
-// The two tables are filled one after the other: in one loop for both, the calls took up to 1.1 times as long.
-
-// 1 for each cell with the higher value, column after column.
-fn by_columns(cells: &[u8], m: usize, n: usize, low: u8) -> [u8; 128]
-    requires { (m ≤ 8) × (n ≤ 16) × (length cells.now ≡ m * n) }
-    ensures { ByColumns m n cells.now low result }
-{
-    let mut out = [0u8; 128];
-    for i in 0..m {
-        for j in 0..n {
-            out[j * 8 + i] = (cells[i * n + j] != low) as u8;
-        }
-    }
-    out
-}
-
-// 0 for each cell with the higher value and 1 elsewhere, row after row.
-fn by_rows(cells: &[u8], m: usize, n: usize, low: u8) -> [u8; 128]
-    requires { (m ≤ 8) × (n ≤ 16) × (length cells.now ≡ m * n) }
-    ensures { ByRows m n cells.now low result }
-{
-    let mut out = [1u8; 128];
-    for i in 0..m {
-        for j in 0..n {
-            out[i * 16 + j] = (cells[i * n + j] == low) as u8;
-        }
-    }
-    out
 }

@@ -32,6 +32,9 @@ loop-t-init t c =
           refl c.is_cut.ensures c.if-is_cut.false c.is_lower-fresh.ensures c.rekey-2.ensures refl none-marked,
     )
 
+pub bounds-covered-at : goal.bounds-covered-at
+bounds-covered-at t c = standing-row _ _ _ _ _ _ _ _ _ _ _ c.loop-t.invariant.1.stands _ c.loop-t-test.true _ c.number-row.ensures
+
 pub refined-requires : goal.refined-requires
 refined-requires t c =
     let h = c.loop-t.invariant.1 in

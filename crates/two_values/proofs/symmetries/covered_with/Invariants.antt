@@ -3,5 +3,5 @@ use Rattle.permutations.specs.Rows.{row_numbers}
 use Rattle.two_values.specs.Search.{Spreads}
 use Rattle.two_values.proofs.symmetries.covered_with.Given as goal
 
-abbrev pub invariant-loop-s : goal.invariant-loop-s
-invariant-loop-s l = Spreads l.grid.m l.grid.n l.grid.cells.now l.node.k (row_numbers l.node.rows) l.initial.out l.out
+abbrev pub invariant-loop-map : goal.invariant-loop-map
+invariant-loop-map l = Spreads l.grid.m l.grid.n l.grid.cells.now l.node.k (row_numbers l.node.rows) l.initial.out l.out

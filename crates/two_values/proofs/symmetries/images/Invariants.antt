@@ -3,4 +3,4 @@ use Rattle.two_values.specs.Symmetries.{Images}
 use Rattle.two_values.proofs.symmetries.images.Given as goal
 
 abbrev pub invariant-loop-r : goal.invariant-loop-r
-invariant-loop-r l = Images l.m l.symmetries l.s l.initial.out l.out
+invariant-loop-r l = Images l.m l.map l.initial.out l.out

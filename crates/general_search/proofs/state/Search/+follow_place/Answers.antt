@@ -16,15 +16,15 @@ follow-returns-then-is_gt t c =
     let p = c.requires in
     follow-cut _ _ _ _ _ _ _ _ _ _ p.0 p.1 p.2 p.3 p.4 c.compare_at-found.ensures _ _ _ c.is_gt.ensures c.if-is_gt.true refl refl
 
-pub follow-last-ended-requires : goal.follow-last-ended-requires
-follow-last-ended-requires t c =
+pub follow-last-requires : goal.follow-last-requires
+follow-last-requires t c =
     let p = c.requires in
     (further _ _ _ _ _ _ _ _ _ _ p.0 p.1 p.2 p.3 p.4 c.compare_at-found.ensures _ c.lesser-out.ensures _ c.is_gt.ensures c.if-is_gt.false _ c.split.ensures, omega (arith, c.if-self-k.true))
 
 pub follow-returns-then-self-k : goal.follow-returns-then-self-k
 follow-returns-then-self-k t c =
     let p = c.requires in
-    follow-last _ _ _ _ _ _ _ _ _ _ p.0 p.1 p.2 p.3 p.4 c.compare_at-found.ensures _ c.lesser-out.ensures _ _ c.last-ended.ensures.1 c.last-ended.ensures.0
+    follow-last _ _ _ _ _ _ _ _ _ _ p.0 p.1 p.2 p.3 p.4 c.compare_at-found.ensures _ c.lesser-out.ensures _ _ c.last.ensures.1 c.last.ensures.0
 
 pub follow-bounded-low-requires : goal.follow-bounded-low-requires
 follow-bounded-low-requires t c =
@@ -52,8 +52,8 @@ follow-returns-then-goes_back t c =
           w.settled.ensures w.if-settled.true
     ]
 
-pub follow-place-again-requires : goal.follow-place-again-requires
-follow-place-again-requires t c =
+pub follow-place-requires : goal.follow-place-requires
+follow-place-requires t c =
     let p = c.requires in
     let f = further _ _ _ _ _ _ _ _ _ _ p.0 p.1 p.2 p.3 p.4 c.compare_at-found.ensures _ c.lesser-out.ensures _ c.is_gt.ensures c.if-is_gt.false _ c.split.ensures in
     let i = (outcome-better _ _ _ _ _ _ _ _ _ c.bounded-low.ensures.improves c.place-deeper.ensures).improves in
@@ -65,7 +65,7 @@ pub follow-returns : goal.follow-returns
 follow-returns t c =
     let p = c.requires in
     let deeper = outcome-better _ _ _ _ _ _ _ _ _ c.bounded-low.ensures.improves c.place-deeper.ensures in
-    follow-again _ _ _ _ _ _ _ _ _ _ p.0 p.1 p.2 p.3 p.4 c.compare_at-found.ensures _ c.lesser-out.ensures _ _ deeper _ (rw c.unknown.ensures.0 at c.place-again.ensures)
+    follow-again _ _ _ _ _ _ _ _ _ _ p.0 p.1 p.2 p.3 p.4 c.compare_at-found.ensures _ c.lesser-out.ensures _ _ deeper _ (rw c.unknown.ensures.0 at c.place.ensures)
 
 -- ---- `place`
 

@@ -11,8 +11,8 @@ returns-then-t-branch c =
     candidate-of _ _ _ _ _ _ _ s.0 _ s.1 p.0 p.1 (record { numbers = sym (swapped_same _ _ _ (sym c.if-t-branch.true)); size = refl }) _
     c.number.ensures c.sorted-columns.ensures
 
-pub returns-else-t-branch : goal.returns-else-t-branch
-returns-else-t-branch c =
+pub returns : goal.returns
+returns c =
     let s = c.requires.searching in
     let p = c.requires.unplaced in
     candidate-of _ _ _ _ _ _ _ s.0 _ s.1 p.0 p.1 c.swapped-rows.ensures _ c.number.ensures c.sorted-columns.ensures
