@@ -1,6 +1,6 @@
 // Rows that need not be placed next, since another row covers them.
 ghost use Rattle.std.specs.Prelude.{◌≡◌, ℕ, ◌<◌};
-ghost use Rattle.search.specs.RowSets.{IsRowSet, HasRow};
+ghost use Rattle.search.specs.RowSets.{HasRow};
 ghost use Rattle.search.specs.RowPairs.{PairSides, pair_differences};
 ghost use Rattle.search.specs.Domination.{Ascend, Apart, Others, Sides, Thinned};
 

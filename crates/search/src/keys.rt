@@ -1,5 +1,5 @@
 // Keys of rows: numbers in the order of the next rows.
-ghost use Rattle.std.specs.Prelude.{◌≡◌, ℕ, ◌^◌, ◌<◌, ◌≤◌, map, length, slice_index};
+ghost use Rattle.std.specs.Prelude.{◌≡◌, ℕ, ◌^◌, ◌<◌, ◌≤◌, map, slice_index};
 ghost use Rattle.permutations.specs.Sums.{sum_to};
 ghost use Rattle.permutations.specs.Rows.{row_number};
 ghost use Rattle.branches.specs.Keys.{number};

@@ -1,7 +1,7 @@
 // The search for the least arrangement of a grid. It goes over partial row orders: one row is placed after another. All rows that give
 // the least next row are followed, but those that another covers, and the images of rows tried under symmetries found.
 ghost use Rattle.std.specs.Prelude.{◌≡◌, ℕ, ◌+◌, ◌<◌, true, false, ◌≢◌};
-ghost use Rattle.search.specs.RowSets.{IsRowSet, HasRow, Thins};
+ghost use Rattle.search.specs.RowSets.{HasRow, Thins};
 ghost use Rattle.search.specs.Search.{rows_of, Stands, IsNode, IsFollowed, Finds};
 
 use crate::found::Found;

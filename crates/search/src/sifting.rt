@@ -1,7 +1,7 @@
 // The rows that give the least next row, for any values: all rows at once, a row in each byte of a word.
 ghost use Rattle.std.specs.Prelude.{◌≡◌, ℕ, ◌-◌, ◌<◌, ◌≤◌, ◌↔◌, ◌≢◌};
 ghost use Rattle.branches.specs.Sifting.{BlockEnds, Sifts};
-ghost use Rattle.search.specs.RowSets.{lane, IsRowSet, HasRow};
+ghost use Rattle.search.specs.RowSets.{lane, HasRow};
 ghost use Rattle.search.specs.ColumnLists.{end_of, levels_of};
 ghost use Rattle.search.specs.Sifting.{IsLevels, at_most_one, tally, LeadsTo};
 

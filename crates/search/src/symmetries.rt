@@ -1,7 +1,6 @@
 // Symmetries of the grid that the search finds.
 ghost use Rattle.std.specs.Prelude.{◌<◌, ◌≤◌};
 ghost use Rattle.permutations.specs.Padded.{IsPadded};
-ghost use Rattle.search.specs.RowSets.{IsRowSet};
 ghost use Rattle.search.specs.Search.{rows_of, AreKnown, SameRows, Spreads, SpreadsWith};
 ghost use Rattle.search.specs.Symmetries.{Fixes, Images};
 
