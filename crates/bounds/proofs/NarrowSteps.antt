@@ -1,17 +1,16 @@
 -- The steps of the code that prunes row 0 with each other row in turn.
 --
---   copied           ==  a list copied over another of its length
 --   Replaced a k xs ys zs, part-replaced  ==  zs is xs with ys in the place of its k entries from a on
 --   row-part, first_part  ==  a row of bounds, as a part of the list
 --   part-size        ==  the length of such a part
 --   row-pruned-ext   ==  only the values in the columns count
 --   lowered-both     ==  highs lowered by one rule and then by another
 --   Progress i m n low high low' high'  ==  the rows before row i are pruned with row 0
---   narrow-none, narrow_next, narrow-all  ==  at first, a row further, and at the end
---   RowFits i n low high low' high', row_fits, row-sizes, row-values  ==  row 0 and row i are within the lists, and their parts fit the call
+--   narrow_next, narrow-all  ==  a row further, and at the end
+--   RowFits i n low high low' high', row_fits  ==  row 0 and row i are within the lists
 --   narrow-fails     ==  a row that the lows of row 0 do not lead
 use mathlib.Core.Path.{◌≡◌, refl, sym, ap, ◌∙◌}
-use mathlib.Core.List.{List, ◌++◌, append-nil}
+use mathlib.Core.List.{List, ◌++◌}
 use mathlib.Core.Bool.{true, false}
 use mathlib.Core.Logic.{◌↔◌}
 use Prim.Native.Nat.{ℕ, ◌+◌, ◌*◌, ◌-◌, ◌≤◌, ◌<◌}
@@ -19,20 +18,17 @@ use native.Mathlib.Nat.{zero-mul, one-mul, suc-mul, mul-le-mul_right}
 use native.Mathlib.Decide.{ℕ_discrete}
 use native.Mathlib.Omega.{arith}
 use lib.ListN.{length, get_or, take, drop, get_or-append}
-use lib.Seq.{take-length, drop-length, length-take-le, get_or-take, get_or-drop, get_or-append-add}
+use lib.Seq.{length-take-le, get_or-take, get_or-drop, get_or-append-add}
 use lib.Arith.{digits_lt}
 use borrow.Rule.Slice.PartMut.{same_len_mid, mid_len}
 use Rattle.grids.specs.Order.{rank}
 use Rattle.grids.proofs.QuestionLaws.{size_fits}
 use Rattle.bounds.specs.Bounds.{IsBounds}
-use Rattle.bounds.specs.Rows.{cell_at, put, Values, Leads, Raised, Lowered, RowSizes, RowPruned, RowOutcome}
+use Rattle.bounds.specs.Rows.{cell_at, put, Leads, Raised, Lowered, RowPruned, RowOutcome}
 use Rattle.bounds.specs.Narrowed.{row_of, AllLead, Narrowed, NarrowSizes}
 use Rattle.bounds.proofs.LeadsLaws.{put_self, put-ext, leads-ext}
 
 -- ---- parts of lists
-
-pub copied : (l d : List ℕ) → length d ≡ length l → take (length l) l ++ drop (length l) d ≡ l
-copied l d e = rw (take-length l, ← e, drop-length d) (append-nil l)
 
 pub record Replaced (a k : ℕ) (xs ys zs : List ℕ) : Type 0 where
   pub size : length zs ≡ length xs
@@ -134,27 +130,6 @@ pub record RowFits (i n : ℕ) (low high low' high' : List ℕ) : Type 0 where
   pub new-low : i * n + n ≤ length low'
   pub small : i * n + n ≤ 128
 
-pub narrow-none : (m n : ℕ) (low high low' high' : List ℕ) → NarrowSizes m n low high low' high' → Progress 1 m n low high low high
-narrow-none m n low high low' high' s = record {
-  from = omega arith;
-  to = s.rows-limits.0;
-  low-size = s.low-size;
-  high-size = s.high-size;
-  narrowed = λ top b. record {
-    leads = λ i i0 im. absurd (omega arith);
-    raised = λ i i0 im. absurd (omega arith);
-    lowered = record {
-      within = λ c cn. b.high-cap (0 * n + c) (digits_lt s.rows-limits.0 cn);
-      exact = λ c v cn vt vx. (λ q. q.0, λ q. (q, λ i i0 im. absurd (omega arith)));
-    };
-    low-size = refl;
-    high-size = refl;
-    low-kept = λ k h. refl;
-    high-kept = λ k h. refl;
-  };
-  rest = λ k h. refl;
-}
-
 module _ {i m n : ℕ} {low high low' high' old-low old-high : List ℕ} (s : NarrowSizes m n low high old-low old-high) (p : Progress i m n low high low' high') (im : i < m) where
   row_within : i * n + n ≤ m * n
   row_within = omega (arith, mul-le-mul_right n im, suc-mul i n)
@@ -171,27 +146,9 @@ module _ {i m n : ℕ} {low high low' high' old-low old-high : List ℕ} (s : Na
     small = omega (arith, row_within, size_fits m n s.rows-limits.1 s.column-limits.1);
   }
 
-  pub row-sizes : RowSizes (length (take n low)) (take (i * n + n - i * n) (drop (i * n) high)) (take n high')
-      (take (i * n + n - i * n) (drop (i * n) low'))
-  row-sizes =
-      let f = row_fits in
-      let e = length-take-le n low f.first-low in
-      record {
-        some = omega (arith, e, s.column-limits.0);
-        limit = omega (arith, e, s.column-limits.1);
-        high-size = part-size i n high f.old-high ∙ sym e;
-        highs-size = length-take-le n high' f.first-high ∙ sym e;
-        lows-size = part-size i n low' f.new-low ∙ sym e;
-      }
-
   -- row i of the new lows is still that of the old
   row-low : (j : ℕ) → j < n → cell_at (take (i * n + n - i * n) (drop (i * n) low')) j ≡ row_of n low i j
   row-low j jn = row-part i n low' j jn ∙ p.rest (i * n + j) (omega arith)
-
-  pub row-values : Values (m * n) 15 (cell_at high) → Values (length (take n low)) 15 (cell_at (take (i * n + n - i * n) (drop (i * n) high)))
-  row-values h j b =
-      let e = length-take-le n low row_fits.first-low in
-      rw (row-part i n high j (omega arith)) (h (i * n + j) (omega (arith, row_within)))
 
   pub narrow-fails : (highs lows : ℕ → ℕ) → RowOutcome false (length (take n low)) (cell_at (take n low)) (cell_at (take (i * n + n - i * n) (drop (i * n) low')))
       (cell_at (take (i * n + n - i * n) (drop (i * n) high))) (cell_at (take n high')) highs lows → AllLead m n (row_of n low 0) high → ⊥

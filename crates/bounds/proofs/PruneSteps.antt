@@ -16,7 +16,7 @@
 --   prune-size           ==  past the questions: there are at most 128 cells
 --   narrow-ready         ==  the arguments fit narrow
 --   prune-none           ==  narrow says no: 102
---   Wrote m n top low high low' high', narrow-wrote  ==  narrow says yes, and has written low' and high'
+--   Wrote m n top low high low' high'  ==  narrow says yes, and has written low' and high'
 --   sizes-fit, removed-ready  ==  what it wrote fits the calls after it
 --   prune-some           ==  with the values removed and the new bounds: 0
 use Rattle.std.proofs.Common.{Result, Ok, Err}
@@ -260,10 +260,6 @@ module _ (m n top : ℕ) (low high : List ℕ) where
     prune-none t low' high' w f =
         let no : AllLead m n (row_of n low 0) high → ⊥ = rw f at w in
         prunes m n top low high _ (sym (pruned-none m n top low high e (λ o. no ((narrowed-obeyed m n top low high limits.rows-limits.0 bounds).1 o))))
-
-    -- narrow says yes
-    pub narrow-wrote : (t : Bool) (low' high' : List ℕ) → NarrowOutcome t m n low high low' high' → t ≡ true → Wrote m n top low high low' high'
-    narrow-wrote t low' high' w f = record { asked = e; narrowed = rw f at w }
 
 module _ {m n top : ℕ} {low high low' high' : List ℕ} (w : Wrote m n top low high low' high') where
   some-row : 1 ≤ m

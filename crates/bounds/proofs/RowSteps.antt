@@ -1,29 +1,25 @@
 -- The steps of the code that prunes row 0 with another row.
 --
 --   LoweredTo c x h h'  ==  the highs h of row 0 have become its lows x before column c, and are as they were from there on
---   lowered-copied   ==  so they have where the lows before column c are copied
+--   lowered_none, lowered-next  ==  at first, and a column further
 --   lowered-all, lowered-capped  ==  the highs where the rows do not part, and where they do
 --   sorted-within    ==  the values of a sorted row are those of the row
 --   row-none, row-pruned  ==  what is said of the two rows, by whether the lows of row 0 lead the highs of the other
 --   agree-decided    ==  whether a row comes no later than another, by the column up to which they agree
---   below-decided, under-later  ==  what the code finds at a column
 --   parted-at, above_at  ==  where two rows part, and which of them is above
 use mathlib.Core.Path.{◌≡◌, refl, ap, ◌∙◌}
-use mathlib.Core.List.{List, ◌++◌}
+use mathlib.Core.List.{List}
 use mathlib.Core.Bool.{Bool, true, false}
 use Prim.Native.Nat.{ℕ, ◌+◌, ◌-◌, ◌≤◌, ◌<◌}
 use native.Mathlib.Decide.{dec_lt}
 use native.Mathlib.Omega.{arith}
-use lib.Dec.{ltb}
 use native.Mathlib.Decide.{ℕ_discrete}
-use lib.ListN.{length, set, length-set, take, drop, get_or-append, length-append}
-use lib.Seq.{get_or-set_same, get_or-set_other, get_or-take, get_or-drop, get_or-append-add, length-take-le}
-use Rattle.std.proofs.lemmas.List.{length-drop}
-use borrow.Author.Tests.{lt-ltb, le-ltb}
+use lib.ListN.{length, set, length-set}
+use lib.Seq.{get_or-set_same, get_or-set_other}
 use Rattle.grids.specs.Order.{rank, lower}
 use Rattle.grids.proofs.OrderLaws.{rank-antisymm}
 use Rattle.bounds.specs.declared.lows.RowLows.{RowLows}
-use Rattle.bounds.specs.Rows.{cell_at, Values, IsSorted, AgreeTo, SaysBelow, SaysUnder, NoLater, SaysNoLater, Parted, IsLows, RaisedTo, IsCap, IsHighs, RowOutcome}
+use Rattle.bounds.specs.Rows.{cell_at, Values, IsSorted, AgreeTo, SaysBelow, NoLater, SaysNoLater, Parted, IsLows, RaisedTo, IsCap, IsHighs, RowOutcome}
 use Rattle.bounds.proofs.LeadsLaws.{leads-sorted, agree_same, agree_differ, agree-no-later}
 use Rattle.bounds.proofs.ThresholdLaws.{parted-leads}
 use Rattle.bounds.proofs.CapLaws.{highs-lowered, lows-raised}
@@ -35,19 +31,6 @@ module _ {n : ℕ} {x s : ℕ → ℕ} {from at : ℕ} (g : AgreeTo n x s 0 from
   agree-decided false h =
       let e : at - 0 ≡ at = omega arith in
       λ k. agree_differ g h.0 (rank-antisymm _ _ (k at g.from_on h.0 (agree_same g)) (rw e at h.1))
-
-pub below-decided : (n : ℕ) (x s : ℕ → ℕ) (shift at : ℕ) → at < n → SaysBelow (ltb (rank (x at)) (rank (s (at - shift)))) n x s shift at
-unfolding SaysBelow
-below-decided n x s shift at an = go (dec_lt (rank (x at)) (rank (s (at - shift))))
-  where
-    go : Dec (rank (x at) < rank (s (at - shift))) → SaysBelow (ltb (rank (x at)) (rank (s (at - shift)))) n x s shift at
-    go (yes h) = rw (lt-ltb (rank (x at)) (rank (s (at - shift))) h) λ k. h
-    go (no h) = rw (le-ltb (rank (x at)) (rank (s (at - shift))) (omega arith)) (an, omega arith)
-
-pub under-later : (n : ℕ) (x s : ℕ → ℕ) (at : ℕ) (b : Bool) → 0 < at → SaysBelow b n x s 1 at → SaysUnder b n x s at
-unfolding SaysBelow SaysUnder
-under-later n x s at true a0 h = (a0, h)
-under-later n x s at false a0 h = (h.0, λ k. h.1)
 
 pub above_at : {n : ℕ} {x s : ℕ → ℕ} {shift from at : ℕ} → AgreeTo n x s shift from at → SaysBelow false n x s shift at → rank (s (at - shift)) < rank (x at)
 unfolding SaysBelow
@@ -67,18 +50,6 @@ pub record LoweredTo (c : ℕ) (x h h' : List ℕ) : Type 0 where
   pub size : length h' ≡ length h
   pub done : (j : ℕ) → j < c → cell_at h' j ≡ cell_at x j
   pub rest : (j : ℕ) → c ≤ j → cell_at h' j ≡ cell_at h j
-
-pub lowered-copied : (c : ℕ) (x h : List ℕ) → c ≤ length x → c ≤ length h → LoweredTo c x h (take c x ++ drop c h)
-lowered-copied c x h cx ch = record {
-  size = omega (arith, length-append (take c x) (drop c h), front, length-drop c h);
-  done = λ j b. get_or-append (take c x) (drop c h) 0 j (omega (arith, front)) ∙ get_or-take c x j 0 b;
-  rest = λ j b.
-      let q : c + (j - c) ≡ j = omega arith in
-      rw q at (rw front at (get_or-append-add (take c x) (drop c h) (j - c) 0) ∙ get_or-drop c h (j - c) 0);
-}
-  where
-    front : length (take c x) ≡ c
-    front = length-take-le c x cx
 
 pub lowered_none : (x h : List ℕ) → LoweredTo 0 x h h
 lowered_none x h = record { size = refl; done = λ j b. absurd (omega arith); rest = λ j b. refl }

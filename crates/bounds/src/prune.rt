@@ -27,7 +27,7 @@ impl From<Refusal> for NotPruned {
 }
 
 // Prunes row 0 with each other row in turn: low and high are copied to lows and highs, which are narrowed. False where no
-// grid within the bounds has allperm.
+// grid within the bounds has allperm. The four slices are no pairs of bounds: of row 0 the highs change, of every other row the lows.
 fn narrow(m: usize, n: usize, low: &[u8], high: &[u8], lows: &mut [u8], highs: &mut [u8]) -> bool
     requires { NarrowSizes m n low.now high.now lows.old highs.old × Values (m * n) 15 (cell_at high.now) }
     ensures { NarrowOutcome result m n low.now high.now lows.new highs.new }
