@@ -4,7 +4,7 @@
 --   line-answered    ==  so it is of every line
 --   Answering input out b o at n  ==  the lines before `at` are answered: b is the machine's register, and what was printed is written over the first n bytes of out, as o
 --   answering-none, answering-next, answering-all  ==  the loop's start, one turn, and its end
---   answering-room, answering-size  ==  there is room for one more line; a grid has at most 128 cells
+--   answering-room   ==  there is room for one more line
 --   answering-kept  ==  the register keeps its length
 use mathlib.Core.Path.{◌≡◌, refl, sym, ap, ◌∙◌}
 use mathlib.Core.List.{List, [], ◌++◌, append_assoc, append-nil}
@@ -19,7 +19,6 @@ use Rattle.machine.specs.Machine.{shown, outcome}
 use Rattle.machine.proofs.MachineLaws.{Good, empty-good}
 use Rattle.calls.proofs.ValidMoves.{tail-part, put-tail}
 use Rattle.lines.proofs.FillLaws.{Filled, fill_none}
-use Rattle.register.proofs.OpenSteps.{limits-size}
 use Rattle.protocol.specs.Input.{lines, further_lines}
 use Rattle.protocol.specs.Commands.{report, LineAnswer, answer_step, answer}
 use Rattle.protocol.specs.Readings.{read_line}
@@ -68,9 +67,6 @@ pub record Answering (input out b o : List ℕ) (at n : ℕ) : Type 0 where
   pub after : set_after (shape_in input) [] (further_lines input) ≡ set_after (shape_in input) set (lines (drop at input))
 
 module _ {input : List ℕ} {rows columns top : ℕ} {b₀ out : List ℕ} (k : Runs input rows columns top b₀ out) where
-  pub answering-size : rows * columns ≤ 128
-  answering-size = rw (k.rows_are, k.columns-are) (limits-size (shape_in input) ((start-pass input).0 k.passes).limits)
-
   pub answering-none : Answering input out b₀ out 25 0
   answering-none =
       let r = rest_lines input k.passes in

@@ -37,9 +37,6 @@ returns-in-No c = c.into.ensures ∙ numbers-refused (reads ((goal.at.returns-in
 limits : (c : In_default) → InLimits (shape c.read_field-rows.result c.read_field-columns.result c.read_field-top.result c.read_field-capacity.result)
 limits c = numbers-within _ c.in_default.ensures
 
-pub overflow_mul-rows : goal.overflow_mul-rows
-overflow_mul-rows c = omega (arith, limits-size _ (limits ((goal.at.overflow_mul-rows c).In_default)))
-
 pub line_start-length-requires : goal.line_start-length-requires
 line_start-length-requires c = let l = limits ((goal.at.line_start-length-requires c).In_default) in (limits-size _ l, l.capacity-limits.1)
 
