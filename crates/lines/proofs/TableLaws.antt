@@ -2,7 +2,6 @@
 --
 --   length-put                ==  a table keeps its length
 --   cells-none, cells-next    ==  no cell, and a cell more
---   thirds-of                 ==  what holds of the last byte of each cell makes it a value of a function
 --   thirds-at                 ==  the bytes of a cell
 use Rattle.std.proofs.Common.{◌≡◌, ℕ, ◌+◌, ◌*◌, ◌<◌, ◌≤◌, List, length, get_or, set, ◌∙◌, not-suc-le-zero, arith, length-set, get_or-set_other, get_or-set_same}
 use native.Mathlib.Decide.{dec_lt}
@@ -51,9 +50,6 @@ cells-next table n a b c P room last h k l = go (dec_lt k n)
           get_or-set_other two (3 * n + 2) (3 * n + 1) c 0 (λ e. omega (arith, e)) ∙ get_or-set_same one (3 * n + 1) b 0 (omega (arith, room, long-one)),
           rw (get_or-set_same two (3 * n + 2) c 0 (omega (arith, room, long-two))) last,
         )
-
-pub thirds-of : (table : List ℕ) (n a b : ℕ) {P : ℕ → ℕ → Type 0} (f : ℕ → ℕ) → Cellwise table n a b P → ((k x : ℕ) → k < n → P k x → x ≡ f k) → Thirds table n a b f
-thirds-of table n a b f h p k l = let c = h k l in (c.0, c.1, p k _ l c.2)
 
 pub thirds-at : (table : List ℕ) (n a b : ℕ) (f : ℕ → ℕ) (k : ℕ) → Thirds table n a b f → k < n → (get_or table (3 * k) 0 ≡ a) × (get_or table (3 * k + 1) 0 ≡ b) × (get_or table (3 * k + 2) 0 ≡ f k)
 thirds-at table n a b f k h l = h k l

@@ -4,7 +4,7 @@
 --   line-answered    ==  so it is of every line
 --   Answering input out b o at n  ==  the lines before `at` are answered: b is the machine's register, and what was printed is written over the first n bytes of out, as o
 --   answering-none, answering-next, answering-all  ==  the loop's start, one turn, and its end
---   answering-room, answering-size  ==  there is room for one more line; a grid has at most 128 cells
+--   answering-room   ==  there is room for one more line
 --   answering-kept  ==  the register keeps its length
 use mathlib.Core.Path.{◌≡◌, refl, sym, ap, ◌∙◌}
 use mathlib.Core.List.{List, [], ◌++◌, append_assoc, append-nil}
@@ -19,7 +19,6 @@ use Rattle.machine.specs.Machine.{shown, outcome}
 use Rattle.machine.proofs.MachineLaws.{Good, empty-good}
 use Rattle.calls.proofs.ValidMoves.{tail-part, put-tail}
 use Rattle.lines.proofs.FillLaws.{Filled, fill_none}
-use Rattle.register.proofs.OpenSteps.{limits-size}
 use Rattle.protocol.specs.Input.{lines, further_lines}
 use Rattle.protocol.specs.Commands.{report, LineAnswer, answer_step, answer}
 use Rattle.protocol.specs.Readings.{read_line}
@@ -29,6 +28,7 @@ use Rattle.protocol.proofs.ReadingLaws.{step-of-good, answered-same, reading-ans
 use Rattle.protocol.proofs.StartLaws.{start-pass}
 use Rattle.protocol.proofs.RunLaws.{length-shown}
 use Rattle.transcript.specs.declared.reports.Report.{Report}
+use Rattle.transcript.specs.Commands.{printed_command}
 use Rattle.transcript.specs.Lines.{NextLine}
 use Rattle.transcript.specs.Answers.{Answers, Runs, Answered}
 use Rattle.transcript.proofs.StartSteps.{rest_lines}
@@ -38,7 +38,7 @@ use Rattle.transcript.proofs.StartSteps.{rest_lines}
 module _ (s : Shape) (l : List Entry) (g : Good s l) (line : List ℕ) {b b' : List ℕ} {r : Report} (e : b ≡ shown s l) (a : Answers s.rows s.columns s.top line b b' r) where
   -- the report's bytes, what is left of the register, and that the next set is good
   record Line (x : LineAnswer) : Type 0 where
-    printed : report r.command r.number r.place ≡ x.printed
+    printed : report (printed_command r.command) r.number r.place ≡ x.printed
     left : b' ≡ shown s x.next
     stays : Good s x.next
 
@@ -67,9 +67,6 @@ pub record Answering (input out b o : List ℕ) (at n : ℕ) : Type 0 where
   pub after : set_after (shape_in input) [] (further_lines input) ≡ set_after (shape_in input) set (lines (drop at input))
 
 module _ {input : List ℕ} {rows columns top : ℕ} {b₀ out : List ℕ} (k : Runs input rows columns top b₀ out) where
-  pub answering-size : rows * columns ≤ 128
-  answering-size = rw (k.rows_are, k.columns-are) (limits-size (shape_in input) ((start-pass input).0 k.passes).limits)
-
   pub answering-none : Answering input out b₀ out 25 0
   answering-none =
       let r = rest_lines input k.passes in
@@ -108,7 +105,7 @@ module _ {input : List ℕ} {rows columns top : ℕ} {b₀ out : List ℕ} (k : 
 
     module _ (h : at < length input) {end : ℕ} (line : NextLine input at end) {b' : List ℕ} {r : Report} (a : Answers rows columns top (take (end - at) (drop at input)) b b' r) where
       abbrev said : List ℕ
-      said = report r.command r.number r.place
+      said = report (printed_command r.command) r.number r.place
 
       abbrev one : List ℕ
       one = take (end - at) (drop at input)
@@ -116,7 +113,7 @@ module _ {input : List ℕ} {rows columns top : ℕ} {b₀ out : List ℕ} (k : 
       answered : Line (shape_in input) t.set t.good one t.register (rw (k.rows_are, k.columns-are, k.top-is) at a) (answer (shape_in input) t.set one)
       answered = line-answered (shape_in input) t.set t.good one t.register (rw (k.rows_are, k.columns-are, k.top-is) at a)
 
-      pub answering-next : (ys : List ℕ) → ys ≡ report r.command r.number r.place ++ drop 19 (mid_of n (length o - n) o) → Answering input out b' (put_mid n (length o - n) o ys) end (n + 19)
+      pub answering-next : (ys : List ℕ) → ys ≡ report (printed_command r.command) r.number r.place ++ drop 19 (mid_of n (length o - n) o) → Answering input out b' (put_mid n (length o - n) o ys) end (n + 19)
       unfolding reports set_after
       answering-next ys y = record {
         set = (answer (shape_in input) t.set one).next;
@@ -143,7 +140,7 @@ module _ {input : List ℕ} {rows columns top : ℕ} {b₀ out : List ℕ} (k : 
               (ap (λ (x : List ℕ). x ++ (said ++ drop (n + 19) out)) (ap (take n) t.written.bytes ∙ take_at t.text (drop n out) n t.written.front) ∙ sym (append_assoc t.text said (drop (n + 19) out)))
 
           front : length (t.text ++ said) ≡ n + 19
-          front = length-append t.text said ∙ omega (arith, t.written.front, length-report r.command r.number r.place)
+          front = length-append t.text said ∙ omega (arith, t.written.front, length-report (printed_command r.command) r.number r.place)
 
           size-kept : length (put_mid n (length o - n) o ys) ≡ length out
           size-kept = ap length bytes ∙ length-append (t.text ++ said) (drop (n + 19) out) ∙ omega (arith, front, length-drop (n + 19) out, answering-room h, t.written.size)

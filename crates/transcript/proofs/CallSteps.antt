@@ -8,6 +8,7 @@
 use mathlib.Core.Path.{◌≡◌, refl, sym, ap, ap₂, ◌∙◌}
 use mathlib.Core.List.{List}
 use mathlib.Core.Bool.{false}
+use Rattle.std.specs.Prelude.{Some, None}
 use Prim.Native.Nat.{ℕ, zero, suc, ◌*◌}
 use lib.ListN.{take}
 use Rattle.bounds.specs.Prune.{Pruned, pruned}
@@ -63,13 +64,13 @@ module _ (m n top : ℕ) (b c : List ℕ) {number : ℕ} {low high : List ℕ} (
 -- ---- a command line
 
 module _ (m n top : ℕ) (line b : List ℕ) where
-  pub answer-malformed : is_laid (m * n) line ≡ false → {r : Report} → (r.command ≡ 0) × (r.number ≡ 12) × (r.place ≡ 0) → Answers m n top line b b r
+  pub answer-malformed : is_laid (m * n) line ≡ false → {r : Report} → (r.command ≡ None) × (r.number ≡ 12) × (r.place ≡ 0) → Answers m n top line b b r
   unfolding command_of answered_by
-  answer-malformed e {r} p = let q = by-none m n top line e in record { command-is = rw q p.0; answers = rw (q, answered_by, p.1, p.2) refl }
+  answer-malformed e {r} p = let q = by-none m n top line e in record { command-is = rw (q, p.0) refl; answers = rw (q, answered_by, p.1, p.2) refl }
 
-  pub answer-made : {cells : List ℕ} {k : Command} → CommandRead (m * n) line cells k → {x : ℕ} → x ≡ command_number k → {j : ℕ} → j ≡ cell_count (m * n) (command_number k) → {b' : List ℕ} {number place : ℕ} →
-      placed number place b' ≡ answered_by register_calls b (read_command m n top (command_number k) (client_of k) (take j cells)) → Answers m n top line b b' (record { command = x; number = number; place = place })
-  answer-made {cells} {k} r y {j} e d = record { command-is = y ∙ sym (ap command_of read ∙ command-of m n top (command_number k) (client_of k) (take j cells)); answers = d ∙ sym (ap (answered_by register_calls b) read) }
+  pub answer-made : {cells : List ℕ} {k : Command} → CommandRead (m * n) line cells k → {j : ℕ} → j ≡ cell_count (m * n) (command_number k) → {b' : List ℕ} {number place : ℕ} →
+      placed number place b' ≡ answered_by register_calls b (read_command m n top (command_number k) (client_of k) (take j cells)) → Answers m n top line b b' (record { command = Some k; number = number; place = place })
+  answer-made {cells} {k} r {j} e d = record { command-is = sym (ap command_of read ∙ command-of m n top (command_number k) (client_of k) (take j cells)); answers = d ∙ sym (ap (answered_by register_calls b) read) }
     where
       cells_are : take j cells ≡ cells_in (m * n) line
       cells_are = rw e r.cells_are

@@ -11,10 +11,11 @@ use Rattle.protocol.specs.Input.{further_lines}
 use Rattle.protocol.specs.Readings.{read_by, command_of, answered_by}
 use Rattle.protocol.specs.Transcript.{shape_in, start_no, reports, set_after}
 use Rattle.protocol.specs.Programs.{output_limit}
+use Rattle.transcript.specs.Commands.{printed_command}
 use Rattle.transcript.specs.declared.reports.Report.{Report}
 
 pub record Answers (m n top : ℕ) (line b b' : List ℕ) (r : Report) : Type 0 where
-  pub command-is : r.command ≡ command_of (read_by m n top line)
+  pub command-is : printed_command r.command ≡ command_of (read_by m n top line)
   pub answers : placed r.number r.place b' ≡ answered_by register_calls b (read_by m n top line)
 
 pub record Runs (input : List ℕ) (m n top : ℕ) (b out : List ℕ) : Type 0 where

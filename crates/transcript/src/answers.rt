@@ -18,7 +18,7 @@ fn answer_line(line: &[u8], start: Start, register: &mut [u8]) -> Report
     };
     let placed = commands::make_call(register, start, command, &cells[..command.cell_count(size)]);
     Report {
-        command: command.number(),
+        command: Some(command),
         number: placed.number,
         place: placed.place,
     }

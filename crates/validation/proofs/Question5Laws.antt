@@ -6,13 +6,11 @@
 --   head-decides                  ==  a comparison with line 1 decides that the bytes begin with it
 --   short-no, refutes             ==  too few bytes, or a part whose test says no: question 5 gets a no
 --   last-decides                  ==  where the other parts hold, the blank lines decide
---   size_small                    ==  a bound of the product that the code forms
---   entries-inside                ==  the lines of the entries are within the bytes
 use mathlib.Core.Path.{◌≡◌, sym, subst, ◌∙◌}
 use mathlib.Core.List.{List}
 use mathlib.Core.Bool.{Bool, true, false, true≢false}
 use mathlib.Core.Logic.{◌↔◌}
-use Prim.Native.Nat.{ℕ, ◌*◌, ◌≤◌, ◌<◌}
+use Prim.Native.Nat.{ℕ, ◌*◌, ◌<◌}
 use native.Mathlib.Omega.{arith}
 use lib.Dec.{eqb}
 use lib.ListN.{length, take}
@@ -20,7 +18,6 @@ use Rattle.std.specs.List.{starts_with}
 use Rattle.std.proofs.lemmas.Bool.Decides.{Decides-eqb}
 use Rattle.std.proofs.lemmas.Slice.Eq.{slice_eq-Decides}
 use Rattle.permutations.proofs.BoolLaws.{bool-ext, refuted}
-use Rattle.grids.proofs.QuestionLaws.{size_fits}
 use Rattle.layout.specs.Layout.{Shape, head_length, line_start, head_line, layout_length, laid_out}
 use Rattle.layout.specs.Lines.{EntriesLaid, BlanksLaid}
 use Rattle.layout.proofs.LayoutLaws.{length-head}
@@ -28,7 +25,6 @@ use Rattle.layout.proofs.LineLaws.{laid-lines}
 use Rattle.lines.specs.declared.head.Head.{Head}
 use Rattle.lines.specs.Head.{shape_of, States}
 use Rattle.validation.specs.Limits.{WithinLimits}
-use Rattle.validation.proofs.BlankLaws.{start-inside}
 
 pub record LaidBy (b : List ℕ) (h : Head) : Type 0 where
   pub limits : WithinLimits h.rows h.columns h.top h.capacity h.count
@@ -95,10 +91,3 @@ module _ {b : List ℕ} {h : Head} (s : States b h) where
       take head_length b ≡ head_line (shape_of h) h.count → EntriesLaid (h.rows * h.columns) h.top h.count b → (r ≡ true) ↔ BlanksLaid (h.rows * h.columns) h.count h.capacity b → r ≡ laid_out b
   last-decides {r} w z f l d =
       bool-ext r (laid_out b) (λ y. laid_by.1 (record { limits = w; sized = z; line = f; entries = l; blanks = d.0 y })) (λ y. d.1 (laid_by.0 y).blanks)
-
-module _ {rows columns top capacity count : ℕ} (w : WithinLimits rows columns top capacity count) where
-  pub size_small : rows * columns ≤ 128
-  size_small = size_fits rows columns w.grid-limits.rows-limits.1 w.grid-limits.column-limits.1
-
-  pub entries-inside : (n : ℕ) → n ≡ line_start (rows * columns) capacity → line_start (rows * columns) count ≤ n
-  entries-inside n z = start-inside (rows * columns) count capacity n w.count_fits (omega arith)

@@ -18,6 +18,12 @@ line_start-from-requires c = let z = valid-sizes c.requires.0 in (z.cells_fit, o
 room : (c : After-line_start-from) → Room (length c.args.low.now) c.loop-e.found c.line_start-from.result (length c.args.register.now)
 room c = counting-room c.requires.0 c.line_start-from.ensures.0 c.loop-e.invariant (omega arith)
 
+pub overflow_mul-end : goal.overflow_mul-end
+overflow_mul-end c = omega (arith, (valid-sizes c.requires.0).cells_fit)
+
+pub overflow_add-end : goal.overflow_add-end
+overflow_add-end c = let r = room ((goal.at.overflow_add-end c).After-line_start-from) in omega (arith, r.small, r.wider)
+
 pub slice_bounds-line_within-end : goal.slice_bounds-line_within-end
 slice_bounds-line_within-end c = let r = room ((goal.at.slice_bounds-line_within-end c).After-line_start-from) in omega (arith, r.inside, r.wider)
 

@@ -1,22 +1,16 @@
 use Rattle.std.proofs.Common.{◌+◌, ◌*◌, ◌≤◌, length, arith}
 use Rattle.layout.specs.Layout.{cell_width}
 use Rattle.layout.proofs.LineLaws.{cells-inside}
-use Rattle.lines.proofs.LineLaws.{length-line, cell-small, read_none, read_next, read_all}
-use Rattle.lines.proofs.NumberLaws.{length-lent, number-lent}
+use Rattle.lines.proofs.LineLaws.{length-line, cell-small, read_next, read_all}
+use Rattle.lines.proofs.NumberLaws.{number-lent}
 use Rattle.lines.proofs.entries.read_line.Goals as goal
 use Rattle.lines.proofs.entries.read_line.Goals.{In-loop-k}
-
-pub loop-k-init : goal.loop-k-init
-loop-k-init c = read_none _ _
 
 inside : (c : In-loop-k) → cell_width * c.loop-k.k + cell_width ≤ length c.args.line.now
 inside c = omega (arith, length-line c.requires.1, cells-inside (length c.args.cells.now))
 
 pub slice_bounds-read_number-end : goal.slice_bounds-read_number-end
 slice_bounds-read_number-end c = inside ((goal.at.slice_bounds-read_number-end c).In-loop-k)
-
-pub read_number-requires : goal.read_number-requires
-read_number-requires c = omega (arith, length-lent cell_width (cell_width * c.loop-k.k) c.args.line.now (inside ((goal.at.read_number-requires c).In-loop-k)))
 
 pub overflow_cast-cell : goal.overflow_cast-cell
 overflow_cast-cell c =

@@ -5,9 +5,6 @@ use Rattle.lines.proofs.entries.write_fields.Goals as goal
 pub loop-k-init : goal.loop-k-init
 loop-k-init c = fields-none _ _
 
-pub slice_bounds-write_number-end : goal.slice_bounds-write_number-end
-slice_bounds-write_number-end c = omega arith
-
 pub loop-k-preserved : goal.loop-k-preserved
 loop-k-preserved c = fields_next _ c.loop-k.invariant (omega arith) (omega arith) c.from.ensures c.write_number.ensures
 

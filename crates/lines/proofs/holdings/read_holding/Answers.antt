@@ -2,7 +2,7 @@
 use Rattle.std.proofs.Common.{◌+◌, ◌≤◌, length, arith}
 use Rattle.layout.specs.Layout.{cell_width}
 use Rattle.lines.proofs.HoldingLaws.{holding-inside, holding-stated}
-use Rattle.lines.proofs.NumberLaws.{length-lent, number-lent}
+use Rattle.lines.proofs.NumberLaws.{number-lent}
 use Rattle.lines.proofs.holdings.read_holding.Goals as goal
 use Rattle.lines.proofs.holdings.read_holding.Goals.{After-place-at}
 
@@ -11,9 +11,6 @@ inside c = let a = c.args in omega (arith, holding-inside a.size a.client (omega
 
 pub slice_bounds-read_number-end : goal.slice_bounds-read_number-end
 slice_bounds-read_number-end c = inside ((goal.at.slice_bounds-read_number-end c).After-place-at)
-
-pub read_number-requires : goal.read_number-requires
-read_number-requires c = omega (arith, length-lent cell_width c.place-at.result c.args.line.now (inside ((goal.at.read_number-requires c).After-place-at)))
 
 pub returns : goal.returns
 returns c =

@@ -1,10 +1,7 @@
 use Rattle.std.proofs.Common.{arith}
 use Rattle.layout.specs.Layout.{holdings_of, changed}
-use Rattle.lines.proofs.HoldingLaws.{length-after, none_first, none-next, none-all, one-held}
+use Rattle.lines.proofs.HoldingLaws.{length-after, none-next, none-all, one-held}
 use Rattle.lines.proofs.holdings.still_held.Goals as goal
-
-pub loop-other-init : goal.loop-other-init
-loop-other-init c = (omega arith, none_first _)
 
 pub returns-then-holding_after-gt0 : goal.returns-then-holding_after-gt0
 returns-then-holding_after-gt0 c =

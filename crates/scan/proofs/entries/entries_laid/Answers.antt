@@ -3,9 +3,6 @@ use mathlib.Core.Logic.Iff
 use Rattle.scan.proofs.LineLaws.{lines-entries}
 use Rattle.scan.proofs.entries.entries_laid.Goals as goal
 
-pub lines_laid-requires : goal.lines_laid-requires
-lines_laid-requires c = rw c.new.ensures.0 c.requires.2
-
 pub returns : goal.returns
 returns c =
     let a = c.args in

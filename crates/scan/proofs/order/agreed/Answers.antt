@@ -7,9 +7,6 @@ use Rattle.scan.proofs.order.agreed.Goals as goal
 pub loop-block-init : goal.loop-block-init
 loop-block-init c = agree-none _ _ _
 
-pub returns-then-not-same_from : goal.returns-then-not-same_from
-returns-then-not-same_from c = (omega arith, c.loop-block.invariant)
-
 pub loop-block-preserved : goal.loop-block-preserved
 loop-block-preserved c =
     let a = c.args in

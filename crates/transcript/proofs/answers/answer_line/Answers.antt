@@ -20,4 +20,4 @@ pub returns : goal.returns
 returns c =
     let s = c.args.start in
     let z = c.size-size.ensures.0 in
-    answer-made s.rows s.columns s.top c.args.line.now c.args.register.now (rw z at c.in-Some.ensures) c.number.ensures (rw z at c.cell_count.ensures.0) c.make_call-placed.ensures
+    answer-made s.rows s.columns s.top c.args.line.now c.args.register.now (rw z at c.in-Some.ensures) (rw z at c.cell_count.ensures.0) c.make_call-placed.ensures

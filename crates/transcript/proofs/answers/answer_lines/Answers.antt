@@ -8,29 +8,11 @@ use Rattle.transcript.proofs.answers.answer_lines.Goals as goal
 pub loop-at-init : goal.loop-at-init
 loop-at-init c = answering-none c.requires
 
-pub slice_bounds-answer_line-count : goal.slice_bounds-answer_line-count
-slice_bounds-answer_line-count c = omega (arith, c.line_end-end.ensures.further)
-
-pub slice_bounds-answer_line-start : goal.slice_bounds-answer_line-start
-slice_bounds-answer_line-start c = omega (arith, c.line_end-end.ensures.further)
-
-pub slice_bounds-answer_line-end : goal.slice_bounds-answer_line-end
-slice_bounds-answer_line-end c = omega (arith, c.line_end-end.ensures.within)
-
-pub slice_bounds-write_report-count : goal.slice_bounds-write_report-count
-slice_bounds-write_report-count c = omega (arith, answering-room c.requires c.loop-at.invariant (omega arith))
-
-pub slice_bounds-write_report-start : goal.slice_bounds-write_report-start
-slice_bounds-write_report-start c = omega (arith, answering-room c.requires c.loop-at.invariant (omega arith))
-
 pub write_report-requires : goal.write_report-requires
 write_report-requires c =
     let l = c.loop-at in
     let r = answering-room c.requires l.invariant (omega arith) in
     omega (arith, ap length (tail-part l.out l.printed (omega arith)), length-drop l.printed l.out)
-
-pub overflow_add-printed : goal.overflow_add-printed
-overflow_add-printed c = omega (arith, answering-room c.requires c.loop-at.invariant (omega arith))
 
 pub loop-at-preserved : goal.loop-at-preserved
 loop-at-preserved c =

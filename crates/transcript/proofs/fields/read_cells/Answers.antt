@@ -19,12 +19,6 @@ room c = omega arith
 stated : (c : After-read_number-number) → 3 * c.loop-k.k + 3 ≤ length c.args.bytes.now → c.read_number-number.result ≡ number_at 3 (3 * c.loop-k.k) c.args.bytes.now
 stated c r = (number-lent 3 (3 * c.loop-k.k) c.args.bytes.now r c.read_number-number.ensures).0
 
-pub read_number-number-requires : goal.read_number-number-requires
-read_number-number-requires c = omega (arith, length-lent 3 (3 * c.loop-k.k) c.args.bytes.now (room ((goal.at.read_number-number-requires c).In-loop-k)))
-
-pub is_field-requires : goal.is_field-requires
-is_field-requires c = omega (arith, length-lent 3 (3 * c.loop-k.k) c.args.bytes.now (room ((goal.at.is_field-requires c).In-loop-k)))
-
 pub returns-then-number-gt255 : goal.returns-then-number-gt255
 returns-then-number-gt255 c =
     let l = c.loop-k in

@@ -38,9 +38,6 @@ returns-in_err-ask_numbers c =
 limits : (c : In_ok-ask_numbers) → InLimits (shape c.read_field-rows.result c.read_field-columns.result c.read_field-top.result c.read_field-capacity.result)
 limits c = numbers-within _ c.in_ok-ask_numbers.ensures
 
-pub overflow_mul-rows : goal.overflow_mul-rows
-overflow_mul-rows c = omega (arith, limits-size _ (limits ((goal.at.overflow_mul-rows c).In_ok-ask_numbers)))
-
 pub line_start-length-requires : goal.line_start-length-requires
 line_start-length-requires c = let l = limits ((goal.at.line_start-length-requires c).In_ok-ask_numbers) in (limits-size _ l, l.capacity-limits.1)
 

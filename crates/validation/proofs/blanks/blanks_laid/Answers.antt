@@ -1,12 +1,9 @@
-use mathlib.Core.Path.{◌≡◌, sym, ◌∙◌}
+use mathlib.Core.Path.{sym, ◌∙◌}
 use mathlib.Core.Bool.{true≢false}
 use native.Mathlib.Omega.{arith}
-use Rattle.lines.proofs.AnswerLaws.{holds, fails}
-use Rattle.validation.proofs.BlankLaws.{line-inside, compared, blank_none, blank-next}
+use Rattle.lines.proofs.AnswerLaws.{fails}
+use Rattle.validation.proofs.BlankLaws.{line-inside, compared, blank-next}
 use Rattle.validation.proofs.blanks.blanks_laid.Goals as goal
-
-pub loop-e-init : goal.loop-e-init
-loop-e-init c = blank_none _ _ _
 
 pub slice_bounds-ne-end : goal.slice_bounds-ne-end
 slice_bounds-ne-end c = line-inside _ _ _ _ c.line_start-at.ensures.0 c.line_length-length.ensures.0 (omega arith) c.requires.3
@@ -18,6 +15,3 @@ returns-then-ne c =
 pub loop-e-preserved : goal.loop-e-preserved
 loop-e-preserved c =
     blank-next c.loop-e.invariant ((compared _ _ _ _ c.line_start-at.ensures.0 c.line_length-length.ensures.0 c.write_blank.ensures c.ne.ensures).0 c.if-ne.false)
-
-pub returns : goal.returns
-returns c = let e : c.loop-e.e ≡ c.args.to = omega (arith, c.loop-e.auto.e-end) in holds (rw e at c.loop-e.invariant)
