@@ -43,13 +43,10 @@ fn fixes(map: &[u8; 8], rows: RowPermutation, k: usize) -> bool
     requires { (i : ℕ) → i < k → get_or (row_numbers rows) i 0 < 8 }
     ensures { Fixes map.now (row_numbers rows) k result }
 {
-    for i in 0..k {
+    (0..k).all(|i| {
         let row = rows.number(i).0;
-        if map[row as usize] != row {
-            return false;
-        }
-    }
-    true
+        map[row as usize] == row
+    })
 }
 
 // The rows marked, and images of them under a symmetry.
