@@ -22,11 +22,11 @@ use Rattle.layout.specs.Decimal.{field, value}
 use Rattle.layout.specs.Layout.{number_at}
 use Rattle.layout.proofs.DecimalLaws.{value-field}
 use Rattle.lines.proofs.FieldLaws.{field-one, field-two}
+use Rattle.lines.specs.Tables.{Thirds}
 use Rattle.lines.proofs.TableLaws.{thirds-at}
 use Rattle.scan.specs.Cells.{One, Two, CellBytes, CellsLaid}
 use Rattle.scan.specs.Fits.{fits, all_fit}
 use Rattle.scan.specs.Tables.{teen_of, span_of}
-use Rattle.scan.specs.declared.tables.Tables.{Tables}
 use Rattle.scan.proofs.FitLaws.{all_none, all-next}
 use Rattle.scan.proofs.ThreeBytes.{cell_fits, fit-bytes, bytes_fit}
 
@@ -106,29 +106,29 @@ fit-by cap byte before base teen span y p b t s d e f g h = rw (d, e, f, g, h) r
 cell_fits_at : ℕ → List ℕ → ℕ → ℕ → Bool
 cell_fits_at top b before k = cell_fits top (get_or b (before + 3 * k) 0) (get_or b (before + 1 + 3 * k) 0) (get_or b (before + 1 + 3 * k + 1) 0) (get_or b (before + 1 + 3 * k + 2) 0)
 
-module _ (tables : Tables) (b : List ℕ) (before : ℕ) where
+module _ (size top : ℕ) (b : List ℕ) (before : ℕ) (base teen span : List ℕ) (bases : Thirds base size 32 32 (λ k. 48)) (teens : Thirds teen size 0 (teen_of top) (λ k. 0)) (spans : Thirds span size 0 0 (λ k. span_of top)) where
   all : ℕ → Bool
-  all k = all_fit k b before tables.base tables.teen tables.span (39 + tables.top)
+  all k = all_fit k b before base teen span (39 + top)
 
   byte : (i j : ℕ) → i ≡ j → get_or b i 0 ≡ get_or b j 0
   byte i j e = ap (λ (x : ℕ). get_or b x 0) e
 
-  one_more : (k y p v t s : ℕ) → get_or b (before + k + 1) 0 ≡ y → get_or b (before + k) 0 ≡ p → get_or tables.base k 0 ≡ v → get_or tables.teen k 0 ≡ t → get_or tables.span k 0 ≡ s →
-      (w : Bool) → all k ≡ w → all (k + 1) ≡ (w && fits y p v t s (39 + tables.top))
+  one_more : (k y p v t s : ℕ) → get_or b (before + k + 1) 0 ≡ y → get_or b (before + k) 0 ≡ p → get_or base k 0 ≡ v → get_or teen k 0 ≡ t → get_or span k 0 ≡ s →
+      (w : Bool) → all k ≡ w → all (k + 1) ≡ (w && fits y p v t s (39 + top))
   unfolding all
   one_more k y p v t s d e f g h w q =
-      all-next k b before tables.base tables.teen tables.span (39 + tables.top)
-      ∙ ap₂ ◌&&◌ q (fit-by (39 + tables.top) (get_or b (before + k + 1) 0) (get_or b (before + k) 0) (get_or tables.base k 0) (get_or tables.teen k 0) (get_or tables.span k 0) y p v t s d e f g h)
+      all-next k b before base teen span (39 + top)
+      ∙ ap₂ ◌&&◌ q (fit-by (39 + top) (get_or b (before + k + 1) 0) (get_or b (before + k) 0) (get_or base k 0) (get_or teen k 0) (get_or span k 0) y p v t s d e f g h)
 
-  three-more : (n : ℕ) → n < tables.size → all (3 * (n + 1)) ≡ (all (3 * n) && cell_fits_at tables.top b before n)
+  three-more : (n : ℕ) → n < size → all (3 * (n + 1)) ≡ (all (3 * n) && cell_fits_at top b before n)
   unfolding cell_fits cell_fits_at
   three-more n l =
       ap all (omega arith)
-      ∙ one_more (3 * n + 2) c a' 48 0 (span_of tables.top) (byte _ _ (omega arith)) (byte _ _ (omega arith)) x.2 y.2 z.2 _
+      ∙ one_more (3 * n + 2) c a' 48 0 (span_of top) (byte _ _ (omega arith)) (byte _ _ (omega arith)) x.2 y.2 z.2 _
       (ap all (omega arith)
-      ∙ one_more (3 * n + 1) a' a 32 (teen_of tables.top) 0 (byte _ _ (omega arith)) (byte _ _ (omega arith)) x.1 y.1 z.1 _
+      ∙ one_more (3 * n + 1) a' a 32 (teen_of top) 0 (byte _ _ (omega arith)) (byte _ _ (omega arith)) x.1 y.1 z.1 _
       (one_more (3 * n) a p 32 0 0 (byte _ _ (omega arith)) refl x.0 y.0 z.0 _ refl))
-      ∙ regroup (all (3 * n)) (fits a p 32 0 0 (39 + tables.top)) (fits a' a 32 (teen_of tables.top) 0 (39 + tables.top)) (fits c a' 48 0 (span_of tables.top) (39 + tables.top))
+      ∙ regroup (all (3 * n)) (fits a p 32 0 0 (39 + top)) (fits a' a 32 (teen_of top) 0 (39 + top)) (fits c a' 48 0 (span_of top) (39 + top))
     where
       p : ℕ
       p = get_or b (before + 3 * n) 0
@@ -142,38 +142,38 @@ module _ (tables : Tables) (b : List ℕ) (before : ℕ) where
       c : ℕ
       c = get_or b (before + 1 + 3 * n + 2) 0
 
-      x : (get_or tables.base (3 * n) 0 ≡ 32) × (get_or tables.base (3 * n + 1) 0 ≡ 32) × (get_or tables.base (3 * n + 2) 0 ≡ 48)
-      x = thirds-at tables.base tables.size 32 32 (λ k. 48) n tables.bases l
+      x : (get_or base (3 * n) 0 ≡ 32) × (get_or base (3 * n + 1) 0 ≡ 32) × (get_or base (3 * n + 2) 0 ≡ 48)
+      x = thirds-at base size 32 32 (λ k. 48) n bases l
 
-      y : (get_or tables.teen (3 * n) 0 ≡ 0) × (get_or tables.teen (3 * n + 1) 0 ≡ teen_of tables.top) × (get_or tables.teen (3 * n + 2) 0 ≡ 0)
-      y = thirds-at tables.teen tables.size 0 (teen_of tables.top) (λ k. 0) n tables.teens l
+      y : (get_or teen (3 * n) 0 ≡ 0) × (get_or teen (3 * n + 1) 0 ≡ teen_of top) × (get_or teen (3 * n + 2) 0 ≡ 0)
+      y = thirds-at teen size 0 (teen_of top) (λ k. 0) n teens l
 
-      z : (get_or tables.span (3 * n) 0 ≡ 0) × (get_or tables.span (3 * n + 1) 0 ≡ 0) × (get_or tables.span (3 * n + 2) 0 ≡ span_of tables.top)
-      z = thirds-at tables.span tables.size 0 0 (λ k. span_of tables.top) n tables.spans l
+      z : (get_or span (3 * n) 0 ≡ 0) × (get_or span (3 * n + 1) 0 ≡ 0) × (get_or span (3 * n + 2) 0 ≡ span_of top)
+      z = thirds-at span size 0 0 (λ k. span_of top) n spans l
 
-  more-fit : (n : ℕ) → n < tables.size → all (3 * suc n) ≡ (all (3 * n) && cell_fits_at tables.top b before n)
+  more-fit : (n : ℕ) → n < size → all (3 * suc n) ≡ (all (3 * n) && cell_fits_at top b before n)
   more-fit n l = ap all (omega arith) ∙ three-more n l
 
-  fit-laid : ((i : ℕ) → get_or b i 0 < 256) → (n : ℕ) → n ≤ tables.size → all (3 * n) ≡ true → CellsLaid tables.top b (before + 1) n
+  fit-laid : top ≤ 15 → ((i : ℕ) → get_or b i 0 < 256) → (n : ℕ) → n ≤ size → all (3 * n) ≡ true → CellsLaid top b (before + 1) n
   unfolding CellsLaid cell_fits_at
-  fit-laid low zero l e k h = absurd (not-suc-le-zero h)
-  fit-laid low (suc n) l e k h = go (fit-laid low n (omega arith) both.0) (dec_lt k n)
+  fit-laid t low zero l e k h = absurd (not-suc-le-zero h)
+  fit-laid t low (suc n) l e k h = go (fit-laid t low n (omega arith) both.0) (dec_lt k n)
     where
-      both : (all (3 * n) ≡ true) × (cell_fits_at tables.top b before n ≡ true)
-      both = and_yes (all (3 * n)) (cell_fits_at tables.top b before n) (sym (more-fit n (omega arith)) ∙ e)
+      both : (all (3 * n) ≡ true) × (cell_fits_at top b before n ≡ true)
+      both = and_yes (all (3 * n)) (cell_fits_at top b before n) (sym (more-fit n (omega arith)) ∙ e)
 
-      go : ((j : ℕ) → j < n → CellBytes tables.top (get_or b (before + 1 + 3 * j) 0) (get_or b (before + 1 + 3 * j + 1) 0) (get_or b (before + 1 + 3 * j + 2) 0)) → Dec (k < n) →
-          CellBytes tables.top (get_or b (before + 1 + 3 * k) 0) (get_or b (before + 1 + 3 * k + 1) 0) (get_or b (before + 1 + 3 * k + 2) 0)
+      go : ((j : ℕ) → j < n → CellBytes top (get_or b (before + 1 + 3 * j) 0) (get_or b (before + 1 + 3 * j + 1) 0) (get_or b (before + 1 + 3 * j + 2) 0)) → Dec (k < n) →
+          CellBytes top (get_or b (before + 1 + 3 * k) 0) (get_or b (before + 1 + 3 * k + 1) 0) (get_or b (before + 1 + 3 * k + 2) 0)
       go ih (yes c) = ih k c
-      go ih (no c) = let z : k ≡ n = omega arith in rw z (fit-bytes tables.top (get_or b (before + 3 * n) 0) _ _ _ tables.low (low _) (low _) (low _) both.1)
+      go ih (no c) = let z : k ≡ n = omega arith in rw z (fit-bytes top (get_or b (before + 3 * n) 0) _ _ _ t (low _) (low _) (low _) both.1)
 
-  laid-fit : (n : ℕ) → n ≤ tables.size → CellsLaid tables.top b (before + 1) n → all (3 * n) ≡ true
+  laid-fit : top ≤ 15 → (n : ℕ) → n ≤ size → CellsLaid top b (before + 1) n → all (3 * n) ≡ true
   unfolding CellsLaid cell_fits_at all
-  laid-fit zero l h = sym (all_none b before tables.base tables.teen tables.span (39 + tables.top))
-  laid-fit (suc n) l h =
+  laid-fit t zero l h = sym (all_none b before base teen span (39 + top))
+  laid-fit t (suc n) l h =
       more-fit n (omega arith)
-      ∙ yes_and (all (3 * n)) (cell_fits_at tables.top b before n) (laid-fit n (omega arith) (λ k c. h k (omega arith))) (bytes_fit tables.top (get_or b (before + 3 * n) 0) _ _ _ tables.low (h n (omega arith)))
+      ∙ yes_and (all (3 * n)) (cell_fits_at top b before n) (laid-fit t n (omega arith) (λ k c. h k (omega arith))) (bytes_fit top (get_or b (before + 3 * n) 0) _ _ _ t (h n (omega arith)))
 
-  pub fit-cells : ((i : ℕ) → get_or b i 0 < 256) → (n : ℕ) → n ≤ tables.size → (all_fit (3 * n) b before tables.base tables.teen tables.span (39 + tables.top) ≡ true) ↔ CellsLaid tables.top b (before + 1) n
+  pub fit-cells : top ≤ 15 → ((i : ℕ) → get_or b i 0 < 256) → (n : ℕ) → n ≤ size → (all_fit (3 * n) b before base teen span (39 + top) ≡ true) ↔ CellsLaid top b (before + 1) n
   unfolding all
-  fit-cells low n l = (fit-laid low n l, laid-fit n l)
+  fit-cells t low n l = (fit-laid t low n l, laid-fit t n l)

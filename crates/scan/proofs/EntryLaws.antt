@@ -69,7 +69,7 @@ module _ (tables : Tables) (b : List ℕ) (at length : ℕ) (e : length ≡ line
   )
     where
       others : (all_fit (3 * (tables.size - k)) b (at + 3 * k - 1) tables.base tables.teen tables.span (39 + tables.top) ≡ true) ↔ CellsLaid tables.top b (at + 3 * k) (tables.size - k)
-      others = let z : at + 3 * k - 1 + 1 ≡ at + 3 * k = omega arith in rw z at (fit-cells tables b (at + 3 * k - 1) low (tables.size - k) (omega arith))
+      others = let z : at + 3 * k - 1 + 1 ≡ at + 3 * k = omega arith in rw z at (fit-cells tables.size tables.top b (at + 3 * k - 1) tables.base tables.teen tables.span tables.bases tables.teens tables.spans tables.low low (tables.size - k) (omega arith))
 
 module _ (size top : ℕ) (b : List ℕ) (p q : ℕ) (t : Bool) (laid : (t ≡ true) ↔ LineLaid size top b q) where
   pub next-not : t ≡ false → (false ≡ true) ↔ Follows size top b p q
