@@ -39,6 +39,7 @@ pub fn read_line(line: &[u8], cells: &mut [u8])
 {
     for (k, cell) in cells.iter_mut().enumerate() {
         let at = WIDTH * k;
+        // it is 15 at most: `try_from` would have an arm that is never taken
         *cell = numbers::read_number(&line[at..at + WIDTH]) as u8;
     }
 }

@@ -6,7 +6,7 @@ ghost use Rattle.layout.specs.Layout.{clients, cell_width, line_length, holdings
 use crate::entries::{CLIENTS, WIDTH};
 use crate::numbers;
 
-// Where a client's holding begins, in the line of an entry with so many cells.
+// Where a client's holding begins, in the line of an entry with so many cells. A client is a number, as C and the register's calls have it.
 fn place(size: usize, client: usize) -> usize
     requires { (size ≤ 128) × (1 ≤ client) × (client ≤ clients) }
     ensures { result ≡ cell_width * (size + (client - 1)) }

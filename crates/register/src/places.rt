@@ -22,8 +22,7 @@ fn compare_entry(register: &[u8], e: usize, count: usize, grid: &[u8]) -> Orderi
     let end = start + width;
     let mut cells = [0u8; 128];
     entries::read_line(&register[start..end], &mut cells[0..size]);
-    let compared = comparisons::compare_grids(&cells[0..size], grid);
-    compared.found
+    comparisons::compare_grids(&cells[0..size], grid).found
 }
 
 // The lines among which a place is sought.
@@ -39,16 +38,16 @@ fn halved(register: &[u8], count: usize, span: Span, grid: &[u8]) -> Span
     ensures { Halved (grids_of (decode register.now).entries) grid.now span result }
 {
     let middle = span.low + (span.high - span.low) / 2;
-    let found = compare_entry(register, middle, count, grid);
-    if found.is_lt() {
-        return Span {
+    if compare_entry(register, middle, count, grid).is_lt() {
+        Span {
             low: middle + 1,
             high: span.high,
-        };
-    }
-    Span {
-        low: span.low,
-        high: middle,
+        }
+    } else {
+        Span {
+            low: span.low,
+            high: middle,
+        }
     }
 }
 
@@ -61,6 +60,7 @@ pub fn lower_bound(register: &[u8], count: usize, grid: &[u8]) -> usize
         low: 0,
         high: count,
     };
+    // Each turn halves what is left, so this is no loop over a range; the entries are bytes and no slice of theirs can be searched.
     while span.low < span.high {
         span = halved(register, count, span, grid);
     }
@@ -75,6 +75,5 @@ pub fn is_entry(register: &[u8], count: usize, e: usize, grid: &[u8]) -> bool
     if count <= e {
         return false;
     }
-    let found = compare_entry(register, e, count, grid);
-    found.is_eq()
+    compare_entry(register, e, count, grid).is_eq()
 }

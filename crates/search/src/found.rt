@@ -14,7 +14,8 @@ use permutations::rows::RowNumber;
 
 // The best: its row order, how many columns come after each, and the keys of its rows where they are made; the symmetries known; how
 // many pairs of columns all rows tell apart, at most; and the position that the search can go back to: where it is before the number of
-// rows placed, an arrangement of the branch equals the best one, whose row order begins with the same rows.
+// rows placed, an arrangement of the branch equals the best one, whose row order begins with the same rows. It is the number of all rows where there is
+// none, so that one comparison tells both.
 #[derive(Clone, Copy)]
 pub struct Found {
     pub best: [RowNumber; 8],

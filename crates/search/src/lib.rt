@@ -1,4 +1,5 @@
-// The search for the least arrangement of a grid.
+// The search for the least arrangement of a grid. It is to take the place of the two searches; the small functions that `two_values` has
+// too stand in both until that crate goes, since a crate below both would then serve one.
 #![tactic(auto)]
 
 mod columns;

@@ -26,10 +26,13 @@ pub fn read_cells(bytes: &[u8], cells: &mut [u8]) -> bool
         let at = WIDTH * k;
         let field = &bytes[at..at + WIDTH];
         let number = numbers::read_number(field);
-        if 255 < number || !is_field(field, number) {
+        let Ok(value) = u8::try_from(number) else {
+            return false;
+        };
+        if !is_field(field, number) {
             return false;
         }
-        *cell = number as u8;
+        *cell = value;
     }
     true
 }

@@ -13,7 +13,7 @@ use permutations::rows::RowPermutation;
 
 // The best, the numbers of its rows, and how many columns come after each; the position that the search can go back to; and the
 // symmetries found. Where the position is before the number of rows placed, an arrangement of the branch equals the best one, whose row
-// order begins with the same `back` rows.
+// order begins with the same `back` rows. The position is the number of all rows where there is none, so that one comparison tells both.
 #[derive(Clone, Copy)]
 pub struct Found {
     pub best: RowPermutation,

@@ -37,4 +37,4 @@ slice_bounds-compare_grids-end c =
 pub returns : goal.returns
 returns c =
     let d = c.read_line in
-    entry-compared c.requires.0 c.args.e c.requires.1 c.line_start-start.ensures.0 c.line_length-width.ensures.0 c.read_line.new.cells _ c.args.grid.now (part_length _ (length c.args.grid.now) (valid-sizes c.requires.0).cells_fit) d.ensures c.compare_grids-compared.ensures.found-is
+    entry-compared c.requires.0 c.args.e c.requires.1 c.line_start-start.ensures.0 c.line_length-width.ensures.0 c.read_line.new.cells _ c.args.grid.now (part_length _ (length c.args.grid.now) (valid-sizes c.requires.0).cells_fit) d.ensures c.compare_grids.ensures.found-is

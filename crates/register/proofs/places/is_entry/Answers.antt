@@ -7,5 +7,5 @@ returns-then-count-e c = past-entry _ _ _ c.if-count-e.true
 
 pub returns : goal.returns
 returns c =
-    let d = c.compare_entry-found in
+    let d = c.compare_entry in
     at_entry _ _ _ _ _ c.if-count-e.false c.is_eq.ensures d.ensures
