@@ -151,7 +151,8 @@ impl Parting<'_> {
 }
 
 // Prunes row 0 and another row, of one length: x has the lows of row 0, and `highs` its highs, which are lowered; `high` has the highs
-// of the other row, and `lows` its lows, which are raised. False where x leads no row within the bounds.
+// of the other row, and `lows` its lows, which are raised. False where x leads no row within the bounds. The bounds of a row are no struct:
+// one half of each changes here, and not the same one.
 pub fn prune_row(x: &[u8], high: &[u8], highs: &mut [u8], lows: &mut [u8]) -> bool
     requires { RowSizes (length x.now) high.now highs.old lows.old × Values (length x.now) 15 (cell_at high.now) }
     ensures { RowOutcome result (length x.now) (cell_at x.now) (cell_at lows.old) (cell_at high.now) (cell_at highs.old) (cell_at highs.new) (cell_at lows.new) }

@@ -34,7 +34,7 @@ fn run(input: &[u8], start: Start, register: &mut [u8], out: &mut [u8]) -> usize
 
 // Writes what planbook prints for an input over the first bytes of a slice, and returns how many bytes that is. The register is kept
 // at the front of another slice. Where that has fewer than 65,536 bytes, or the output slice fewer than 1,310,720, it returns 0
-// and writes nothing.
+// and writes nothing. The count is that of `transcribed`, on which `planbook` rests, so it is no `Option`.
 pub fn transcribe(input: &[u8], register: &mut [u8], out: &mut [u8]) -> usize
     ensures { transcribing result register.new out.new ≡ transcribed input.now register.old out.old }
 {

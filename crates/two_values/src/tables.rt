@@ -4,7 +4,7 @@ ghost use Rattle.two_values.specs.TwoValues.{TwoValued};
 ghost use Rattle.two_values.specs.Tables.{Tables};
 
 // The cells of m rows and n columns, of which `low` is the lower value. `columns` has 1 for each cell with the higher value, column after
-// column; `rows` has 0 for each of them and 1 elsewhere, row after row.
+// column; `rows` has 0 for each of them and 1 elsewhere, row after row. They are numbers and no `bool`s, since they are summed and shifted.
 #[derive(Drop)]
 pub struct TwoValuedGrid<'a> {
     pub cells: &'a [u8],
