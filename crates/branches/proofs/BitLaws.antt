@@ -13,7 +13,8 @@ use lib.Arith.{digits_lt}
 use borrow.Author.Tests.{eq-eqb, ne_eqb}
 use Rattle.grids.specs.Order.{rank}
 use Rattle.grids.proofs.OrderLaws.{rank-injective}
-use Rattle.branches.specs.Keys.{TwoValued, bit}
+use Rattle.grids.specs.Values.{TwoValued}
+use Rattle.branches.specs.Keys.{bit}
 
 pub bit-low : (low v : ℕ) → v ≡ low → bit low v ≡ 0
 unfolding bit

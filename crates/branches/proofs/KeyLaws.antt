@@ -29,7 +29,8 @@ use Rattle.grids.proofs.OrderLaws.{≼_refl, ≼_trans, ≺-≼, ≼-≺, ≺-tr
 use Rattle.branches.proofs.LeadingRows.{leading-cells, leading-more}
 use Rattle.permutations.specs.Sums.{sum_to, count}
 use Rattle.branches.specs.SortedRows.{columns_after, places_after}
-use Rattle.branches.specs.Keys.{TwoValued, bit, bit_key}
+use Rattle.grids.specs.Values.{TwoValued}
+use Rattle.branches.specs.Keys.{bit, bit_key}
 use Rattle.branches.proofs.BitLaws.{bit-most, bit-lower, bit-ascends, cell-inside}
 use Rattle.branches.proofs.SortedRows.{fewer-ascend}
 use Rattle.branches.proofs.CountLaws.{count-ext, count_less, count-after, count-from}

@@ -4,7 +4,6 @@
 --   level v              ==  the rank of a value, of 16
 --   Small g              ==  every cell of g is at most 15
 --   number n f           ==  the number with the digits f 0, f 1, .., f (n - 1) to base 16, the first one highest
---   TwoValued g low      ==  the cells of g are `low` and at most one value more, which ranks higher
 --   bit low v            ==  0 for the value `low`, 1 for any other
 --   bit_key n g low k p  ==  the key of row k of the order p in a grid of two values: each higher value counts 2 to the power of the columns after its own
 --   digit_key n g k p    ==  the key of row k of the order p in any grid: the levels of its cells, with the columns sorted by it and the rows before, to base 16
@@ -14,6 +13,7 @@ use Rattle.std.specs.Prelude.{◌≡◌, List, Bool, true, false, ℕ, zero, suc
 use Rattle.permutations.specs.Sums.{sum_to}
 use Rattle.grids.specs.Order.{rank}
 use Rattle.grids.specs.Grids.{cell}
+use Rattle.grids.specs.Values.{TwoValued}
 use Rattle.branches.specs.SortedRows.{columns_after, column_order}
 
 unfoldable pub level : ℕ → ℕ
@@ -25,10 +25,6 @@ Small g = (i : ℕ) → i < length g → get_or g i 0 ≤ 15
 unfoldable pub number : ℕ → (ℕ → ℕ) → ℕ
 number zero f = 0
 number (suc n) f = 16 * number n f + f n
-
-pub record TwoValued (g : List ℕ) (low : ℕ) : Type 0 where
-  pub lowest : (i : ℕ) → i < length g → rank low ≤ rank (get_or g i 0)
-  pub one_more : (i j : ℕ) → i < length g → j < length g → (get_or g i 0 ≡ low → ⊥) → (get_or g j 0 ≡ low → ⊥) → get_or g i 0 ≡ get_or g j 0
 
 unfoldable pub bit : ℕ → ℕ → ℕ
 bit low v = elim (eqb v low) [ true ↦ 0 | false ↦ 1 ]

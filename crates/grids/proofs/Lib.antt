@@ -11,3 +11,4 @@ pub mod ComparisonSteps
 pub mod ArrangementSteps
 pub mod LentLaws
 pub mod HigherLaws
+pub mod ValueLaws

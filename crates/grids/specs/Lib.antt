@@ -1,6 +1,7 @@
 pub mod Order
 pub mod CommonPrefix
 pub mod Neighbours
+pub mod Values
 pub mod Grids
 pub mod Sorted
 pub mod Least

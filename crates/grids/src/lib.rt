@@ -6,3 +6,4 @@ pub mod arrangements;
 pub mod cells;
 pub mod comparisons;
 pub mod questions;
+pub mod values;

@@ -15,4 +15,3 @@ mod settled;
 mod sifting;
 mod symmetries;
 mod tables;
-mod values;

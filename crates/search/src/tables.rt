@@ -3,8 +3,7 @@ ghost use Rattle.std.specs.Prelude.{◌≡◌, ℕ, ◌*◌, ◌<◌, ◌≤◌,
 ghost use Rattle.branches.specs.Keys.{level, Small};
 ghost use Rattle.search.specs.Tables.{entry, ByRows, ByColumns, ByBits, Tables, tables-prop, is_two, low_of};
 
-use crate::values;
-use grids::cells;
+use grids::{cells, values};
 use permutations::columns::ColumnNumber;
 use permutations::rows::RowNumber;
 

@@ -18,7 +18,8 @@ use borrow.Author.Tests.{eq-eqb, ne_eqb, lt-ltb}
 use Rattle.grids.specs.Order.{rank}
 use Rattle.grids.specs.Grids.{cell}
 use Rattle.grids.proofs.OrderLaws.{rank-injective}
-use Rattle.two_values.specs.TwoValues.{TwoValued, bit}
+use Rattle.grids.specs.Values.{TwoValued}
+use Rattle.two_values.specs.TwoValues.{bit}
 use Rattle.two_values.specs.Tables.{high, ByRows}
 
 pub bit-low : (low v : ℕ) → v ≡ low → bit low v ≡ 0

@@ -28,7 +28,8 @@ use Rattle.grids.specs.Sorted.{permuted_column, Ascending}
 use Rattle.grids.proofs.OrderLaws.{≼_refl, ≼_trans, ≺-≼, ≼-≺, ≺-trans, ≼-prefix, first-unequal, tabulate-at, less-decides, equal-eq, eq-equal}
 use Rattle.branches.proofs.LeadingRows.{leading-cells, leading-more}
 use Rattle.permutations.specs.Sums.{sum_to, count}
-use Rattle.two_values.specs.TwoValues.{TwoValued, bit, columns_after, places_after, key}
+use Rattle.grids.specs.Values.{TwoValued}
+use Rattle.two_values.specs.TwoValues.{bit, columns_after, places_after, key}
 use Rattle.two_values.specs.Tables.{high, ByColumns, RowKeys}
 use Rattle.two_values.proofs.BitLaws.{bit-most, bit-lower, bit-ascends, cell-inside}
 use Rattle.two_values.proofs.CountLaws.{count-ext, count_less, count-after, count-from}

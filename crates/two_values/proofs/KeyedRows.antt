@@ -19,7 +19,8 @@ use Rattle.grids.specs.Sorted.{permuted_column}
 use Rattle.grids.proofs.OrderLaws.{≼-dec, ≼-antisymm}
 use Rattle.branches.proofs.LeadingRows.{leading-fewer, leading-row}
 use Rattle.branches.proofs.BranchLaws.{placed-stay}
-use Rattle.two_values.specs.TwoValues.{TwoValued, bit, columns_after, key, column_order, sorted_rows}
+use Rattle.grids.specs.Values.{TwoValued}
+use Rattle.two_values.specs.TwoValues.{bit, columns_after, key, column_order, sorted_rows}
 use Rattle.two_values.proofs.CountLaws.{count-ext}
 use Rattle.permutations.proofs.SumLaws.{sum-ext}
 use Rattle.two_values.proofs.SortedRows.{order-permutation, order-ascending, sorted-fewer, sorted-agree, sorted-next, sorted-lower, columns-agree}

@@ -1,7 +1,6 @@
 pub mod CountLaws
 pub mod LoopLaws
 pub mod TableLaws
-pub mod ValueLaws
 pub mod SortLaws
 pub mod SortedRows
 pub mod RefinedLaws

@@ -19,7 +19,8 @@ use Rattle.permutations.specs.Columns.{ColumnPermutation}
 use Rattle.permutations.specs.Columns.{column_numbers, IsColumnPermutation}
 use Rattle.grids.specs.Grids.{cell}
 use Rattle.permutations.specs.Sums.{sum_to, count}
-use Rattle.two_values.specs.TwoValues.{TwoValued, bit}
+use Rattle.grids.specs.Values.{TwoValued}
+use Rattle.two_values.specs.TwoValues.{bit}
 
 unfoldable pub high : ℕ → List ℕ → ℕ → ℕ → ℕ → ℕ
 high n g low r c = elim (ltb c n) [ true ↦ bit low (cell n g r c) | false ↦ 0 ]

@@ -11,5 +11,4 @@ mod search;
 mod settled;
 mod symmetries;
 mod tables;
-mod values;
 mod words;

@@ -1,6 +1,6 @@
 // A grid with two values, and its cells as 0 and 1.
 ghost use Rattle.std.specs.Prelude.{◌≡◌, ◌*◌, ◌≤◌, length};
-ghost use Rattle.two_values.specs.TwoValues.{TwoValued};
+ghost use Rattle.grids.specs.Values.{TwoValued};
 ghost use Rattle.two_values.specs.Tables.{Tables};
 
 // The cells of m rows and n columns, of which `low` is the lower value. `columns` has 1 for each cell with the higher value, column after

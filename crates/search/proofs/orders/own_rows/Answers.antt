@@ -1,4 +1,4 @@
-use Rattle.std.proofs.Common.{map, length, ◌≡◌, ◌∙◌, ap, rules, arith}
+use Rattle.std.proofs.Common.{map, length, ◌≡◌, ◌∙◌, rules, arith}
 use lib.ListN.{length-map}
 use Rattle.permutations.specs.Rows.{row_number}
 use Rattle.permutations.proofs.ListLaws.{at_map}

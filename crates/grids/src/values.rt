@@ -1,14 +1,14 @@
 // Which values a grid has. No loop is left early, so that many cells are looked at together.
 ghost use Rattle.std.specs.Prelude.{◌≡◌, true, ◌⊎◌, ℕ, ◌≤◌, ◌<◌, length, get_or, IfSome};
 ghost use Rattle.grids.specs.Order.{rank};
-ghost use Rattle.two_values.specs.TwoValues.{TwoValued};
+ghost use Rattle.grids.specs.Values.{HasCell, TwoValued};
 
-use grids::cells;
+use crate::cells;
 
 // The lowest value of a grid.
 fn lowest(grid: &[u8]) -> u8
     requires { 0 < length grid.now }
-    ensures { (i : ℕ) → i < length grid.now → rank result ≤ rank (get_or grid.now i 0) }
+    ensures { HasCell grid.now result × ((i : ℕ) → i < length grid.now → rank result ≤ rank (get_or grid.now i 0)) }
 {
     let mut low = grid[0];
     for cell in grid {
@@ -39,9 +39,9 @@ fn has_only(grid: &[u8], low: u8, high: u8) -> bool
     either
 }
 
-// The lower value of a grid, if it has two at most.
+// The lower value of a grid, if it has two at most; 0 if it has no cell.
 pub fn lower_of_two(grid: &[u8]) -> Option<u8>
-    ensures { IfSome result (λ low. TwoValued grid.now low) }
+    ensures { IfSome result (λ low. TwoValued grid.now low × HasCell grid.now low) }
 {
     if grid.is_empty() {
         return Some(0);

@@ -1,6 +1,0 @@
--- `has_only` meets its contract. The loop's invariant: where `either` is true, the cells before `i` are one of the two values.
-use Rattle.two_values.proofs.ValueLaws.{OnlyTo}
-use Rattle.two_values.proofs.values.has_only.Given as goal
-
-abbrev pub invariant-loop-cell : goal.invariant-loop-cell
-invariant-loop-cell l = OnlyTo l.grid l.low l.high l.cell-index l.either'

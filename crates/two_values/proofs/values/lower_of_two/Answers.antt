@@ -1,1 +1,0 @@
--- `lower_of_two` meets its contract: where every cell is the lowest value or the highest, there are two values at most.
