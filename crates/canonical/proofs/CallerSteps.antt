@@ -3,10 +3,10 @@
 --   admitted               ==  it got a yes, by what admit answers
 --   among-yes              ==  the first no of all questions is then that of the order system's
 --   among-no, turned-away  ==  it got a no: that is the first no of them all
-use Rattle.std.proofs.Common.{◌≡◌, List, [], ◌∷◌, ℕ, ◌<◌, ◌≤◌, refl, sym, ◌∙◌, arith, Result, Ok, Err}
+use Rattle.std.proofs.Common.{◌≡◌, List, [], ◌∷◌, ℕ, ◌<◌, ◌≤◌, refl, sym, ◌∙◌, arith, Result, Ok}
 use mathlib.Core.Bool.{Bool, true, false}
 use Rattle.refusals.specs.declared.Refusal.{Refusal}
-use Rattle.refusals.specs.Numbers.{asked_number, refusal_number}
+use Rattle.refusals.specs.Numbers.{asked_number}
 use Rattle.refusals.proofs.NumberLaws.{yes-is}
 use Rattle.grids.specs.Questions.{Question, first_no, question1}
 use Rattle.grids.proofs.QuestionLaws.{first_no-pass, first_no-stop, yes-range}

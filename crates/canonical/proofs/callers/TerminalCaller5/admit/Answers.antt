@@ -1,4 +1,4 @@
-use Rattle.std.proofs.Common.{[], refl, sym}
+use Rattle.std.proofs.Common.{[], sym}
 use Rattle.grids.specs.Questions.{first_no, question14}
 use Rattle.grids.proofs.QuestionLaws.{first_no-pass, first_no-stop}
 use Rattle.canonical.proofs.callers.TerminalCaller5.admit.Goals as goal
