@@ -29,7 +29,8 @@ use Rattle.permutations.specs.declared.orders.Orders.{Orders}
 use Rattle.general_search.specs.declared.state.Branch.{Branch}
 use Rattle.general_search.specs.declared.state.Found.{Found}
 use Rattle.branches.specs.Branches.{Covers}
-use Rattle.general_search.specs.Search.{leading_rows, row_at, IsOrders, Searching, Candidate, Improves, Searched, InCommon, back_to, BranchOutcome, Followed, IsRoot, LeastOrders}
+use Rattle.permutations.specs.Numbered.{InCommon}
+use Rattle.general_search.specs.Search.{leading_rows, row_at, IsOrders, Searching, Candidate, Improves, Searched, back_to, BranchOutcome, Followed, IsRoot, LeastOrders}
 use Rattle.general_search.proofs.BlockLaws.{blocked-ascending, blocked-start}
 use Rattle.branches.proofs.LeadingRows.{leading-is, leading-more}
 use Rattle.general_search.proofs.RepeatedRows.{row-cells}

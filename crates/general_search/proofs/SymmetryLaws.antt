@@ -2,7 +2,6 @@
 --
 --   alike-fewer     ==  a branch that holds a copy of the best is in a larger one that does
 --   alike-covered   ==  a branch that is a copy of one tried before is covered
---   common-found    ==  the rows that two orders begin with in common, up to where they are found to part
 --   alike-last      ==  the last row placed gives the best's arrangement: the branch holds a copy of it
 use mathlib.Core.Path.{◌≡◌, sym, ap₂, ◌∙◌}
 use mathlib.Core.List.{List}
@@ -11,11 +10,6 @@ use native.Mathlib.Decide.{ℕ_discrete}
 use native.Mathlib.Omega.{arith}
 use lib.ListN.{get_or, take}
 use lib.Seq.{get_or-take}
-use native.Mathlib.Nat.{zero-add}
-use lib.ListN.{length}
-use Rattle.std.specs.Prelude.{Option, Some, None, unwrap_or, MatchOption}
-use Rattle.std.specs.List.{AllWithin, HoldsAt, range_with_len}
-use Rattle.std.proofs.lemmas.List.FromFn.{length-range_with_len, get_or-range_with_len}
 use Rattle.permutations.specs.Permutations.{swapped}
 use Rattle.permutations.specs.Padded.{IsPadded}
 use Rattle.permutations.specs.Rows.{row_numbers}
@@ -23,7 +17,7 @@ use Rattle.permutations.specs.Columns.{column_numbers}
 use Rattle.grids.specs.Grids.{cell, arrangement}
 use Rattle.permutations.specs.declared.orders.Orders.{Orders}
 use Rattle.branches.specs.Branches.{Begins, Covers}
-use Rattle.general_search.specs.Search.{leading_rows, IsOrders, Alike, InCommon}
+use Rattle.general_search.specs.Search.{leading_rows, IsOrders, Alike}
 use Rattle.branches.proofs.LeadingRows.{leading-is}
 use Rattle.branches.proofs.BranchLaws.{covers-agree, placed-stay, placed-next}
 use Rattle.branches.proofs.BranchSymmetry.{covers-alike}
@@ -80,26 +74,3 @@ alike-last m n g k placed next out back km io same e common bm = record {
   gives = own m n g next ∙ e;
   agrees = λ i ib. get_or-take m (row_numbers next.rows) i 0 (omega arith) ∙ common i ib;
 }
-
--- ---- how many rows two orders begin with in common
-
-pub common-found : (a b : List ℕ) (count : ℕ) (r : Option ℕ) →
-    MatchOption r (AllWithin (λ (i : ℕ). get_or a i 0 ≡ get_or b i 0) (range_with_len 0 count) 0 (length (range_with_len 0 count)))
-    (λ x. (get_or a x 0 ≡ get_or b x 0 → ⊥) × (i : ℕ) × (i < length (range_with_len 0 count)) × HoldsAt (λ y. y ≡ x) (range_with_len 0 count) i
-    × AllWithin (λ (i : ℕ). get_or a i 0 ≡ get_or b i 0) (range_with_len 0 count) 0 i) →
-    InCommon a b count (unwrap_or r count)
-common-found a b count None h = record {
-  up_to = omega arith;
-  same = λ i ic.
-      let s = h i 0 (omega arith) (omega (arith, length-range_with_len 0 count)) in
-      rw (get_or-range_with_len 0 count i 0 ic, zero-add i) at s;
-}
-common-found a b count (Some x) h =
-    let n = length-range_with_len 0 count in
-    let e : x ≡ h.1 = sym (h.3 0) ∙ get_or-range_with_len 0 count h.1 0 (omega (arith, h.2)) ∙ zero-add h.1 in
-    record {
-      up_to = omega (arith, h.2);
-      same = λ i ix.
-          let s = h.4 i 0 (omega arith) (omega arith) in
-          rw (get_or-range_with_len 0 count i 0 (omega (arith, h.2)), zero-add i) at s;
-    }

@@ -18,14 +18,12 @@
 --   FollowOutcome m n g k t placed best jumps f  ==  following the row at position t found f: where f goes back to a position before k, that is the outcome of the
 --                              whole branch; else the rows up to t are followed
 --   back_to m f              ==  the position that f goes back to; m if there is none
---   InCommon a b count r     ==  a and b begin with r entries in common, at most count
---   PartAt a b count r       ==  r is the first of count positions at which a and b part, if there is one
 --   Settled m p k t f b        ==  where b says so, the branch of the row at position t of p was searched, or the best's row k stands before t
 --   LeastOrders m n g o      ==  o gives the least arrangement
 --   IsSearching, IsCandidate, IsBound, IsSearched, IsOutcome, FollowedTo, IsFollowed  ==  Searching, Candidate, Bounded, Searched, BranchOutcome, Followed and
 --                              FollowOutcome, of a search and a branch
 --   IsRoot m n b             ==  in the branch b no row is placed
-use Rattle.std.specs.Prelude.{◌≡◌, List, Bool, true, false, ◌⊎◌, ℕ, suc, ◌+◌, ◌≤◌, ◌<◌, get_or, replicate, Option, unwrap_or}
+use Rattle.std.specs.Prelude.{◌≡◌, List, Bool, true, false, ◌⊎◌, ℕ, suc, ◌+◌, ◌≤◌, ◌<◌, get_or, replicate, unwrap_or}
 use Rattle.permutations.specs.Permutations.{IsPermutation, identity, swapped}
 use Rattle.permutations.specs.Rows.{row_numbers, IsRowPermutation}
 use Rattle.permutations.specs.Numbered.{Lists}
@@ -120,13 +118,6 @@ pub record Followed (m n : ℕ) (g : List ℕ) (k t : ℕ) (placed best out : Or
 pub record FollowOutcome (m n : ℕ) (g : List ℕ) (k t : ℕ) (placed best : Orders 8) (jumps : Bool) (f : Found) : Type 0 where
   pub returns : back_to m f < k → BranchOutcome m n g k placed best jumps f
   pub goes_on : k ≤ back_to m f → Followed m n g k (t + 1) placed best f.best
-
-pub record InCommon (a b : List ℕ) (count r : ℕ) : Type 0 where
-  pub up_to : r ≤ count
-  pub same : (i : ℕ) → i < r → get_or a i 0 ≡ get_or b i 0
-
-abbrev pub PartAt : List ℕ → List ℕ → ℕ → Option ℕ → Type 0
-PartAt a b count r = InCommon a b count (unwrap_or r count)
 
 pub record Settled (m : ℕ) (p : List ℕ) (k t : ℕ) (f : Found) (b : Bool) : Type 0 where
   pub searched-or-tried : b ≡ true → (k < back_to m f) ⊎ ((s : ℕ) × (k ≤ s) × (s < t) × (get_or p s 0 ≡ get_or (row_numbers f.best.rows) k 0))

@@ -4,22 +4,15 @@ ghost use Rattle.permutations.specs.Rows.{row_numbers};
 ghost use Rattle.grids.specs.Grids.{row};
 ghost use Rattle.grids.specs.Comparisons.{compared};
 ghost use Rattle.permutations.specs.declared.orders.Orders.{Orders};
-ghost use Rattle.general_search.specs.Search.{row_at, lesser_orders, Repeats, IsSearching, IsCandidate, IsBound, PartAt};
+ghost use Rattle.general_search.specs.Search.{row_at, lesser_orders, Repeats, IsSearching, IsCandidate, IsBound};
 
 use crate::blocks;
 use crate::state::{Bound, Branch, Search};
 use grids::{cells, comparisons};
 use permutations::columns::ColumnNumber;
 use permutations::orders::Orders;
-use permutations::rows::{RowNumber, RowPermutation};
+use permutations::rows::RowNumber;
 use std::cmp::Ordering;
-
-// The first of `count` positions at which two orders differ.
-pub fn parting(a: RowPermutation, b: RowPermutation, count: usize) -> Option<usize>
-    ensures { PartAt (row_numbers a) (row_numbers b) count result }
-{
-    (0..count).find(|i| a.number(*i).0 != b.number(*i).0)
-}
 
 // The candidate, if its comparison with the best found it less; else the best.
 pub fn lesser(found: Ordering, next: Orders<8>, best: Orders<8>) -> Orders<8>
@@ -105,13 +98,11 @@ impl Search<'_> {
         requires { IsSearching self.now branch.now best }
         ensures { IsBound self.now branch.now best result }
     {
-        if self.ahead
-            && branch.k + 2 < self.m
-            && parting(best.rows, branch.placed.rows, branch.k + 1).is_none()
-        {
+        let k = branch.k;
+        if self.ahead && k + 2 < self.m && best.rows.parting(&branch.placed.rows, k + 1).is_none() {
             self.lowered(branch, best)
         } else {
-            Bound::unknown(best, branch.k)
+            Bound::unknown(best, k)
         }
     }
 }

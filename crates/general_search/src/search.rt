@@ -36,7 +36,7 @@ impl Search<'_> {
         let found = self.compare_at(k, next, best);
         let out = candidates::lesser(found, next, best);
         let back = if jumps && found.is_eq() {
-            candidates::parting(next.rows, out.rows, self.m)
+            next.rows.parting(&out.rows, self.m)
         } else {
             None
         };

@@ -2,7 +2,7 @@
 ghost use Rattle.std.specs.Prelude.{◌≡◌, ℕ, ◌≤◌, get_or, set, take};
 ghost use Rattle.permutations.specs.Permutations.{identity, swapped};
 ghost use Rattle.permutations.specs.Padded.{is_sound, composed_padded, inverse_padded};
-ghost use Rattle.permutations.specs.Numbered.{Lists, InCommon};
+ghost use Rattle.permutations.specs.Numbered.{Lists, PartAt};
 
 use std::marker::PhantomData;
 
@@ -135,16 +135,16 @@ impl<I: Number, const N: usize> Permutation<I, N> {
         out
     }
 
-    // How many numbers the two begin with in common, up to `count`.
-    pub fn in_common(&self, other: &Permutation<I, N>, count: usize) -> usize
-        ensures { InCommon self.now.at other.now.at count result }
+    // The first of `count` positions at which the two differ.
+    pub fn parting(&self, other: &Permutation<I, N>, count: usize) -> Option<usize>
+        ensures { PartAt self.now.at other.now.at count result }
     {
         for i in 0..count {
             if self.number(i).value() != other.number(i).value() {
-                return i;
+                return Some(i);
             }
         }
-        count
+        None
     }
 
     // The first positions.

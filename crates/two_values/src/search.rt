@@ -72,7 +72,7 @@ pub fn reached(grid: &TwoValuedGrid, node: &Node, found: &mut Found)
         found.back = grid.m;
         return;
     }
-    found.back = node.rows.in_common(&found.best, grid.m);
+    found.back = node.rows.parting(&found.best, grid.m).unwrap_or(grid.m);
     if found.kept.count < 4 {
         let map = symmetries::carrying(grid.m, found.best, node.rows);
         found.kept.keep(map);

@@ -1,4 +1,4 @@
--- `reached` meets its contract: a new best is the row order at hand; else the two row orders part where `in_common` says.
+-- `reached` meets its contract: a new best is the row order at hand; else the two row orders part where `parting` says.
 use mathlib.Core.Path.{refl}
 use Rattle.two_values.proofs.ReachedLaws.{reached-new, reached-copy}
 use Rattle.two_values.proofs.SymmetryLaws.{symmetries-more}
@@ -15,11 +15,11 @@ returns-then-found-lt4 c =
     let s = rw e at c.requires.0 in
     let f = s.follows c.if-node.false in
     let k = c.keep.ensures in
-    rw e (reached-copy _ _ _ _ _ _ _ _ _ _ s c.if-node.false _ refl refl refl c.in_common-found.ensures
+    rw e (reached-copy _ _ _ _ _ _ _ _ _ _ s c.if-node.false _ refl refl refl (rw c.unwrap_or-found.ensures c.parting.ensures.in-common)
     (symmetries-more _ _ _ _ _ _ _ _ _ _ f.known.rows.whole s.rows.whole f.leading c.if-found-lt4.true k.0 k.1 s.symmetries c.carrying-map.ensures))
 
 pub returns-else-found-lt4 : goal.returns-else-found-lt4
 returns-else-found-lt4 c =
     let e = c.requires.1 in
     let s = rw e at c.requires.0 in
-    rw e (reached-copy _ _ _ _ _ _ _ _ _ _ s c.if-node.false _ refl refl refl c.in_common-found.ensures s.symmetries)
+    rw e (reached-copy _ _ _ _ _ _ _ _ _ _ s c.if-node.false _ refl refl refl (rw c.unwrap_or-found.ensures c.parting.ensures.in-common) s.symmetries)

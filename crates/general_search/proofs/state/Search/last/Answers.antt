@@ -42,4 +42,4 @@ returns-then-is_eq c =
     let next = c.candidate-next.ensures in
     let e = lesser-equal _ _ _ _ _ _ _ _ _ _ _ c.requires.0 next (omega (arith, one_left at)) c.compare_at-found.ensures c.lesser-out.ensures
     (equal-not-greater c.compare_at-found.result _ c.is_eq.ensures c.if-is_eq.true) in
-    (w, outcome-alike _ _ _ _ _ _ _ _ _ _ (one_left at) c.if-jumps.true c.requires.0 next w e c.parting-back.ensures)
+    (w, outcome-alike _ _ _ _ _ _ _ _ _ _ (one_left at) c.if-jumps.true c.requires.0 next w e c.parting-back.ensures.in-common)
