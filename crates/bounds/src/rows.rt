@@ -61,7 +61,7 @@ impl<'a> Rows<'a> {
 }
 
 // Rows of which the lows come no later than the sorted highs, and the first column where they differ; how many columns there are if
-// none does.
+// none does, as the end of a slice.
 #[derive(Clone, Copy)]
 pub struct Parting<'a> {
     pub rows: Rows<'a>,

@@ -5,7 +5,7 @@ ghost use Rattle.permutations.specs.Columns.{column_numbers};
 ghost use Rattle.grids.specs.Grids.{arrangement};
 
 use crate::cells;
-use permutations::columns::{ColumnNumber, ColumnPermutation};
+use permutations::columns::ColumnPermutation;
 use permutations::rows::RowPermutation;
 
 // Writes the arrangement of a grid by a row order and a column order into a slice of its length.
@@ -23,7 +23,7 @@ pub fn write_arrangement(
     for i in 0..m {
         let row = rows.number(i);
         for j in 0..n {
-            out[i * n + j] = cells::cell(grid, n, row, ColumnNumber(columns.at[j]));
+            out[i * n + j] = cells::cell(grid, n, row, columns.number(j));
         }
     }
 }

@@ -74,8 +74,8 @@ pub fn compare_rows(
     ensures { result ≡ compared (permuted_row n grid.now a.0 (column_numbers p)) (permuted_row n grid.now b.0 (column_numbers q)) }
 {
     for j in 0..n {
-        let x = cells::cell(grid, n, a, ColumnNumber(p.at[j]));
-        let y = cells::cell(grid, n, b, ColumnNumber(q.at[j]));
+        let x = cells::cell(grid, n, a, p.number(j));
+        let y = cells::cell(grid, n, b, q.number(j));
         let found = compare_values(x, y);
         if found.is_ne() {
             return found;

@@ -1,5 +1,5 @@
 // Permutations of rows or of columns: document 01's orders.
-ghost use Rattle.std.specs.Prelude.{◌≡◌, ℕ, ◌≤◌, get_or, set, take};
+ghost use Rattle.std.specs.Prelude.{◌≡◌, ℕ, ◌*◌, ◌<◌, ◌≤◌, get_or, set, take};
 ghost use Rattle.permutations.specs.Permutations.{identity, swapped};
 ghost use Rattle.permutations.specs.Padded.{is_sound, composed_padded, inverse_padded};
 ghost use Rattle.permutations.specs.Numbered.{Lists, PartAt};
@@ -105,6 +105,14 @@ impl<I: Number, const N: usize> Permutation<I, N> {
         true
     }
 
+    // Where i goes by another and then by this one.
+    fn sent(&self, other: &Permutation<I, N>, i: usize) -> u8
+        requires { (i < N) × (get_or other.now.at i 0 < N) }
+        ensures { result ≡ get_or self.now.at (get_or other.now.at i 0) 0 }
+    {
+        self.at[other.at[i] as usize]
+    }
+
     // This permutation followed by another: sends i to self(other(i)). The identity where the sizes differ or either is no permutation.
     pub fn composed(self, other: Permutation<I, N>) -> Permutation<I, N>
         requires { N ≤ 256 }
@@ -115,7 +123,7 @@ impl<I: Number, const N: usize> Permutation<I, N> {
             return out;
         }
         for i in 0..self.size {
-            out.at[i] = self.at[other.at[i] as usize];
+            out.at[i] = self.sent(&other, i);
         }
         out
     }

@@ -20,7 +20,7 @@ use refusals::Refusal;
 use register::answers::Placed;
 use register::{counts, entering, opening, striking};
 
-// The number, the row order and the column order.
+// The number, the row order and the column order. C reads all of them in any case, so this is a struct of numbers.
 #[repr(C)]
 #[derive(Clone, Copy)]
 pub struct Arranged {
@@ -29,7 +29,7 @@ pub struct Arranged {
     pub columns: [u8; 16],
 }
 
-// The number, how many leading cells of the two representatives agree, the row order and the column order.
+// The number, how many leading cells of the two representatives agree, the row order and the column order, likewise.
 #[repr(C)]
 #[derive(Clone, Copy)]
 pub struct Matched {

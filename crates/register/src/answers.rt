@@ -5,7 +5,7 @@ ghost use Rattle.register.specs.Answers.{entering_number, entering_place, striki
 
 use refusals::Refusal;
 
-// The number and the place.
+// The number and the place. C reads both in any case, so this is a struct of numbers.
 #[repr(C)]
 #[derive(Clone, Copy, Debug, PartialEq, Eq)]
 pub struct Placed {

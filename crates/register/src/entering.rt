@@ -95,7 +95,7 @@ pub fn enter(register: &mut [u8], client: usize, grid: &[u8]) -> Result<Entered,
     enter_by::<OrderSystem, 8>(register, client, grid)
 }
 
-// The same at a terminal.
+// The same at a terminal. Each has a clause of its own, in the words of the calls.
 pub fn enter_at_terminal(
     register: &mut [u8],
     client: usize,

@@ -27,7 +27,7 @@ pub struct Found {
 }
 
 impl Found {
-    // The key of the best's row at position i; 0 where no keys are made.
+    // The key of the best's row at position i; 0 where no keys are made, which is not looked at, so that no reader asks twice.
     pub fn key(&self, i: usize) -> u64
         requires { i < 8 }
         ensures { result ≡ slice_index (keys_of self.now.keys) i }
@@ -102,7 +102,8 @@ pub fn with_keys(tables: &GridTables, node: Node, found: Found) -> Found
     }
 }
 
-// How many rows the two orders begin with in common, up to count.
+// How many rows the two orders begin with in common, up to count. The rows are a list here and no permutation with a size, which
+// `Permutation::parting` takes.
 fn common(a: [RowNumber; 8], b: [RowNumber; 8], count: usize) -> u8
     requires { count ≤ 8 }
     ensures { CommonRows (rows_of a) (rows_of b) count result }

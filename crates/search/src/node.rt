@@ -13,7 +13,7 @@ use crate::{keys, sifting};
 use permutations::rows::RowNumber;
 
 // The first `placed` rows of the order are placed, and `rest` are the others; `after` holds how many columns come after each. What is
-// searched is less than the best in the rows placed, or there is no best yet, where `fresh` says so; else it equals the best there.
+// searched is less than the best in the rows placed, or there is no best yet, where `fresh` says so; else it equals the best there. There is always some order, so the best is no `Option`.
 #[derive(Clone, Copy)]
 pub struct Node {
     pub rows: [RowNumber; 8],

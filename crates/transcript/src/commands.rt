@@ -128,7 +128,8 @@ fn part(cells: &[u8], low: &mut [u8], high: &mut [u8])
     }
 }
 
-// Parts cells that hold low and high in turn, and prunes these bounds. Returns prune's number.
+// Parts cells that hold low and high in turn, and prunes these bounds. Returns prune's number: what is printed holds document 01's numbers,
+// and `read_command` and `report` speak of them, so here they are no Result any more.
 fn prune_parted(start: Start, cells: &[u8], low: &mut [u8], high: &mut [u8]) -> u32
     requires { (length low.old ≡ start.rows * start.columns) × (length high.old ≡ length low.old) × (length cells.now ≡ 2 * length low.old) }
     ensures { PrunesParted start.rows start.columns start.top cells.now result low.new high.new }

@@ -63,7 +63,8 @@ impl Contest<'_> {
         requires { (a < 8) × (b < 8) × (c < 16) × (d < 16) }
         ensures { result ≡ true → ByOne self.now.grid.now.rows self.now.words self.now.lows self.now.node.now.after a b c d }
     {
-        self.is_alone(b, c, d)
+        let alone = self.is_alone(b, c, d);
+        alone
             && self.crossed(a, b, c, d)
             && self.words[a] + digit(15, d) == self.words[b] + digit(15, c)
     }

@@ -23,14 +23,12 @@ returns-then-self-other g c =
 pub loop-i-init : goal.loop-i-init
 loop-i-init g c = let o = c.identity-out.ensures in record { numbers = o.numbers ∙ padded-none g.row.N _; size = o.size }
 
-pub bounds-other-i : goal.bounds-other-i
-bounds-other-i g c = let s = sound g.row.N c.args.self.size c.args.self.at (sym c.if-not-is_sound.ensures) in omega (arith, s.fits)
-
-pub bounds-self-other : goal.bounds-self-other
-bounds-self-other g c =
+pub sent-requires : goal.sent-requires
+sent-requires g c =
+    let s = sound g.row.N c.args.self.size c.args.self.at (sym c.if-not-is_sound.ensures) in
     let r = c.args.other in
-    let s = sound g.row.N r.size r.at (sym c.if-not-is_sound-2.ensures) in
-    omega (arith, s.fits, entry-within r.size r.at s.permutation c.loop-i.i)
+    let q = sound g.row.N r.size r.at (sym c.if-not-is_sound-2.ensures) in
+    (omega (arith, s.fits), omega (arith, q.fits, entry-within r.size r.at q.permutation c.loop-i.i))
 
 pub bounds-out-i : goal.bounds-out-i
 bounds-out-i g c = let s = sound g.row.N c.args.self.size c.args.self.at (sym c.if-not-is_sound.ensures) in omega (arith, s.fits)
@@ -43,7 +41,7 @@ loop-i-preserved g c =
     let fits = (sound g.row.N p.size p.at (sym c.if-not-is_sound.ensures)).fits in
     let o : IsPermutation p.size (take p.size r.at) = rw c.if-self-other.false (sound g.row.N r.size r.at (sym c.if-not-is_sound-2.ensures)).permutation in
     record {
-      numbers = padded-more g.row.N _ _ l.i _ (omega arith) l.invariant.numbers (composed-entry p.size p.at r.at l.i o (omega arith));
+      numbers = padded-more g.row.N _ _ l.i _ (omega arith) l.invariant.numbers (c.sent.ensures ∙ composed-entry p.size p.at r.at l.i o (omega arith));
       size = l.invariant.size;
     }
 
