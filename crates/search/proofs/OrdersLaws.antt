@@ -21,7 +21,7 @@ use Rattle.grids.specs.Grids.{cell, arrangement, OneClass}
 use Rattle.grids.specs.Sorted.{Ascending}
 use Rattle.grids.specs.Least.{least}
 use Rattle.grids.proofs.LeastLaws.{is-least}
-use Rattle.branches.specs.SortedRows.{places_after, PlacesBy, Sorts, sorted_rows, IsApart}
+use Rattle.branches.specs.SortedRows.{places_after, PlacesBy, first_place, FirstPlaces, Sorts, sorted_rows, IsApart}
 use Rattle.branches.proofs.LeadingRows.{leading-is}
 use Rattle.branches.proofs.BranchLaws.{covers-least}
 use Rattle.branches.proofs.SortedRows.{sorted-any}
@@ -30,7 +30,7 @@ use Rattle.search.specs.declared.node.Node.{Node}
 use Rattle.search.specs.declared.found.Found.{Found}
 use Rattle.search.specs.RowSets.{IsRowSet, HasRow, RowsFrom}
 use Rattle.search.specs.ColumnLists.{column_at, columns_of, Lists}
-use Rattle.search.specs.Tables.{Tables, first_place, FirstPlaces}
+use Rattle.search.specs.Tables.{Tables}
 use Rattle.search.specs.Search.{keys_of, is_ready, rows_of, Standing, Outcome}
 
 first-inside : (n c : ℕ) → c < n → first_place n c ≡ 16 - n

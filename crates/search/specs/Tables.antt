@@ -9,10 +9,8 @@
 --   Tables ..           ==  the tables of a grid
 --   is_two low          ==  whether a grid has two values at most, of which `low` is the lower
 --   low_of low          ==  that value, or 0
---   first_place n c     ==  how many of 16 columns come after column c before any row is placed: those from n on, and of these the later ones
---   FirstPlaces n a     ==  a holds them
 --   RowKeys x a s       ==  s holds for each row the sum of its numbers in the table x by bits, each times 2 to the power that a has for its column
-use Rattle.std.specs.Prelude.{◌≡◌, ℕ, ◌+◌, ◌-◌, ◌*◌, ◌^◌, ◌<◌, ◌≤◌, Bool, true, false, Option, Some, None, List, length, nat_lt, slice_index}
+use Rattle.std.specs.Prelude.{◌≡◌, ℕ, ◌+◌, ◌*◌, ◌^◌, ◌<◌, ◌≤◌, Bool, true, false, Option, Some, None, List, length, slice_index}
 use Rattle.std.proofs.Props.{props}
 use Rattle.permutations.specs.Sums.{sum_to}
 use Rattle.grids.specs.Grids.{cell}
@@ -54,13 +52,6 @@ is_two None = false
 abbrev pub low_of : Option ℕ → ℕ
 low_of (Some low) = low
 low_of None = 0
-
-unfoldable pub first_place : ℕ → ℕ → ℕ
-first_place n c = elim (nat_lt c n) [ true ↦ 16 - n | false ↦ 15 - c ]
-
-pub record FirstPlaces (n : ℕ) (a : List ℕ) : Type 0 where
-  pub size : length a ≡ 16
-  pub holds : (c : ℕ) → c < 16 → slice_index a c ≡ first_place n c
 
 unfoldable pub RowKeys : List ℕ → List ℕ → List ℕ → Type 0
 RowKeys x a s = (r : ℕ) → r < 8 → slice_index s r ≡ sum_to 16 (λ c. slice_index x (c * 8 + r) * 2 ^ slice_index a c)

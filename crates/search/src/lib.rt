@@ -1,5 +1,5 @@
-// The search for the least arrangement of a grid. It is to take the place of the two searches; the small functions that `two_values` has
-// too stand in both until that crate goes, since a crate below both would then serve one.
+// The search for the least arrangement of a grid. It is to take the place of the two searches, and what it does with sets of rows and lists
+// of columns in words of 64 bits `two_values` does with arrays.
 #![tactic(auto)]
 
 mod columns;

@@ -31,7 +31,7 @@ use Rattle.two_values.specs.declared.search.Found.{Found}
 use Rattle.two_values.specs.TwoValues.{places_after, sorted_rows}
 use Rattle.two_values.specs.Tables.{Tables, SortsBy}
 use Rattle.two_values.specs.Search.{PlacesBy, Standing, Outcome}
-use Rattle.two_values.specs.Arranged.{first_place, FirstPlaces}
+use Rattle.branches.specs.SortedRows.{first_place, FirstPlaces}
 use Rattle.two_values.proofs.SortedRows.{sorted-any}
 use Rattle.two_values.proofs.RefinedLaws.{places-start, sorts-ascending}
 

@@ -1,36 +1,16 @@
 // The least arrangement of a grid with two values.
 ghost use Rattle.std.specs.Prelude.{◌≡◌, ◌≤◌, ◌<◌, IfSome};
-ghost use Rattle.two_values.specs.Arranged.{ArrangedLeast, first_place, FirstPlaces};
+ghost use Rattle.two_values.specs.Arranged.{ArrangedLeast};
 
 use crate::nodes::Node;
 use crate::search::Found;
 use crate::symmetries::Kept;
 use crate::tables::TwoValuedGrid;
 use crate::{columns, search};
+use branches::first_places;
 use grids::values;
 use permutations::orders::Orders;
 use permutations::rows::RowPermutation;
-use std::array;
-
-// How many of 16 columns come after column c before any row is placed: those from n on, and of these the later ones.
-fn first_place(n: usize, c: usize) -> u8
-    requires { (n ≤ 16) × (c < 16) }
-    ensures { result ≡ first_place n c }
-{
-    if c < n {
-        (16 - n) as u8
-    } else {
-        (15 - c) as u8
-    }
-}
-
-// The same for each column.
-fn first_places(n: usize) -> [u8; 16]
-    requires { n ≤ 16 }
-    ensures { FirstPlaces n result }
-{
-    array::from_fn(|c| first_place(n, c))
-}
 
 // The orders of the least arrangement of a grid with two values: the search begins with no row placed, and the columns are sorted by the
 // best row order that it finds.
@@ -38,7 +18,7 @@ fn searched(grid: &TwoValuedGrid) -> Orders<8>
     ensures { ArrangedLeast grid.now.m grid.now.n grid.now.cells.now result }
 {
     let rows = RowPermutation::identity(grid.m);
-    let after = first_places(grid.n);
+    let after = first_places::first_places(grid.n);
     let root = Node {
         k: 0,
         rows,

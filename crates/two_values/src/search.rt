@@ -46,7 +46,8 @@ fn lowest(keys: [u16; 8], rows: RowPermutation, m: usize, k: usize) -> u16
     least
 }
 
-// Whether the best's next row is known, and lower than the least.
+// Whether the best's next row is known, and lower than the least. `search` has the same of 64 bits; a function over any `Ord` would say one
+// comparison no plainer.
 pub fn is_cut(fresh: bool, known: u16, least: u16) -> bool
     ensures { Cuts fresh known least result }
 {
