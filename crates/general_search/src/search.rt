@@ -51,7 +51,7 @@ impl Search<'_> {
     {
         let k = branch.k;
         let row = found.best.rows.number(k);
-        !found.goes_back(k + 1) || (k..t).any(|s| branch.placed.rows.number(s).0 == row.0)
+        !found.goes_back(k + 1) || (k..t).any(|s| branch.placed.rows.number(s) == row)
     }
 
     // Follows the candidate with the row at position t: the best of its branch, and of what was the best before. A candidate whose next

@@ -109,7 +109,7 @@ fn common(a: [RowNumber; 8], b: [RowNumber; 8], count: usize) -> u8
     ensures { CommonRows (rows_of a) (rows_of b) count result }
 {
     for i in 0..count {
-        if a[i].0 != b[i].0 {
+        if a[i] != b[i] {
             return i as u8;
         }
     }

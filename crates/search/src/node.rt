@@ -122,7 +122,7 @@ fn refined_by(
     ensures { Refined after.now.counts (entry tables.now.levels row.0) result.counts }
 {
     match next.made {
-        Some(made) if made.row.0 == row.0 => made.after,
+        Some(made) if made.row == row => made.after,
         _ => after.refined(tables, row),
     }
 }

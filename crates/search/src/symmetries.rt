@@ -44,7 +44,7 @@ impl KnownSymmetries {
         ensures { Fixes (rows_of self.now.maps) s (rows_of rows) k result }
     {
         for row in &rows[..k] {
-            if self.maps[s * 8 + row.0 as usize].0 != row.0 {
+            if self.maps[s * 8 + row.0 as usize] != *row {
                 return false;
             }
         }

@@ -1,4 +1,4 @@
-use Rattle.std.proofs.Common.{◌<◌, sym, ◌∙◌, arith, get_or-take, length-take}
+use Rattle.std.proofs.Common.{◌<◌, sym, ◌∙◌, arith, get_or-take, length-take, rules}
 use Rattle.search.proofs.SymmetryLaws.{row_at, row_below, fixes-next}
 use Rattle.search.proofs.symmetries.KnownSymmetries.fixes.Goals as goal
 
@@ -16,4 +16,4 @@ loop-row-preserved c =
     let i = c.loop-row.row-index in
     let ik : i < a.k = omega (arith, length-take a.k a.rows) in
     let row = get_or-take a.k a.rows i (record { 0 = 0 }) ik in
-    fixes-next _ _ _ i _ (row_at a.rows i) (sym (row_at a.self.now.maps _) ∙ (rw row at c.if-self-s.false)) c.loop-row.invariant
+    fixes-next _ _ _ i _ (row_at a.rows i) (sym (row_at a.self.now.maps _) ∙ (rw (sym row) (search rules))) c.loop-row.invariant
