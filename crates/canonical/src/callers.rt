@@ -8,6 +8,7 @@ ghost use Rattle.canonical.specs.Callers.{nothing, CallerLaws, order_system_laws
 use general_search::{search, terminal_search};
 use grids::questions;
 use permutations::orders::Orders;
+use permutations::rows::{RowPermutation, TerminalRowPermutation};
 use refusals::Refusal;
 
 // The row orders that a caller gets have N positions.
@@ -31,7 +32,7 @@ pub trait Caller<const N: usize> {
 
 pub struct OrderSystem;
 
-impl Caller<8> for OrderSystem {
+impl Caller<{ RowPermutation::WIDTH }> for OrderSystem {
     ghost besides = { nothing };
 
     ghost questions = { λ m asked. asked };
@@ -49,7 +50,7 @@ impl Caller<8> for OrderSystem {
 
 pub struct Terminal;
 
-impl Caller<5> for Terminal {
+impl Caller<{ TerminalRowPermutation::WIDTH }> for Terminal {
     ghost besides = { question14 };
 
     ghost questions = { λ m asked. after_first (question14 m) asked };

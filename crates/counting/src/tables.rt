@@ -4,7 +4,7 @@ ghost use Rattle.grids.specs.Order.{rank};
 ghost use Rattle.counting.specs.Within.{OrderedBounds, BoundTables};
 
 use grids::cells;
-use lines::tables::{Table, filled};
+use lines::tables::{Table, fill};
 
 #[derive(Drop)]
 pub struct Tables {
@@ -20,10 +20,19 @@ impl Tables {
         ensures { BoundTables (length low.now) low.now high.now result.lows result.spans }
     {
         let size = low.len();
-        Tables {
-            lows: filled(size, 0, 0, |k| cells::rank(low[k])),
-            spans: filled(size, u8::MAX, u8::MAX, |k| span(low[k], high[k])),
-        }
+        let mut tables = Tables {
+            lows: [0; 384],
+            spans: [0; 384],
+        };
+        fill(&mut tables.lows, size, 0, 0, |k| cells::rank(low[k]));
+        fill(
+            &mut tables.spans,
+            size,
+            u8::MAX,
+            u8::MAX,
+            |k| span(low[k], high[k]),
+        );
+        tables
     }
 }
 

@@ -14,6 +14,16 @@ use permutations::orders::Orders;
 use permutations::rows::RowNumber;
 use std::cmp::Ordering;
 
+// Row k of the arrangements by two pairs of orders.
+pub fn compare_at(grid: &[u8], n: usize, k: usize, a: Orders<8>, b: Orders<8>) -> Ordering
+    requires { n ≤ 16 }
+    ensures { result ≡ compared (row_at n grid.now k a) (row_at n grid.now k b) }
+{
+    let x = a.rows.number(k);
+    let y = b.rows.number(k);
+    comparisons::compare_rows(grid, n, x, a.columns, y, b.columns)
+}
+
 // The candidate, if its comparison with the best found it less; else the best.
 pub fn lesser(found: Ordering, next: Orders<8>, best: Orders<8>) -> Orders<8>
     ensures { result ≡ lesser_orders found next best }
@@ -42,9 +52,14 @@ impl Search<'_> {
     pub fn repeated(&self, branch: &Branch, t: usize) -> bool
         ensures { Repeats self.now.n self.now.grid.now (row_numbers branch.now.placed.rows) branch.now.k t result }
     {
-        let rows = branch.placed.rows;
-        let row = rows.number(t);
-        (branch.k..t).any(|s| self.equal_rows(rows.number(s), row))
+        let row = branch.placed.rows.number(t);
+        // no `any`: with it small grids take up to 2.5 percent more time
+        for s in branch.k..t {
+            if self.equal_rows(branch.placed.rows.number(s), row) {
+                return true;
+            }
+        }
+        false
     }
 
     // The candidate with the row at position t: the orders with that row placed next, and each block of columns sorted by it.
@@ -63,15 +78,6 @@ impl Search<'_> {
         Orders { rows, columns }
     }
 
-    // Row k of the arrangements by two pairs of orders.
-    pub fn compare_at(&self, k: usize, a: Orders<8>, b: Orders<8>) -> Ordering
-        ensures { result ≡ compared (row_at self.now.n self.now.grid.now k a) (row_at self.now.n self.now.grid.now k b) }
-    {
-        let x = a.rows.number(k);
-        let y = b.rows.number(k);
-        comparisons::compare_rows(self.grid, self.n, x, a.columns, y, b.columns)
-    }
-
     // The least of the best and of all candidates, by their first k + 1 rows, and which candidates it comes before.
     pub fn lowered(&self, branch: &Branch, best: Orders<8>) -> Bound
         requires { IsSearching self.now branch.now best }
@@ -80,7 +86,7 @@ impl Search<'_> {
         let mut low = Bound::unknown(best, branch.k);
         for t in branch.k..self.m {
             let next = self.candidate(branch, t);
-            let found = self.compare_at(branch.k, next, low.best);
+            let found = compare_at(self.grid, self.n, branch.k, next, low.best);
             if found.is_gt() {
                 low.above[t] = true;
             } else if found.is_lt() {

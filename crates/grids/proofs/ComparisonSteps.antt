@@ -4,14 +4,14 @@
 --   cells_at                    ==  the comparison of two cells, by what the calls ensure of their row
 --   LeftFrom i m u n v a b      ==  comparing a with b finds what comparing u i, .., u (m - 1) with v i, .., v (n - 1) finds
 --   left-tabulated, left-lists  ==  at the start all is left: of two tabulated lists, and of two lists by their entries
---   left_less, left-greater     ==  values of unequal rank at i decide
---   left-same                   ==  values of equal rank at i are passed over
---   cells-less, cells-greater, cells-equal  ==  the comparison of two cells, by their ranks
---   left-decided, left_passed   ==  the same, by the comparison of the values at i
+--   compared-as                 ==  the comparison of two values is that of values that are equal to them
+--   unequal, not-unequal        ==  what a test for unequal values says of a comparison
+--   values-compared             ==  the comparison of two values, by that of their ranks
+--   left-decided, left_passed   ==  unequal values at i decide, equal ones are passed over
 --   left-equal, left-shorter, left-longer  ==  both lists end at i, or only the first, or only the second
 --   Passed i a b                ==  a and b agree before i, and what is left of them from i on decides
---   passed_none, passed-same    ==  at the start, and past values of equal rank
---   passed-less, passed-greater, passed-equal, passed-shorter, passed-longer  ==  what comparing the two finds, and that they agree in i values
+--   passed_none, passed-same    ==  at the start, and past equal values
+--   passed-decided, passed-ended  ==  what comparing the two finds, and that they agree in i values: unequal values at i, or an end
 use mathlib.Core.Path.{◌≡◌, refl, sym, ap, ap₂, ◌∙◌}
 use mathlib.Core.List.{List, [], ◌∷◌}
 use mathlib.Core.Bool.{Bool, true, false, true≢false}

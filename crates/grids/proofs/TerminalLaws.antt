@@ -4,6 +4,7 @@
 --   after-no     ==  where it gets a no and the first question a yes, it is its number
 --   after_stop   ==  where the first question gets a no, it is that question's number
 --   other-rows, few-rows, many-rows  ==  question 14 gets a yes for rows other than 6 to 8, so for at most 5; a no for 6 to 8
+--   no_rows      ==  rows that get a no are 6 to 8
 --   rows_above   ==  from 6 rows on it asks whether they are more than 8
 --   terminal-rows  ==  rows of at most 8 that get a yes are at most 5
 --   terminal-no    ==  asked after question 1, a no gives 14

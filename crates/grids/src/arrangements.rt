@@ -5,10 +5,11 @@ ghost use Rattle.permutations.specs.Columns.{column_numbers};
 ghost use Rattle.grids.specs.Grids.{arrangement};
 
 use crate::cells;
-use permutations::columns::ColumnPermutation;
+use permutations::columns::{ColumnNumber, ColumnPermutation};
 use permutations::rows::RowPermutation;
 
-// Writes the arrangement of a grid by a row order and a column order into a slice of its length.
+// Writes the arrangement of a grid by a row order and a column order into a slice of its length. The columns are not read by `number`,
+// as in the comparison of two rows.
 pub fn write_arrangement(
     grid: &[u8],
     m: usize,
@@ -23,7 +24,7 @@ pub fn write_arrangement(
     for i in 0..m {
         let row = rows.number(i);
         for j in 0..n {
-            out[i * n + j] = cells::cell(grid, n, row, columns.number(j));
+            out[i * n + j] = cells::cell(grid, n, row, ColumnNumber(columns.at[j]));
         }
     }
 }

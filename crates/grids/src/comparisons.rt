@@ -36,7 +36,9 @@ pub fn compare_cells(
     requires { n ≤ 16 }
     ensures { result ≡ compared_cells (cell n grid.now row.0 a.0) (cell n grid.now row.0 b.0) }
 {
-    compare_values(cells::cell(grid, n, row, a), cells::cell(grid, n, row, b))
+    let x = cells::rank(cells::cell(grid, n, row, a));
+    let y = cells::rank(cells::cell(grid, n, row, b));
+    x.cmp(&y)
 }
 
 // The cells of columns a and b in the rows from..to of a row order, from the top down.
@@ -61,7 +63,8 @@ pub fn compare_columns(
     Ordering::Equal
 }
 
-// Two rows of a grid, each with its cells in a column order of its own, from the left.
+// Two rows of a grid, each with its cells in a column order of its own, from the left. The columns are not read by `number`, whose test
+// costs the general search 3 to 5 percent.
 pub fn compare_rows(
     grid: &[u8],
     n: usize,
@@ -74,8 +77,8 @@ pub fn compare_rows(
     ensures { result ≡ compared (permuted_row n grid.now a.0 (column_numbers p)) (permuted_row n grid.now b.0 (column_numbers q)) }
 {
     for j in 0..n {
-        let x = cells::cell(grid, n, a, p.number(j));
-        let y = cells::cell(grid, n, b, q.number(j));
+        let x = cells::cell(grid, n, a, ColumnNumber(p.at[j]));
+        let y = cells::cell(grid, n, b, ColumnNumber(q.at[j]));
         let found = compare_values(x, y);
         if found.is_ne() {
             return found;

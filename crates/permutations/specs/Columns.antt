@@ -1,5 +1,6 @@
 -- Column permutations as lists of numbers.
 --
+--   ColumnPermutation        ==  permutations of columns, in 16 positions
 --   column_number i          ==  the number of a column
 --   column_numbers p         ==  the numbers in p's 16 positions
 --   IsColumnPermutation n p  ==  p is a permutation of n columns

@@ -1,8 +1,8 @@
 -- Row permutations as lists of numbers.
 --
+--   RowPermutation, TerminalRowPermutation  ==  permutations of rows, in 8 positions and in a terminal's 5
 --   row_number i           ==  the number of a row
 --   row_numbers p          ==  the numbers in p's 8 positions
---   terminal_row_numbers p ==  the numbers in the 5 positions of a terminal's
 --   IsRowPermutation n p   ==  p is a permutation of n rows
 use Rattle.std.specs.Prelude.{◌≡◌, List, ℕ}
 use Rattle.permutations.specs.Padded.{IsPadded}
@@ -20,9 +20,6 @@ row_number r = r.0
 
 abbrev pub row_numbers : RowPermutation → List ℕ
 row_numbers p = p.at
-
-abbrev pub terminal_row_numbers : TerminalRowPermutation → List ℕ
-terminal_row_numbers p = p.at
 
 pub record IsRowPermutation (n : ℕ) (p : RowPermutation) : Type 0 where
   pub whole : IsPadded 8 n (row_numbers p)

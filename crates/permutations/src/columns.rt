@@ -1,11 +1,13 @@
 // Column numbers, and permutations of columns.
+ghost use Rattle.permutations.specs.Columns.{column_number};
+
 use crate::permutation::{Number, Permutation};
 
 #[derive(Clone, Copy, Debug, PartialEq, Eq)]
 pub struct ColumnNumber(pub u8);
 
 impl Number for ColumnNumber {
-    ghost value = { λ column. column.0 };
+    ghost value = { column_number };
 
     fn new(number: u8) -> ColumnNumber {
         ColumnNumber(number)
@@ -17,3 +19,8 @@ impl Number for ColumnNumber {
 }
 
 pub type ColumnPermutation = Permutation<ColumnNumber, 16>;
+
+impl ColumnPermutation {
+    // How many positions there are.
+    pub const WIDTH: usize = 16;
+}

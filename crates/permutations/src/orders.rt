@@ -18,8 +18,7 @@ pub struct Orders<const N: usize> {
 impl<const N: usize> Orders<N> {
     // Orders of m rows and n columns that move nothing.
     pub fn identity(m: usize, n: usize) -> Orders<N>
-        requires { N ≤ 256 }
-        ensures rows { Lists (identity N) m result.rows }
+        ensures rows { N ≤ 256 → Lists (identity N) m result.rows }
         ensures columns { Lists (identity 16) n result.columns }
     {
         Orders {
@@ -30,8 +29,7 @@ impl<const N: usize> Orders<N> {
 
     // These orders followed by others.
     pub fn composed(self, other: Orders<N>) -> Orders<N>
-        requires { N ≤ 256 }
-        ensures rows { Lists (composed_padded N self.entry.rows.size self.entry.rows.at other.entry.rows.size other.entry.rows.at) self.entry.rows.size result.rows }
+        ensures rows { N ≤ 256 → Lists (composed_padded N self.entry.rows.size self.entry.rows.at other.entry.rows.size other.entry.rows.at) self.entry.rows.size result.rows }
         ensures columns { Lists (composed_padded 16 self.entry.columns.size self.entry.columns.at other.entry.columns.size other.entry.columns.at) self.entry.columns.size result.columns }
     {
         Orders {
@@ -42,8 +40,7 @@ impl<const N: usize> Orders<N> {
 
     // The orders that, composed with these on either side, move nothing.
     pub fn inverse(self) -> Orders<N>
-        requires { N ≤ 256 }
-        ensures rows { Lists (inverse_padded N self.entry.rows.size self.entry.rows.at) self.entry.rows.size result.rows }
+        ensures rows { N ≤ 256 → Lists (inverse_padded N self.entry.rows.size self.entry.rows.at) self.entry.rows.size result.rows }
         ensures columns { Lists (inverse_padded 16 self.entry.columns.size self.entry.columns.at) self.entry.columns.size result.columns }
     {
         Orders {
@@ -52,10 +49,9 @@ impl<const N: usize> Orders<N> {
         }
     }
 
-    // The row order in fewer positions.
+    // The row order in fewer positions. In more, nothing is promised.
     pub fn narrowed<const M: usize>(self) -> Orders<M>
-        requires { M ≤ N }
-        ensures rows { Lists (take M self.entry.rows.at) self.entry.rows.size result.rows }
+        ensures rows { M ≤ N → Lists (take M self.entry.rows.at) self.entry.rows.size result.rows }
         ensures columns { Lists self.entry.columns.at self.entry.columns.size result.columns }
     {
         Orders {

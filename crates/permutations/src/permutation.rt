@@ -1,5 +1,5 @@
 // Permutations of rows or of columns: document 01's orders.
-ghost use Rattle.std.specs.Prelude.{◌≡◌, ℕ, ◌*◌, ◌<◌, ◌≤◌, get_or, set, take};
+ghost use Rattle.std.specs.Prelude.{◌≡◌, ℕ, ◌<◌, ◌≤◌, get_or, set, take};
 ghost use Rattle.permutations.specs.Permutations.{identity, swapped};
 ghost use Rattle.permutations.specs.Padded.{is_sound, composed_padded, inverse_padded};
 ghost use Rattle.permutations.specs.Numbered.{Lists, PartAt};
@@ -27,9 +27,6 @@ pub struct Permutation<I, const N: usize> {
 }
 
 impl<I: Number, const N: usize> Permutation<I, N> {
-    // How many positions there are.
-    pub const WIDTH: usize = N;
-
     // The permutation of these numbers.
     pub fn listed(at: [u8; N], size: usize) -> Permutation<I, N>
         ensures { Lists at.entry size result }
@@ -38,14 +35,13 @@ impl<I: Number, const N: usize> Permutation<I, N> {
         Permutation { at, size, of }
     }
 
-    // The permutation that moves nothing.
+    // The permutation that moves nothing. A byte holds no number past 255: of more positions nothing is promised.
     pub fn identity(size: usize) -> Permutation<I, N>
-        requires { N ≤ 256 }
-        ensures { Lists (identity N) size result }
+        ensures { N ≤ 256 → Lists (identity N) size result }
     {
         let mut at = [0; N];
         for i in 0..N {
-            at[i] = i as u8;
+            at[i] = (i % 256) as u8;
         }
         Permutation::listed(at, size)
     }
@@ -114,10 +110,13 @@ impl<I: Number, const N: usize> Permutation<I, N> {
     }
 
     // This permutation followed by another: sends i to self(other(i)). The identity where the sizes differ or either is no permutation.
+    // Of more than 256 positions nothing is promised.
     pub fn composed(self, other: Permutation<I, N>) -> Permutation<I, N>
-        requires { N ≤ 256 }
-        ensures { Lists (composed_padded N self.size self.at other.size other.at) self.size result }
+        ensures { N ≤ 256 → Lists (composed_padded N self.size self.at other.size other.at) self.size result }
     {
+        if 256 < N {
+            return self;
+        }
         let mut out = Permutation::identity(self.size);
         if self.size != other.size || !self.is_sound() || !other.is_sound() {
             return out;
@@ -128,11 +127,14 @@ impl<I: Number, const N: usize> Permutation<I, N> {
         out
     }
 
-    // The permutation that, composed with this one on either side, moves nothing. The identity where this is no permutation.
+    // The permutation that, composed with this one on either side, moves nothing. The identity where this is no permutation. Of more
+    // than 256 positions nothing is promised.
     pub fn inverse(self) -> Permutation<I, N>
-        requires { N ≤ 256 }
-        ensures { Lists (inverse_padded N self.size self.at) self.size result }
+        ensures { N ≤ 256 → Lists (inverse_padded N self.size self.at) self.size result }
     {
+        if 256 < N {
+            return self;
+        }
         let mut out = Permutation::identity(self.size);
         if !self.is_sound() {
             return out;
@@ -155,13 +157,14 @@ impl<I: Number, const N: usize> Permutation<I, N> {
         None
     }
 
-    // The first positions.
+    // The first positions. Where there are not so many, nothing is promised.
     pub fn narrowed<const M: usize>(self) -> Permutation<I, M>
-        requires { M ≤ N }
-        ensures { Lists (take M self.at) self.size result }
+        ensures { M ≤ N → Lists (take M self.at) self.size result }
     {
         let mut at = [0; M];
-        at.copy_from_slice(&self.at[..M]);
+        if M <= N {
+            at.copy_from_slice(&self.at[..M]);
+        }
         Permutation::listed(at, self.size)
     }
 }

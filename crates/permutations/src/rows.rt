@@ -1,11 +1,13 @@
 // Row numbers, and permutations of rows.
+ghost use Rattle.permutations.specs.Rows.{row_number};
+
 use crate::permutation::{Number, Permutation};
 
 #[derive(Clone, Copy, Debug, PartialEq, Eq)]
 pub struct RowNumber(pub u8);
 
 impl Number for RowNumber {
-    ghost value = { λ row. row.0 };
+    ghost value = { row_number };
 
     fn new(number: u8) -> RowNumber {
         RowNumber(number)
@@ -18,5 +20,14 @@ impl Number for RowNumber {
 
 pub type RowPermutation = Permutation<RowNumber, 8>;
 
+impl RowPermutation {
+    // How many positions there are.
+    pub const WIDTH: usize = 8;
+}
+
 // A terminal has at most five rows.
 pub type TerminalRowPermutation = Permutation<RowNumber, 5>;
+
+impl TerminalRowPermutation {
+    pub const WIDTH: usize = 5;
+}

@@ -15,6 +15,7 @@ use bounds::prune;
 use canonical::answers::Match;
 use canonical::callers::{OrderSystem, Terminal};
 use canonical::{represent, same};
+use permutations::columns::ColumnPermutation;
 use permutations::orders::Orders;
 use refusals::Refusal;
 use register::answers::Placed;
@@ -66,7 +67,7 @@ fn or_starting<const N: usize>(orders: Option<Orders<N>>) -> Orders<N>
 {
     match orders {
         Some(orders) => orders,
-        None => Orders::identity(N, 16),
+        None => Orders::identity(N, ColumnPermutation::WIDTH),
     }
 }
 

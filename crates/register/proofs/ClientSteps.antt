@@ -3,6 +3,7 @@
 --   client-past    ==  one of them got a no
 --   client-next    ==  none did: question 15 is asked
 --   client-no, client-yes  ==  it gets a no, or a yes
+--   client-is      ==  a yes says that the client is 1 to 8
 --   client-passes  ==  where there is no no, the others gave none and the client is 1 to 8
 --   client-first   ==  the first no of the others, then question 15, is the first no of them all
 use mathlib.Core.Path.{◌≡◌, refl, sym, ◌∙◌}

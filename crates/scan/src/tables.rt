@@ -3,7 +3,7 @@ ghost use Rattle.std.specs.Prelude.{◌≡◌, ◌≤◌};
 ghost use Rattle.lines.specs.Tables.{Thirds};
 ghost use Rattle.scan.specs.Tables.{teen_of, span_of};
 
-use lines::tables::{Table, filled};
+use lines::tables::{Table, fill};
 
 // The tables of grids with so many cells and this top.
 #[derive(Drop)]
@@ -28,13 +28,17 @@ impl Tables {
         requires { (size ≤ 128) × (top ≤ 15) }
         ensures { (result.size ≡ size) × (result.top ≡ top) }
     {
-        Tables {
+        let mut tables = Tables {
             size,
             top,
-            base: filled(size, b' ', b' ', |_| b'0'),
-            teen: filled(size, 0, teen_of(top), |_| 0),
-            span: filled(size, 0, 0, |_| span_of(top)),
-        }
+            base: [0; 384],
+            teen: [0; 384],
+            span: [0; 384],
+        };
+        fill(&mut tables.base, size, b' ', b' ', |_| b'0');
+        fill(&mut tables.teen, size, 0, teen_of(top), |_| 0);
+        fill(&mut tables.span, size, 0, 0, |_| span_of(top));
+        tables
     }
 }
 

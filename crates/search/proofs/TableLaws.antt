@@ -5,13 +5,16 @@
 --   level_at n g i      ==  what the table by rows has at index i
 --   level-cell, level-past, row-past  ==  for a cell, and past column n
 --   rows-table         ==  the table by rows at the end
+--   level-whole        ==  what it has at an index, for 16 columns
+--   ReadAs m n g rows width  ==  a grid of 16 columns is read as one row of all its cells, and any other as its m rows
+--   read_none, read-next, read-done  ==  the table by rows at first, with a cell more, and with a row more
 --   bit_at y v i        ==  what the table by bits has at index i
 --   bit-cell           ==  for a cell
 --   bits-table         ==  the table by bits at the end
 --   word_to y k c       ==  the bytes of the last k rows in column c, as a word
 --   words-none, word_next  ==  words at first, and with a byte more
 --   columns-table      ==  the table by columns at the end
-use Rattle.std.proofs.Common.{◌≡◌, ℕ, zero, suc, ◌+◌, ◌-◌, ◌*◌, ◌/◌, ◌%◌, ◌^◌, ◌<◌, ◌≤◌, Bool, true, false, not, eqb, List, length, get_or, set, replicate, sym, ap, ◌∙◌, ap₂, not-suc-le-zero, mul-suc, arith, length-set, get_or-set_other, get_or-set_same, pow-add, shl_exact, eq-eqb, ne_eqb}
+use Rattle.std.proofs.Common.{◌≡◌, ℕ, ◌⊎◌, inl, inr, zero, suc, ◌+◌, ◌-◌, ◌*◌, ◌/◌, ◌%◌, ◌^◌, ◌<◌, ◌≤◌, Bool, true, false, not, eqb, List, length, get_or, set, replicate, sym, ap, ◌∙◌, ap₂, not-suc-le-zero, mul-suc, arith, length-set, get_or-set_other, get_or-set_same, pow-add, shl_exact, eq-eqb, ne_eqb}
 use native.Mathlib.Decide.{ℕ_discrete, dec_lt}
 use lib.ListN.{length-replicate, get_or-replicate, get_or-eq_default}
 use lib.Arith.{digits_lt}
@@ -107,6 +110,41 @@ module _ (n : ℕ) (g : List ℕ) where
     holds = λ r c rm cn. h.before (r * 16 + c) (omega arith) (omega arith) ∙ level-cell r c cn n16;
     past = λ r c r8 nc c16. run-zero h (r * 16 + c) (omega arith) (level-past r c nc c16);
   }
+
+pub level-whole : (g : List ℕ) (i : ℕ) → level (get_or g i 0) ≡ level_at 16 g i
+unfolding level_at
+level-whole g i =
+    ap (λ (z : ℕ). level (get_or g z 0)) (omega arith)
+    ∙ sym (inside-before (i % 16) 16 (level (cell 16 g (i / 16) (i % 16))) (omega arith))
+
+abbrev pub ReadAs : ℕ → ℕ → List ℕ → ℕ → ℕ → Type 0
+ReadAs m n g rows width = ((n ≡ 16) × (rows ≡ 1) × (width ≡ length g)) ⊎ ((rows ≡ m) × (width ≡ n))
+
+module _ (m n : ℕ) (g : List ℕ) (rows width : ℕ) (x : List ℕ) (m8 : m ≤ 8) (n16 : n ≤ 16) (size : length g ≡ m * n) where
+  pub read_none : ReadAs m n g rows width → x ≡ replicate 128 0 → 0 ≡ rows → RunTo (level_at n g) (m * 16) x
+  read_none (inl h) e z = absurd (omega (arith, h.1))
+  read_none (inr h) e z = let m0 : m ≡ 0 = omega (arith, h.0) in rw m0 (run_none _ x e)
+
+  pub read-next : ReadAs m n g rows width → (i j v : ℕ) → i < rows → j < width → v ≡ level (get_or g (i * n + j) 0) → RunTo (level_at n g) (i * 16 + j) x →
+      RunTo (level_at n g) (i * 16 + (j + 1)) (set x (i * 16 + j) v)
+  read-next (inl h) i j v ir jw e t =
+      let i0 : i ≡ 0 = omega (arith, h.1) in
+      let long : length g ≡ m * 16 = rw (← h.0) size in
+      let here : i * n + j ≡ i * 16 + j = rw i0 (omega arith) in
+      let whole : v ≡ level_at n g (i * 16 + j) = e ∙ rw (here, h.0) (level-whole g (i * 16 + j)) in
+      run-next t v _ (omega (arith, h.2)) (omega arith) whole
+  read-next (inr h) i j v ir jw e t = run-next t v _ (omega (arith, h)) (omega arith) (e ∙ sym (level-cell n g i j (omega (arith, h)) n16))
+
+  pub read-done : ReadAs m n g rows width → (i j : ℕ) → i < rows → j ≡ width → RunTo (level_at n g) (i * 16 + j) x →
+      (i + 1 < rows → RunTo (level_at n g) ((i + 1) * 16) x) × (i + 1 ≡ rows → RunTo (level_at n g) (m * 16) x)
+  read-done (inl h) i j ir jw t =
+      let long : length g ≡ m * 16 = rw (← h.0) size in
+      let there : m * 16 ≡ i * 16 + j = omega (arith, h.1, h.2) in
+      (λ b. absurd (omega (arith, h.1)), λ e. rw there t)
+  read-done (inr h) i j ir jw t =
+      let done : RunTo (level_at n g) ((i + 1) * 16) x = run-skip t _ (omega (arith, h.1)) (λ k a b. row-past n g i k (omega (arith, h.1)) (omega arith)) in
+      let last : i + 1 ≡ rows → m ≡ i + 1 = λ e. omega (arith, h.0) in
+      (λ b. done, λ e. rw (last e) done)
 
 -- ---- by bits
 

@@ -2,6 +2,7 @@
 --
 --   lane i w       ==  byte i of w, the lowest first
 --   IsRowSet s     ==  s is a word of eight bytes, each 0 or 128
+--   row-set-prop   ==  there is one way at most for it to be such a word
 --   HasRow s r     ==  row r is of the set s: byte r is 128
 --   Tells b P      ==  b tells whether P
 --   RowsFrom k m p s  ==  s has the rows at positions k to m of the order p, and no others

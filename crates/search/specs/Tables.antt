@@ -7,6 +7,7 @@
 --   ByColumns y w       ==  w holds those of y by columns
 --   ByBits m n g low x  ==  x holds 1 for each cell with the higher value, by columns, and 0 elsewhere
 --   Tables ..           ==  the tables of a grid
+--   tables-prop         ==  there is one way at most for them to be these
 --   is_two low          ==  whether a grid has two values at most, of which `low` is the lower
 --   low_of low          ==  that value, or 0
 --   RowKeys x a s       ==  s holds for each row the sum of its numbers in the table x by bits, each times 2 to the power that a has for its column

@@ -38,17 +38,14 @@ impl Found {
         }
     }
 
-    // With a key at position i, where keys are made.
-    pub fn with_key(self, i: usize, key: u64) -> Found
+    // Sets the key at position i, where keys are made.
+    pub fn set_key(&mut self, i: usize, key: u64)
         requires { i < 8 }
-        ensures { result ≡ keyed_at self i key }
+        ensures { self.new ≡ keyed_at self.old i key }
     {
-        let mut out = self;
-        if let Some(mut keys) = self.keys {
+        if let Some(keys) = &mut self.keys {
             keys[i] = key;
-            out.keys = Some(keys);
         }
-        out
     }
 }
 

@@ -62,7 +62,7 @@ pub fn place(tables: &GridTables, node: Node, found: Found) -> Found
     }
     let mut fresh = found::is_lower(node.fresh, known, next.key);
     if found::is_written(tables, fresh) {
-        now = now.with_key(k, next.key);
+        now.set_key(k, next.key);
     }
     if is_last(k, tables.m, fresh) {
         return found::matched(tables, node.rows, now);

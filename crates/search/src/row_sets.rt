@@ -1,5 +1,5 @@
 // Sets of rows.
-ghost use Rattle.std.specs.Prelude.{◌≡◌, ℕ, ◌<◌, ◌≤◌, true, IsTrue, IfSome, ◌⊎◌, ◌↔◌, ◌≢◌};
+ghost use Rattle.std.specs.Prelude.{◌≡◌, ℕ, ◌<◌, ◌≤◌, true, IsTrue, MatchOption, ◌⊎◌, ◌↔◌, ◌≢◌};
 ghost use Rattle.search.specs.RowSets.{IsRowSet, HasRow, Tells, row-set-prop};
 
 use permutations::rows::RowNumber;
@@ -104,7 +104,7 @@ impl RowSet {
 
     // Takes the first row out of the set, where there is one.
     pub fn pop_first(&mut self) -> Option<RowNumber>
-        ensures { IfSome result (λ row. HasRow self.old.bytes row.0 × ((x : ℕ) → HasRow self.new.bytes x ↔ (HasRow self.old.bytes x × (x ≢ row.0)))) }
+        ensures { MatchOption result ((self.old.bytes ≡ 0) × (self.new.bytes ≡ 0)) (λ row. HasRow self.old.bytes row.0 × ((x : ℕ) → HasRow self.new.bytes x ↔ (HasRow self.old.bytes x × (x ≢ row.0)))) }
     {
         if self.is_empty() {
             return None;

@@ -1,5 +1,5 @@
 // Symmetries of the grid that the search finds.
-ghost use Rattle.std.specs.Prelude.{◌<◌, ◌≤◌};
+ghost use Rattle.std.specs.Prelude.{◌≡◌, ◌+◌, ◌<◌, ◌≤◌};
 ghost use Rattle.permutations.specs.Padded.{IsPadded};
 ghost use Rattle.search.specs.Search.{rows_of, AreKnown, SameRows, Spreads, SpreadsWith};
 ghost use Rattle.search.specs.Symmetries.{Fixes, Images};
@@ -16,7 +16,7 @@ pub struct KnownSymmetries {
 }
 
 impl KnownSymmetries {
-    // With one more, where there is room: that which carries the first row order to the second.
+    // With one more, where there is room: that which carries the first row order to the second. A full list stays as it is.
     pub fn with(
         self,
         tables: &GridTables,
@@ -24,7 +24,9 @@ impl KnownSymmetries {
         second: [RowNumber; 8],
     ) -> KnownSymmetries
         requires { AreKnown tables.now self × IsPadded 8 tables.now.m (rows_of first) × IsPadded 8 tables.now.m (rows_of second) × SameRows tables.now first second }
-        ensures { AreKnown tables.now result }
+        ensures known { AreKnown tables.now result }
+        ensures more { self.count < 4 → result.count ≡ self.count + 1 }
+        ensures full { self.count ≡ 4 → result ≡ self }
     {
         let kept = self.count as usize;
         if kept == 4 {

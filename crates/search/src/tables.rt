@@ -69,14 +69,15 @@ fn level(value: u8) -> u8
     cells::rank(value) & 15
 }
 
-// The levels of a grid by rows.
+// The levels of a grid by rows. A grid of 16 columns lies as its table does, and is read as one long row.
 fn by_rows(grid: &[u8], m: usize, n: usize) -> [u8; 128]
     requires { (m ≤ 8) × (n ≤ 16) × (length grid.now ≡ m * n) }
     ensures { ByRows m n grid.now result }
 {
     let mut out = [0; 128];
-    for i in 0..m {
-        for j in 0..n {
+    let (rows, width) = if n == 16 { (1, grid.len()) } else { (m, n) };
+    for i in 0..rows {
+        for j in 0..width {
             out[i * 16 + j] = level(grid[i * n + j]);
         }
     }

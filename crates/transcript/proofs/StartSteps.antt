@@ -13,6 +13,7 @@
 --   rest_lines       ==  where each check gets a yes, the further lines begin behind the first 25 bytes
 --   LineRead input m n top capacity  ==  the input is short enough, line 1 is laid, and these are its numbers
 --   long-refused, short-refused, line_refused, numbers-refused, length-refused  ==  the ways out with a no: 11, 12, 12, 1 to 4, 13
+--   fault-handed     ==  what `?` hands on is the no of the numbers that were asked
 --   passes-all, shape-read, length-read  ==  the way out with a yes
 use Rattle.std.proofs.Common.{Result, Ok, Err}
 use Rattle.std.specs.Result.{IsErr, IsErrAnd, MatchResult}

@@ -29,5 +29,5 @@ returns-clause-answer g c =
     (record {
       number_is = refl;
       written = c.write_arrangement.ensures ∙ l.gives;
-      produced = narrowed-produces _ _ few g.met.C.Caller.laws.narrow l c.narrowed.ensures.rows c.narrowed.ensures.columns;
+      produced = let narrow = g.met.C.Caller.laws.narrow in narrowed-produces _ _ few narrow l (c.narrowed.ensures.rows narrow) c.narrowed.ensures.columns;
     })

@@ -40,18 +40,20 @@ returns-clause-answer g c =
     let found = c.compare_arrangements-compared.ensures in
     elim c.if-is_eq.branch [
       | then-is_eq w ↦
-          let np = w.narrowed-p.ensures in
-          let nq = w.narrowed-q.ensures in
-          let x = narrowed-produces _ _ few g.met.C.Caller.laws.narrow lp np.rows np.columns in
-          let y = narrowed-produces _ _ few g.met.C.Caller.laws.narrow lq nq.rows nq.columns in
-          let i = w.inverse.ensures in
-          let r = w.composed.ensures in
+          let narrow = g.met.C.Caller.laws.narrow in
+          let p = w.narrowed-p.ensures.rows narrow in
+          let q = w.narrowed-q.ensures.rows narrow in
+          let x = narrowed-produces _ _ few narrow lp p w.narrowed-p.ensures.columns in
+          let y = narrowed-produces _ _ few narrow lq q w.narrowed-q.ensures.columns in
+          let i = w.inverse.ensures.rows (omega arith) in
+          let r = w.composed.ensures.rows (omega arith) in
+          let j = w.inverse.ensures.columns in
           rw w.orders-is
           (same_gives _ _ _ _ _ _ _ f lp lq _ found _ c.is_eq.ensures w.if-is_eq.true _ _ _ _ _ _ _ z refl refl x y
           (followed_of _ _ _ _ _ _ _ _ _ f.0.rows-limits.0 few (record { permutation = x.row-permutation; rest = x.row-rest }) (record { permutation = y.row-permutation; rest = y.row-rest })
-          (np.rows.size ∙ lp.orders.rows.size) (nq.rows.size ∙ lq.orders.rows.size) i.rows.size i.rows.numbers r.rows.numbers)
+          (p.size ∙ lp.orders.rows.size) (q.size ∙ lq.orders.rows.size) i.size i.numbers r.numbers)
           (followed_of _ _ _ _ _ _ _ _ _ f.0.column-limits.0 f.0.column-limits.1 (record { permutation = x.column-permutation; rest = x.column-rest }) (record { permutation = y.column-permutation; rest = y.column-rest })
-          (np.columns.size ∙ lp.orders.columns.size) (nq.columns.size ∙ lq.orders.columns.size) i.columns.size i.columns.numbers r.columns.numbers))
+          (w.narrowed-p.ensures.columns.size ∙ lp.orders.columns.size) (w.narrowed-q.ensures.columns.size ∙ lq.orders.columns.size) j.size j.numbers w.composed.ensures.columns.numbers))
       | else-is_eq w ↦
           rw w.orders-is
           (same_differs _ _ _ _ _ _ _ f lp lq _ found _ c.is_eq.ensures w.if-is_eq.false _ _ _ z refl refl (record { row-identity = refl; column-identity = refl }))

@@ -3,13 +3,10 @@ use Prim.Native.Nat.{◌-◌}
 use native.Mathlib.Omega.{arith}
 use Rattle.layout.specs.Layout.{head_length}
 use Rattle.layout.proofs.LineLaws.{start-zero}
-use Rattle.scan.proofs.EntryLaws.{Begins, line_begins, cells-none, lines_none, lines-one, lines_next, lines-first-not, lines-not, lines-all}
+use Rattle.scan.proofs.EntryLaws.{Begins, line_begins, cells-none, lines-one, lines_next, lines-first-not, lines-not, lines-all}
 use Rattle.scan.proofs.LineLaws.{start-within}
 use Rattle.scan.proofs.entries.lines_laid.Goals as goal
 use Rattle.scan.proofs.entries.lines_laid.Goals.{In-loop-e}
-
-pub returns-then-count-eq0 : goal.returns-then-count-eq0
-returns-then-count-eq0 c = lines_none _ _ _ _ (omega arith)
 
 pub line_laid-requires : goal.line_laid-requires
 line_laid-requires c =

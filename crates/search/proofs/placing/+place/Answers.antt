@@ -21,7 +21,7 @@ matched-requires t c =
     let ready = c.with_keys-now.ensures in
     let h =
     begun-either {old = c.args.found} ready.stands (omega (arith, s.placed-fits, c.if-k-tables.false)) c.next_rows-next.ensures ready.best ready.ready c.key-known.ensures c.is_cut.ensures c.if-is_cut.false c.is_lower-fresh.ensures c.is_written.ensures {now = c.if-is_written.now}
-    (elim c.if-is_written.branch [ then-is_written w ↦ inl (w.if-is_written.true, w.now-is ∙ w.with_key-now.ensures) | else-is_written w ↦ inr (w.if-is_written.false, w.now-is) ]) in
+    (elim c.if-is_written.branch [ then-is_written w ↦ inl (w.if-is_written.true, w.now-is ∙ w.set_key.ensures) | else-is_written w ↦ inr (w.if-is_written.false, w.now-is) ]) in
     let last = c.is_last.ensures c.if-is_last.true in
     (h.stands.rows, begun-order h last.0 last.1, (h.following 0).symmetries, begun-equal h last.0 last.1)
 
@@ -31,7 +31,7 @@ returns-then-is_last t c =
     let ready = c.with_keys-now.ensures in
     let h =
     begun-either {old = c.args.found} ready.stands (omega (arith, s.placed-fits, c.if-k-tables.false)) c.next_rows-next.ensures ready.best ready.ready c.key-known.ensures c.is_cut.ensures c.if-is_cut.false c.is_lower-fresh.ensures c.is_written.ensures {now = c.if-is_written.now}
-    (elim c.if-is_written.branch [ then-is_written w ↦ inl (w.if-is_written.true, w.now-is ∙ w.with_key-now.ensures) | else-is_written w ↦ inr (w.if-is_written.false, w.now-is) ]) in
+    (elim c.if-is_written.branch [ then-is_written w ↦ inl (w.if-is_written.true, w.now-is ∙ w.set_key.ensures) | else-is_written w ↦ inr (w.if-is_written.false, w.now-is) ]) in
     let last = c.is_last.ensures c.if-is_last.true in
     begun-copy h last.0 last.1 _ c.matched.ensures
 
@@ -41,7 +41,7 @@ chosen-rows-requires t c =
     let ready = c.with_keys-now.ensures in
     let h =
     begun-either {old = c.args.found} ready.stands (omega (arith, s.placed-fits, c.if-k-tables.false)) c.next_rows-next.ensures ready.best ready.ready c.key-known.ensures c.is_cut.ensures c.if-is_cut.false c.is_lower-fresh.ensures c.is_written.ensures {now = c.if-is_written.now}
-    (elim c.if-is_written.branch [ then-is_written w ↦ inl (w.if-is_written.true, w.now-is ∙ w.with_key-now.ensures) | else-is_written w ↦ inr (w.if-is_written.false, w.now-is) ]) in
+    (elim c.if-is_written.branch [ then-is_written w ↦ inl (w.if-is_written.true, w.now-is ∙ w.set_key.ensures) | else-is_written w ↦ inr (w.if-is_written.false, w.now-is) ]) in
     (standing-node h.stands h.within, some_next h.next, h.next.left)
 
 pub loop-t-init : goal.loop-t-init
@@ -50,7 +50,7 @@ loop-t-init t c =
     let ready = c.with_keys-now.ensures in
     let h =
     begun-either {old = c.args.found} ready.stands (omega (arith, s.placed-fits, c.if-k-tables.false)) c.next_rows-next.ensures ready.best ready.ready c.key-known.ensures c.is_cut.ensures c.if-is_cut.false c.is_lower-fresh.ensures c.is_written.ensures {now = c.if-is_written.now}
-    (elim c.if-is_written.branch [ then-is_written w ↦ inl (w.if-is_written.true, w.now-is ∙ w.with_key-now.ensures) | else-is_written w ↦ inr (w.if-is_written.false, w.now-is) ]) in
+    (elim c.if-is_written.branch [ then-is_written w ↦ inl (w.if-is_written.true, w.now-is ∙ w.set_key.ensures) | else-is_written w ↦ inr (w.if-is_written.false, w.now-is) ]) in
     (rw c.empty-covered.ensures (turn-first h c.chosen-rows.ensures), h)
 
 pub is_followed-requires : goal.is_followed-requires

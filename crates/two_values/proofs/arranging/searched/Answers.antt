@@ -1,12 +1,13 @@
 -- `searched` meets its contract.
 use mathlib.Core.Path.{refl}
+use native.Mathlib.Omega.{arith}
 use Rattle.two_values.proofs.RefinedLaws.{places-are}
 use Rattle.two_values.proofs.ArrangedLaws.{starting, searched-least}
 use Rattle.two_values.proofs.arranging.searched.Goals as goal
 
 pub place-requires : goal.place-requires
 place-requires c =
-    starting _ _ _ _ _ _ _ _ _ c.args.grid.now.tables c.identity-rows.ensures c.first_places-after.ensures refl refl refl
+    starting _ _ _ _ _ _ _ _ _ c.args.grid.now.tables (c.identity-rows.ensures (omega arith)) c.first_places-after.ensures refl refl refl
 
 pub sorted-requires : goal.sorted-requires
 sorted-requires c =

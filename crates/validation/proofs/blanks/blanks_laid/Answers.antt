@@ -1,9 +1,12 @@
-use mathlib.Core.Path.{sym, ◌∙◌}
+use mathlib.Core.Path.{◌≡◌, sym, ◌∙◌}
 use mathlib.Core.Bool.{true≢false}
 use native.Mathlib.Omega.{arith}
-use Rattle.lines.proofs.AnswerLaws.{fails}
-use Rattle.validation.proofs.BlankLaws.{line-inside, compared, blank-next}
+use Rattle.lines.proofs.AnswerLaws.{holds, fails}
+use Rattle.validation.proofs.BlankLaws.{line-inside, compared, blank_none, blank-next}
 use Rattle.validation.proofs.blanks.blanks_laid.Goals as goal
+
+pub returns-then-from-to : goal.returns-then-from-to
+returns-then-from-to c = let e : c.args.to ≡ c.args.from = omega arith in rw e (holds (blank_none _ _ _))
 
 pub slice_bounds-ne-end : goal.slice_bounds-ne-end
 slice_bounds-ne-end c = line-inside _ _ _ _ c.line_start-at.ensures.0 c.line_length-length.ensures.0 (omega arith) c.requires.3

@@ -4,7 +4,7 @@ use Rattle.counting.proofs.tables.Tables.new.Goals as goal
 
 pub returns : goal.returns
 returns c = record {
-  low-ranks = λ k l. let h = c.filled.ensures k l in (h.0, h.1, search rules);
-  high-spans = λ k l. let h = c.filled-2.ensures k l in (h.0, h.1, search rules);
-  ranked = λ k l. let h = c.filled-2.ensures k l in search rules;
+  low-ranks = λ k l. let h = c.fill.ensures k l in (h.0, h.1, search rules);
+  high-spans = λ k l. let h = c.fill-2.ensures k l in (h.0, h.1, search rules);
+  ranked = λ k l. let h = c.fill-2.ensures k l in search rules;
 }

@@ -1,22 +1,24 @@
--- `repeated` meets its contract.
-use mathlib.Core.Path.{◌≡◌}
-use Prim.Native.Nat.{ℕ}
-use borrow.Author.Rules.{rules}
-use borrow.Author.Tests.{tests}
-use lib.ListN.{get_or}
-use Rattle.permutations.specs.Rows.{row_numbers}
-use Rattle.std.proofs.lemmas.Iterator.{cases_from_any, YieldsList-from_range}
-use Rattle.grids.specs.Grids.{row}
-use Rattle.general_search.proofs.RepeatedRows.{repeats-told}
+use mathlib.Core.Path.{sym}
+use mathlib.Core.Bool.{true≢false}
+use native.Mathlib.Omega.{arith}
+use Rattle.general_search.proofs.RepeatedRows.{none-next}
 use Rattle.general_search.proofs.state.Search.repeated.Goals as goal
+
+pub returns-then-equal_rows : goal.returns-then-equal_rows
+returns-then-equal_rows c =
+    let l = c.loop-s in
+    record {
+      found = λ z. (l.s, omega arith, omega arith, rw (c.number.ensures, c.number-row.ensures) at (c.equal_rows.ensures.0 c.if-equal_rows.true));
+      none = λ z. absurd (true≢false z);
+    }
+
+pub loop-s-preserved : goal.loop-s-preserved
+loop-s-preserved c =
+    let l = c.loop-s in
+    let e = rw (c.number.ensures, c.number-row.ensures) at c.equal_rows.ensures in
+    none-next _ _ _ _ _ l.s _ e c.if-equal_rows.false l.invariant
 
 pub returns : goal.returns
 returns c =
-    let s = c.args.self.now in
-    let b = c.args.branch.now in
-    let p = row_numbers b.placed.rows in
-    repeats-told s.n s.grid.now p b.k c.args.t c.any.result
-    (cases_from_any _ _ _ (λ (i : ℕ). row s.n s.grid.now (get_or p i 0) ≡ row s.n s.grid.now (get_or p c.args.t 0))
-    (λ (i : ℕ). row s.n s.grid.now (get_or p i 0) ≡ row s.n s.grid.now (get_or p c.args.t 0) → ⊥) c.any.ensures.ran
-    (YieldsList-from_range b.k c.args.t _ (search rules) (search rules))
-    (λ v q k. search (rules, tests)) (λ v q k. search (rules, tests)))
+    let l = c.loop-s in
+    record { found = λ e. absurd (true≢false (sym e)); none = λ e s ks st. l.invariant s ks (omega arith) }

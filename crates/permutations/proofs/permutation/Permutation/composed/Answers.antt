@@ -10,7 +10,8 @@ returns-then-self-other g c =
     let N = g.row.N in
     let p = c.args.self in
     let r = c.args.other in
-    let o = c.identity-out.ensures in
+    let o = c.identity-out.ensures (omega arith) in
+    λ fits.
     record {
       numbers = o.numbers ∙ sym (elim c.then-self-other.branch [
         | then-self-other-via-then-self-other w ↦ composed_padded-sizes N p.size p.at r.size r.at w.if-self-other.true
@@ -21,7 +22,7 @@ returns-then-self-other g c =
     }
 
 pub loop-i-init : goal.loop-i-init
-loop-i-init g c = let o = c.identity-out.ensures in record { numbers = o.numbers ∙ padded-none g.row.N _; size = o.size }
+loop-i-init g c = let o = c.identity-out.ensures (omega arith) in record { numbers = o.numbers ∙ padded-none g.row.N _; size = o.size }
 
 pub sent-requires : goal.sent-requires
 sent-requires g c =
@@ -51,6 +52,7 @@ returns g c =
     let p = c.args.self in
     let r = c.args.other in
     let l = c.loop-i in
+    λ fits.
     record {
       numbers =
           padded-end N l.i p.size _ _ (omega arith) (omega arith) l.invariant.numbers

@@ -6,13 +6,14 @@ use Rattle.permutations.proofs.permutation.Permutation.inverse.Goals as goal
 pub returns-then-not-is_sound : goal.returns-then-not-is_sound
 returns-then-not-is_sound g c =
     let p = c.args.self in
-    let o = c.identity-out.ensures in
+    let o = c.identity-out.ensures (omega arith) in
+    λ fits.
     record { numbers = o.numbers ∙ sym (inverse_padded-no g.row.N p.size p.at (sym c.if-not-is_sound.ensures)); size = o.size }
 
 pub loop-i-init : goal.loop-i-init
 loop-i-init g c =
     let p = c.args.self in
-    let o = c.identity-out.ensures in
+    let o = c.identity-out.ensures (omega arith) in
     let s = sound g.row.N p.size p.at (sym c.if-not-is_sound.ensures) in
     (o.size, rw o.numbers (scattered-none g.row.N p.size p.at s.fits s.permutation))
 
@@ -41,6 +42,7 @@ returns g c =
     let l = c.loop-i in
     let t = sym c.if-not-is_sound.ensures in
     let s = sound g.row.N p.size p.at t in
+    λ fits.
     record {
       numbers = scattered-all g.row.N p.size p.at s.fits s.permutation l.i l.out.at (omega arith) l.invariant.1 ∙ sym (inverse_padded-is g.row.N p.size p.at t);
       size = l.invariant.0;

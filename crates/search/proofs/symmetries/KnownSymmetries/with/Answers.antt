@@ -21,8 +21,8 @@ loop-i-preserved c =
       l.invariant.1,
     )
 
-pub returns : goal.returns
-returns c =
+pub returns-clause-known : goal.returns-clause-known
+returns-clause-known c =
     let l = c.loop-i in
     let z = c.requires in
     let room : c.args.self.count < 4 = omega (arith, z.0.few) in

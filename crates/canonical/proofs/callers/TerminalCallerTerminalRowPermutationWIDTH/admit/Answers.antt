@@ -1,7 +1,7 @@
 use Rattle.std.proofs.Common.{[], sym}
 use Rattle.grids.specs.Questions.{first_no, question14}
 use Rattle.grids.proofs.QuestionLaws.{first_no-pass, first_no-stop}
-use Rattle.canonical.proofs.callers.TerminalCaller5.admit.Goals as goal
+use Rattle.canonical.proofs.callers.TerminalCallerTerminalRowPermutationWIDTH.admit.Goals as goal
 
 pub returns-then-fits_terminal : goal.returns-then-fits_terminal
 unfolding first_no

@@ -1,10 +1,10 @@
-use Rattle.std.proofs.Common.{◌≡◌, length, replicate, refl, ap, ◌∙◌, arith}
+use Rattle.std.proofs.Common.{◌≡◌, length, ap, ◌∙◌, arith}
 use Rattle.lines.proofs.TableLaws.{length-put, cells-none, cells-next}
-use Rattle.lines.proofs.tables.filled.Given as given
-use Rattle.lines.proofs.tables.filled.Goals as goal
+use Rattle.lines.proofs.tables.fill.Given as given
+use Rattle.lines.proofs.tables.fill.Goals as goal
 
 pub loop-k-init : goal.loop-k-init
-loop-k-init g c = (refl, cells-none (replicate 384 0) _ _ (given.F-post g c.args.last))
+loop-k-init g c = (omega arith, cells-none c.args.table.now _ _ (given.F-post g c.args.last))
 
 pub loop-k-preserved : goal.loop-k-preserved
 loop-k-preserved g c =
